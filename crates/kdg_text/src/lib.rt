@@ -1,10 +1,18 @@
 //! Bytes, lists of numbers and lines: what every reader and printer stands on.
 #![tactic(auto)]
 
+mod fault;
+mod lines;
 mod no_room;
 mod num_list;
+mod number;
+#[cfg(test)]
+mod tests;
 mod text;
 
+pub use fault::{Fault, ReadFail};
+pub use lines::{Line, Lines};
 pub use no_room::NoRoom;
 pub use num_list::NumList;
+pub use number::{NumFault, digits_law, push_i64, push_u64, read_i64, read_u64};
 pub use text::Text;

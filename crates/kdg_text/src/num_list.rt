@@ -1,9 +1,8 @@
-ghost use Rattle.std.specs.Prelude.{◌≡◌, [], ◌∷◌, ◌++◌, OnOk, OnErr};
-
-use std::alloc::Global;
-use std::marker::Model;
+ghost use Rattle.std.specs.Prelude.{◌≡◌, [], ◌∷◌, ◌++◌, IfOk, OnOk, OnErr};
 
 use crate::NoRoom;
+use std::alloc::Global;
+use std::marker::Model;
 
 /// A list of numbers.
 #[derive(Drop)]
@@ -27,6 +26,29 @@ impl NumList {
         NumList {
             numbers: Vec::new(alloc),
         }
+    }
+
+    /// A list of the numbers of a vector, which takes no memory.
+    pub fn from_vec(numbers: Vec<u32>) -> NumList
+        ensures { result ≡ numbers.items }
+    {
+        NumList { numbers }
+    }
+
+    /// The vector of the numbers, which takes no memory.
+    pub fn into_vec(self) -> Vec<u32>
+        ensures { result.items ≡ self }
+    {
+        self.numbers
+    }
+
+    /// A list of the same numbers.
+    pub fn copy(&self) -> Result<NumList, NoRoom>
+        ensures { IfOk result (λ copy. copy ≡ self.now) }
+    {
+        Ok(NumList {
+            numbers: self.numbers.clone()?,
+        })
     }
 
     /// Adds a number at the end. After `NoRoom` the list is as it was.

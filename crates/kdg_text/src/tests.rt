@@ -1,0 +1,119 @@
+use crate::*;
+use std::alloc::Global;
+use std::test::Fail;
+
+#[test]
+fn words_are_read_as_numbers(rt: HostRuntime) {
+    for (word, want) in [
+        ("007", Ok(7)),
+        ("", Err(NumFault::Empty)),
+        ("1x", Err(NumFault::NotDigit)),
+        ("-1", Err(NumFault::NotDigit)),
+        ("99999999999999999999x", Err(NumFault::NotDigit)),
+        ("18446744073709551615", Ok(18446744073709551615)),
+        ("18446744073709551616", Err(NumFault::TooGreat)),
+        ("00000000000000000000000000000001", Ok(1)),
+    ] {
+        assert_eq!(rt; read_u64(word.as_bytes()), want, "{word}");
+    }
+}
+
+#[test]
+fn words_are_read_as_signed_numbers(rt: HostRuntime) {
+    for (word, want) in [
+        ("-12", Ok(-12)),
+        ("-0", Ok(0)),
+        ("007", Ok(7)),
+        ("", Err(NumFault::Empty)),
+        ("-", Err(NumFault::Empty)),
+        ("+1", Err(NumFault::NotDigit)),
+        ("--1", Err(NumFault::NotDigit)),
+        ("-9223372036854775808", Ok(-9223372036854775808)),
+        ("-9223372036854775809", Err(NumFault::TooGreat)),
+        ("9223372036854775807", Ok(9223372036854775807)),
+        ("9223372036854775808", Err(NumFault::TooGreat)),
+    ] {
+        assert_eq!(rt; read_i64(word.as_bytes()), want, "{word}");
+    }
+}
+
+#[test]
+fn numbers_and_pieces_are_appended(rt: HostRuntime) -> Result<(), Fail> {
+    let mut text = Text::new(rt.alloc());
+    push_u64(&mut text, 0)?;
+    push_i64(&mut text, -12)?;
+    text.push_all(b" x")?;
+    assert_eq!(rt; text.bytes(), b"0-12 x".as_slice());
+
+    let mut greatest = Text::new(rt.alloc());
+    push_u64(&mut greatest, u64::MAX)?;
+    greatest.push_byte(b' ')?;
+    push_i64(&mut greatest, i64::MIN)?;
+    assert_eq!(rt;
+        greatest.bytes(),
+        b"18446744073709551615 -9223372036854775808".as_slice()
+    );
+    assert_eq!(rt; greatest.len(), 41);
+    assert!(rt; !greatest.is_empty());
+
+    let copy = greatest.copy()?;
+    assert_eq!(rt; copy.bytes(), greatest.bytes());
+    let again = Text::from_vec(copy.into_vec());
+    assert_eq!(rt; again.bytes(), greatest.bytes());
+    Ok(())
+}
+
+#[test]
+fn numbers_are_listed(rt: HostRuntime) -> Result<(), Fail> {
+    let mut numbers = NumList::new(rt.alloc());
+    numbers.push(7)?;
+    numbers.push(7)?;
+    assert_eq!(rt; numbers.items(), [7, 7].as_slice());
+    let again = NumList::from_vec(numbers.copy()?.into_vec());
+    assert_eq!(rt; again.items(), numbers.items());
+    Ok(())
+}
+
+fn numbered_lines(alloc: Global, input: &[u8]) -> Result<Text, NoRoom> {
+    let mut seen = Text::new(alloc);
+    let mut lines = Lines::new(input);
+    while let Some(line) = lines.next_line() {
+        push_u64(&mut seen, line.number)?;
+        seen.push_byte(b':')?;
+        seen.push_all(line.bytes)?;
+        seen.push_byte(b'|')?;
+    }
+    push_u64(&mut seen, lines.number())?;
+    Ok(seen)
+}
+
+#[test]
+fn inputs_are_cut_into_lines(rt: HostRuntime) -> Result<(), Fail> {
+    for (input, want) in [
+        ("a\r\n\nb\r", "1:a|2:|3:b|4"),
+        ("", "1"),
+        ("\n", "1:|2"),
+        ("a\n", "1:a|2"),
+        ("a\n\r", "1:a|2:|3"),
+        ("\r\r\nb\rc", "1:\r|2:b\rc|3"),
+    ] {
+        let seen = numbered_lines(rt.alloc(), input.as_bytes())?;
+        assert_eq!(rt; seen.bytes(), want.as_bytes());
+    }
+    Ok(())
+}
+
+fn refusal_of_push(alloc: Global) -> Result<(), ReadFail> {
+    let mut numbers = Vec::new(alloc);
+    numbers.push(Text::new(alloc))?;
+    let mut text = Text::new(alloc);
+    text.push_byte(b'x')?;
+    let mut bytes = Vec::new(alloc);
+    bytes.extend_from_slice(b"x")?;
+    Ok(())
+}
+
+#[test]
+fn want_of_memory_is_handed_on(rt: HostRuntime) {
+    assert!(rt; refusal_of_push(rt.alloc()).is_ok());
+}
