@@ -1,0 +1,60 @@
+-- What follows from the order of keys.
+use Rattle.std.specs.Cmp.{nat_cmp_total, tied_itself}
+use Rattle.std.specs.Cmp.Lexicographic.{slice_cmp}
+use Rattle.std.specs.declared.cmp.Ordering.{Ordering}
+use Rattle.std.specs.declared.cmp.Ordering.TheVariants.{Less, Equal, Greater}
+use Rattle.std.specs.Ordering.{nat_cmp, ordering_then, ordering_reverse}
+use Rattle.std.proofs.Common.{◌≡◌, ◌≢◌, ℕ, ◌<◌, ◌≤◌, List, [], ◌∷◌, ◌++◌, refl, sym, ◌∙◌, ap, arith}
+use Rattle.std.proofs.lemmas.Bool.Decides.{nat_tests}
+use Rattle.std.proofs.lemmas.Map.Lookups.{exact_unsigned, exact_bytes, exact_pairs}
+use Rattle.task_order.specs.declared.key.Key.{Key}
+use Rattle.task_order.specs.Key.{key_cmp, key_cmp_total, IsExactOrder, ChildrenComeLater, ChildrenComeInTurn}
+
+nat_cmp-same : (n : ℕ) → nat_cmp n n ≡ Equal
+nat_cmp-same = tied_itself nat_cmp_total
+
+nat_cmp-below : (m n : ℕ) → m < n → nat_cmp m n ≡ Less
+nat_cmp-below m n below = grind (arith, nat_tests)
+
+-- keys that compare equal are the same
+pub key_cmp-exact : IsExactOrder
+key_cmp-exact a b equal =
+    ap (λ (p : ℕ × List ℕ). record { prio = p.0; path = p.1 }) (exact_pairs nat_cmp (slice_cmp nat_cmp) exact_unsigned exact_bytes (a.prio, a.path) (b.prio, b.path) equal)
+
+-- a key compares equal to itself
+pub key_cmp-same : (a : Key) → key_cmp a a ≡ Equal
+key_cmp-same = tied_itself key_cmp_total
+
+-- an earlier key is another key
+pub differ_from_earlier : (a b : Key) → key_cmp a b ≡ Less → a ≢ b
+differ_from_earlier a b earlier same =
+    let equal : key_cmp a b ≡ Equal = ap (key_cmp a) (sym same) ∙ key_cmp-same a in
+    let never : Less ≡ Equal = sym earlier ∙ equal in
+    cc
+
+-- the other way round
+pub key_cmp-turned : (a b : Key) → key_cmp a b ≡ Greater → key_cmp b a ≡ Less
+key_cmp-turned a b greater = key_cmp_total.antisymm b a ∙ ap ordering_reverse greater
+
+pub key_cmp-turned_back : (a b : Key) → key_cmp a b ≡ Less → key_cmp b a ≡ Greater
+key_cmp-turned_back a b earlier = key_cmp_total.antisymm b a ∙ ap ordering_reverse earlier
+
+-- a path comes before each that goes on from it
+slice_cmp-longer : (path : List ℕ) (number : ℕ) → slice_cmp nat_cmp path (path ++ number ∷ []) ≡ Less
+slice_cmp-longer [] number = refl
+slice_cmp-longer (n ∷ path) number =
+    ap (λ o. ordering_then o (slice_cmp nat_cmp path (path ++ number ∷ []))) (nat_cmp-same n) ∙ slice_cmp-longer path number
+
+slice_cmp-last : (path : List ℕ) (first second : ℕ) → first < second → slice_cmp nat_cmp (path ++ first ∷ []) (path ++ second ∷ []) ≡ Less
+slice_cmp-last [] first second below = ap (λ o. ordering_then o Equal) (nat_cmp-below first second below)
+slice_cmp-last (n ∷ path) first second below =
+    ap (λ o. ordering_then o (slice_cmp nat_cmp (path ++ first ∷ []) (path ++ second ∷ []))) (nat_cmp-same n) ∙ slice_cmp-last path first second below
+
+nat_cmp-then : (m n : ℕ) (o : Ordering) → m ≤ n → o ≡ Less → ordering_then (nat_cmp m n) o ≡ Less
+nat_cmp-then m n o up_to less = grind (arith, nat_tests)
+
+pub children_come_later : ChildrenComeLater
+children_come_later parent number prio up_to = nat_cmp-then parent.prio prio _ up_to (slice_cmp-longer parent.path number)
+
+pub children_come_in_turn : ChildrenComeInTurn
+children_come_in_turn parent first second prio below = nat_cmp-then prio prio _ (omega arith) (slice_cmp-last parent.path first second below)

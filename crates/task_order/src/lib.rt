@@ -1,0 +1,17 @@
+//! Tasks and the order in which they run: keys, paths of birth, and lists of tasks by key.
+#![tactic(auto)]
+
+mod key;
+mod path;
+mod start;
+mod task;
+mod task_list;
+
+pub use key::{Key, key_order};
+pub use path::Path;
+pub use start::{Start, StartList};
+pub use task::{Body, Task};
+pub use task_list::{TaskList, Tasks};
+
+#[cfg(test)]
+mod tests;
