@@ -1,0 +1,123 @@
+-- What a search finds in an ascending list, and what an access added at that place leaves.
+use Rattle.std.proofs.Common.{◌≡◌, ℕ, zero, suc, ◌-◌, ◌<◌, ◌≤◌, [], ◌∷◌, length, get_or, set, Some, None, Result, Ok, Err, IfOk, IfErr, refl, sym, ap, ◌∙◌, arith}
+use Rattle.std.specs.List.{insert}
+use Rattle.std.specs.List.Sorted.{IsSearchInRange, IsBinarySearchResult, IsNonDecreasingBy}
+use Rattle.std.specs.Ordering.{nat_cmp, ordering_index}
+use Rattle.std.proofs.lemmas.Cmp.{ranked}
+use Rattle.std.proofs.lemmas.List.{get_or_default}
+use Rattle.std.proofs.lemmas.List.Sorted.{IsNonDecreasingBy-from_default}
+use Rattle.std.proofs.lemmas.Bool.Decides.{nat_tests}
+use Rattle.rw_sets.specs.declared.access.Access.{Access}
+use Rattle.rw_sets.specs.declared.access.Access.TheVariants.{Read}
+use Rattle.rw_sets.specs.Accesses.{Accesses, AllBeyond, IsAscending, access_at, stronger, added}
+use Rattle.rw_sets.specs.Places.{location_at, IsAt, IsGapFor}
+use Rattle.rw_sets.proofs.Accesses.{access_first, access_other}
+use Rattle.rw_sets.proofs.Merged.{added_below, added_at, added_above}
+
+-- the access at place i
+abbrev access_in : Accesses → ℕ → Access
+access_in l i = let pair = get_or l i (0, Read) in pair.1
+
+location_beyond : (n : ℕ) (ps : Accesses) → AllBeyond n ps → (j : ℕ) → j < length ps → n < location_at ps j
+location_beyond n [] h j lt = absurd (omega arith)
+location_beyond n (p ∷ ps) h zero lt = h.0
+location_beyond n (p ∷ ps) h (suc j) lt = location_beyond n ps h.1 j (omega arith)
+
+-- the locations rise from place to place
+locations_rise : (l : Accesses) → IsAscending l → (i j : ℕ) → i ≤ j → j < length l → location_at l i ≤ location_at l j
+locations_rise [] up i j le lt = absurd (omega arith)
+locations_rise (p ∷ ps) up zero zero le lt = omega arith
+locations_rise (p ∷ ps) up zero (suc j) le lt = omega (arith, location_beyond p.0 ps up.0 j (omega arith))
+locations_rise (p ∷ ps) up (suc i) zero le lt = absurd (omega arith)
+locations_rise (p ∷ ps) up (suc i) (suc j) le lt = locations_rise ps up.1 i j (omega arith) (omega arith)
+
+-- what is last before a location leaves the gap for it at the end
+pub gap_at_end : (l : Accesses) (loc n : ℕ) → IsAscending l → n ≡ length l → (0 < n → location_at l (n - 1) < loc) → IsGapFor l loc n
+gap_at_end l loc n up e last = record {
+  in_range = omega arith;
+  lower_before = λ j lt. omega (arith, locations_rise l up j (n - 1) (omega arith) (omega arith), last (omega arith));
+  higher_after = λ j le lt. absurd (omega arith);
+}
+
+-- what a search for a location answers
+pub record IsFound (l : Accesses) (loc : ℕ) (r : Result ℕ ℕ) : Type 0 where
+  pub found : IfOk r (IsAt l loc)
+  pub absent : IfErr r (IsGapFor l loc)
+
+module _ (l : Accesses) (up : IsAscending l) (loc : ℕ) where
+  -- the comparisons with the location rise along the list, as a search by halving asks
+  comparisons_rise : IsNonDecreasingBy (λ pair. ordering_index (nat_cmp pair.0 loc)) l
+  comparisons_rise = IsNonDecreasingBy-from_default (λ pair. ordering_index (nat_cmp pair.0 loc)) l (0, Read) (λ i j le lt.
+      let rise = locations_rise l up i j le lt in
+      grind (arith, nat_tests))
+
+  pub searched : (r : Result ℕ ℕ) → IsSearchInRange r (length l) → IsBinarySearchResult (λ pair. nat_cmp pair.0 loc) l r → IsFound l loc r
+  searched (Ok at) in_range equal = record { found = record { in_range = in_range; here = ranked _ loc _ (sym (equal (0, Read))) }; absent = tt }
+  searched (Err at) in_range parted = record {
+    found = tt;
+    absent = record {
+      in_range = in_range;
+      lower_before = λ j lt. ranked _ loc _ (sym ((parted comparisons_rise).0 j (0, Read) (omega arith) lt));
+      higher_after = λ j le lt. ranked _ loc _ (sym ((parted comparisons_rise).1 j (0, Read) le lt));
+    };
+  }
+
+at_tail : (q : ℕ × Access) (l : Accesses) (loc i : ℕ) → IsAt (q ∷ l) loc (suc i) → IsAt l loc i
+at_tail q l loc i h = record { in_range = omega (arith, h.in_range); here = h.here }
+
+gap_tail : (q : ℕ × Access) (l : Accesses) (loc i : ℕ) → IsGapFor (q ∷ l) loc (suc i) → IsGapFor l loc i
+gap_tail q l loc i h = record {
+  in_range = omega (arith, h.in_range);
+  lower_before = λ j lt. h.lower_before (suc j) (omega arith);
+  higher_after = λ j le lt. h.higher_after (suc j) (omega arith) (omega arith);
+}
+
+-- the first location is below the one at a later place
+first_below : (q : ℕ × Access) (l : Accesses) (loc i : ℕ) → IsAscending (q ∷ l) → IsAt (q ∷ l) loc (suc i) → q.0 < loc
+first_below q l loc i up h = omega (arith, location_beyond q.0 l up.0 i (omega (arith, h.in_range)), h.here)
+
+-- the look-up finds what is at the place
+access_at_place : (l : Accesses) (loc i : ℕ) → IsAscending l → IsAt l loc i → access_at l loc ≡ Some (access_in l i)
+access_at_place [] loc i up h = absurd (omega (arith, h.in_range))
+access_at_place (q ∷ l) loc zero up h = access_first q l loc h.here
+access_at_place (q ∷ l) loc (suc i) up h =
+    let below = first_below q l loc i up h in
+    access_other q l loc (λ e. omega arith) ∙ access_at_place l loc i up.1 (at_tail q l loc i h)
+
+-- and nothing in a gap
+pub absent_in_gap : (l : Accesses) (loc i : ℕ) → IsGapFor l loc i → access_at l loc ≡ None
+absent_in_gap [] loc i h = refl
+absent_in_gap (q ∷ l) loc zero h =
+    let above : loc < q.0 = h.higher_after 0 (omega arith) (omega arith) in
+    access_other q l loc (λ e. omega arith) ∙ absent_in_gap l loc zero (record {
+      in_range = omega arith;
+      lower_before = λ j lt. absurd (omega arith);
+      higher_after = λ j le lt. h.higher_after (suc j) (omega arith) (omega arith);
+    })
+absent_in_gap (q ∷ l) loc (suc i) h =
+    let below : q.0 < loc = h.lower_before 0 (omega arith) in
+    access_other q l loc (λ e. omega arith) ∙ absent_in_gap l loc i (gap_tail q l loc i h)
+
+-- the pair at the place is written over
+added_at_place : (l : Accesses) (p : ℕ × Access) (i : ℕ) → IsAscending l → IsAt l p.0 i → added l p ≡ set l i (p.0, stronger (access_in l i) p.1)
+added_at_place [] p i up h = absurd (omega (arith, h.in_range))
+added_at_place (q ∷ l) p zero up h = added_at q p l (sym h.here) ∙ ap (λ n. (n, stronger q.1 p.1) ∷ l) h.here
+added_at_place (q ∷ l) p (suc i) up h = added_above q p l (first_below q l p.0 i up h) ∙ ap (λ r. q ∷ r) (added_at_place l p i up.1 (at_tail q l p.0 i h))
+
+-- or the pair is inserted in the gap
+pub added_in_gap : (l : Accesses) (p : ℕ × Access) (i : ℕ) → IsGapFor l p.0 i → added l p ≡ insert l i p
+added_in_gap [] p zero h = refl
+added_in_gap [] p (suc i) h = absurd (omega (arith, h.in_range))
+added_in_gap (q ∷ l) p zero h = added_below q p l (h.higher_after 0 (omega arith) (omega arith))
+added_in_gap (q ∷ l) p (suc i) h = added_above q p l (h.lower_before 0 (omega arith)) ∙ ap (λ r. q ∷ r) (added_in_gap l p i (gap_tail q l p.0 i h))
+
+-- the pair that is read at the place, as an index gives it
+module _ (l : Accesses) (loc i : ℕ) (p : ℕ × Access) (up : IsAscending l) (at : IsAt l loc i) (read : p ≡ get_or l i p) where
+  is_read : p.1 ≡ access_in l i
+  is_read = ap (λ (q : ℕ × Access). q.1) (read ∙ get_or_default l i p (0, Read) at.in_range)
+
+  pub access_read : access_at l loc ≡ Some p.1
+  access_read = access_at_place l loc i up at ∙ ap Some (sym is_read)
+
+  pub written_over : (x new : Access) → new ≡ stronger p.1 x → set l i (loc, new) ≡ added l (loc, x)
+  written_over x new e = ap (λ (y : Access). set l i (loc, y)) (e ∙ ap (λ y. stronger y x) is_read) ∙ sym (added_at_place l (loc, x) i up at)

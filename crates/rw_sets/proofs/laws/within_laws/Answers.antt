@@ -1,0 +1,11 @@
+use Rattle.rw_sets.proofs.Lookups.{within_is_antisymmetric, merges_hold_both, merges_are_least}
+use Rattle.rw_sets.proofs.laws.within_laws.Goals as goal
+
+pub returns-clause-antisymmetric : goal.returns-clause-antisymmetric
+returns-clause-antisymmetric c = within_is_antisymmetric
+
+pub returns-clause-merge_holds_both : goal.returns-clause-merge_holds_both
+returns-clause-merge_holds_both c = merges_hold_both
+
+pub returns-clause-merge_is_least : goal.returns-clause-merge_is_least
+returns-clause-merge_is_least c = merges_are_least

@@ -1,0 +1,89 @@
+-- A set of locations, each with the access to it, as a list of pairs.
+use Rattle.std.specs.Prelude.{ℕ, ◌<◌, Bool, true, false, List, [], ◌∷◌, Option, Some, None, IsTrue, nat_lt, ◌==◌, if◌then◌else◌}
+use Rattle.rw_sets.specs.declared.access.Access.{Access}
+use Rattle.rw_sets.specs.declared.access.Access.TheVariants.{Read, Write}
+
+-- a location, then the access to it
+abbrev pub Accesses : Type 0
+Accesses = List (ℕ × Access)
+
+-- every location of the list is beyond this one
+abbrev pub AllBeyond : ℕ → Accesses → Type 0
+AllBeyond loc [] = Unit {0}
+AllBeyond loc (p ∷ ps) = (loc < p.0) × AllBeyond loc ps
+
+-- the locations rise, so each is there once
+abbrev pub IsAscending : Accesses → Type 0
+IsAscending [] = Unit {0}
+IsAscending (p ∷ ps) = AllBeyond p.0 ps × IsAscending ps
+
+-- the access to a location, if the list has it
+abbrev pub access_at : Accesses → ℕ → Option Access
+access_at [] loc = None
+access_at (p ∷ ps) loc = if p.0 == loc then Some p.1 else access_at ps loc
+
+abbrev pub is_write : Access → Bool
+is_write Read = false
+is_write Write = true
+
+abbrev pub allows_write : Option Access → Bool
+allows_write None = false
+allows_write (Some x) = is_write x
+
+-- the list writes the location
+abbrev pub writes : Accesses → ℕ → Bool
+writes ps loc = allows_write (access_at ps loc)
+
+-- Write where either is Write
+abbrev pub stronger : Access → Access → Access
+stronger Read y = y
+stronger Write y = Write
+
+-- the access that two sets have together, from those that they have apart
+abbrev pub joined : Option Access → Option Access → Option Access
+joined None y = y
+joined (Some x) None = Some x
+joined (Some x) (Some y) = Some (stronger x y)
+
+-- both sets have an access, and at least one of them is Write
+abbrev pub excludes : Access → Access → Bool
+excludes Read Read = false
+excludes Read Write = true
+excludes Write y = true
+
+abbrev pub clash : Option Access → Option Access → Bool
+clash None y = false
+clash (Some x) None = false
+clash (Some x) (Some y) = excludes x y
+
+-- the sets share a location, and at least one of them writes it
+abbrev pub Conflicts : Accesses → Accesses → Type 0
+Conflicts a b = (loc : ℕ) × IsTrue (clash (access_at a loc) (access_at b loc))
+
+-- the second allows what the first does: Read is allowed by either, Write by Write
+abbrev pub allows : Access → Access → Bool
+allows Read y = true
+allows Write Read = false
+allows Write Write = true
+
+abbrev pub covers : Option Access → Option Access → Bool
+covers None y = true
+covers (Some x) None = false
+covers (Some x) (Some y) = allows x y
+
+-- each location of the first is in the second, and each that the first writes the second writes too
+abbrev pub IsWithin : Accesses → Accesses → Type 0
+IsWithin a b = (loc : ℕ) → IsTrue (covers (access_at a loc) (access_at b loc))
+
+-- the set with one access more
+abbrev pub added : Accesses → ℕ × Access → Accesses
+added [] p = p ∷ []
+added (q ∷ qs) p =
+    if nat_lt p.0 q.0 then p ∷ q ∷ qs
+    else if p.0 == q.0 then (q.0, stronger q.1 p.1) ∷ qs
+    else q ∷ added qs p
+
+-- the first set, with each access of the second added
+abbrev pub merged : Accesses → Accesses → Accesses
+merged a [] = a
+merged a (p ∷ ps) = merged (added a p) ps

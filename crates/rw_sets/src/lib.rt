@@ -1,0 +1,13 @@
+//! Sets of locations with the access to each, their conflicts and their merges.
+#![tactic(auto)]
+
+mod access;
+mod laws;
+mod rw_set;
+#[cfg(test)]
+mod tests;
+mod walk;
+
+pub use access::Access;
+pub use laws::{conflict_laws, merge_laws, within_laws};
+pub use rw_set::RwSet;

@@ -1,0 +1,117 @@
+ghost use Rattle.std.specs.Prelude.{◌≡◌, ◌↔◌, [], ◌∷◌, IsTrue, IfSome, IfNone, IfOk, IfErr, OnOk, OnErr};
+ghost use Rattle.rw_sets.specs.Accesses.{IsAscending, access_at, Conflicts, merged};
+ghost use Rattle.rw_sets.specs.Places.{IsAt, IsGapFor};
+
+use crate::Access;
+use crate::walk::{merge_pairs, pairs_conflict};
+use kdg_text::NoRoom;
+use std::alloc::Global;
+use std::marker::Model;
+
+/// Locations in ascending order, each once, with the access to it.
+#[derive(Debug, Drop)]
+pub struct RwSet {
+    pairs: Vec<(u32, Access)>,
+}
+
+impl Model for RwSet {
+    ghost use Rattle.rw_sets.specs.Accesses.{Accesses, IsAscending};
+
+    ghost Value = { Accesses };
+
+    ghost view = { λ s. s.pairs.items };
+
+    ghost invariant = { λ s. IsAscending s.pairs.items };
+}
+
+impl RwSet {
+    /// A set with no location, which takes no memory.
+    pub fn new(alloc: Global) -> RwSet
+        ensures { result ≡ [] }
+    {
+        RwSet {
+            pairs: Vec::new(alloc),
+        }
+    }
+
+    /// The locations with their access, in ascending order.
+    pub fn items(&self) -> &[(u32, Access)]
+        ensures all { result.now ≡ self.now }
+        ensures ascending { IsAscending self.now }
+    {
+        &self.pairs
+    }
+
+    /// Merges the access to one location into the set. After `NoRoom` the set is as it was.
+    pub fn add(&mut self, loc: u32, access: Access) -> Result<(), NoRoom>
+        ensures ok { OnOk result (self.new ≡ merged self.old ((loc, access) ∷ [])) }
+        ensures err { OnErr result (self.new ≡ self.old) }
+    {
+        match self.place_of(loc) {
+            Ok(at) => {
+                let held = self.pairs[at].1;
+                self.pairs[at] = (loc, held.stronger(access));
+                Ok(())
+            }
+            Err(at) => Ok(self.pairs.insert(at, (loc, access))?),
+        }
+    }
+
+    /// The access to a location, or `None` where the set lacks it.
+    pub fn contains(&self, loc: u32) -> Option<Access>
+        ensures { result ≡ access_at self.now loc }
+    {
+        match self.place_of(loc) {
+            Ok(at) => Some(self.pairs[at].1),
+            Err(_) => None,
+        }
+    }
+
+    /// The place of a location among the items, or `None` where the set lacks it.
+    pub fn position_of(&self, loc: u32) -> Option<usize>
+        ensures place { IfSome result (IsAt self.now loc) }
+        ensures absent { IfNone result (access_at self.now loc ≡ None) }
+    {
+        match self.place_of(loc) {
+            Ok(at) => Some(at),
+            Err(_) => None,
+        }
+    }
+
+    /// Whether the sets share a location that at least one of them writes.
+    pub fn conflicts(&self, other: &RwSet) -> bool
+        ensures { IsTrue result ↔ Conflicts self.now other.now }
+    {
+        pairs_conflict(self.items(), other.items())
+    }
+
+    /// The set with every location of both, written where either writes it.
+    pub fn merge(&self, other: &RwSet) -> Result<RwSet, NoRoom>
+        ensures { IfOk result (λ set. set ≡ merged self.now other.now) }
+    {
+        let alloc = *self.pairs.allocator();
+        let pairs = merge_pairs(alloc, self.items(), other.items())?;
+        Ok(RwSet { pairs })
+    }
+
+    /// An equal set.
+    pub fn copy(&self) -> Result<RwSet, NoRoom>
+        ensures { IfOk result (λ set. set ≡ self.now) }
+    {
+        let alloc = *self.pairs.allocator();
+        let pairs = Vec::from_slice(alloc, &self.pairs)?;
+        Ok(RwSet { pairs })
+    }
+
+    // Where the location is, or where it would go: at once at the end, else by halving.
+    fn place_of(&self, loc: u32) -> Result<usize, usize>
+        ensures found { IfOk result (IsAt self.now loc) }
+        ensures absent { IfErr result (IsGapFor self.now loc) }
+    {
+        let len = self.pairs.len();
+        if len == 0 || self.pairs[len - 1].0 < loc {
+            return Err(len);
+        }
+        self.pairs.binary_search_by_key(&loc, |pair| pair.0)
+    }
+}

@@ -1,0 +1,62 @@
+ghost use Rattle.std.specs.Prelude.{◌≡◌, ◌↔◌, IsTrue, IfOk};
+ghost use Rattle.rw_sets.specs.Accesses.{IsAscending, Conflicts, merged};
+
+use crate::Access;
+use kdg_text::NoRoom;
+use std::alloc::Global;
+use std::cmp::Ordering;
+
+// Whether two sets conflict, in one walk over both.
+pub(crate) fn pairs_conflict(a: &[(u32, Access)], b: &[(u32, Access)]) -> bool
+    requires a_ascends { IsAscending a.now }
+    requires b_ascends { IsAscending b.now }
+    ensures { IsTrue result ↔ Conflicts a.now b.now }
+{
+    let (mut left, mut right) = (a, b);
+    while let ([x, left_rest @ ..], [y, right_rest @ ..]) = (left, right) {
+        match x.0.cmp(&y.0) {
+            Ordering::Less => left = left_rest,
+            Ordering::Greater => right = right_rest,
+            Ordering::Equal if x.1.excludes(y.1) => return true,
+            Ordering::Equal => {
+                left = left_rest;
+                right = right_rest;
+            }
+        }
+    }
+    false
+}
+
+// The merge of two sets, in one walk over both.
+pub(crate) fn merge_pairs(
+    alloc: Global,
+    a: &[(u32, Access)],
+    b: &[(u32, Access)],
+) -> Result<Vec<(u32, Access)>, NoRoom>
+    requires a_ascends { IsAscending a.now }
+    requires b_ascends { IsAscending b.now }
+    ensures { IfOk result (λ pairs. pairs.items ≡ merged a.now b.now) }
+{
+    let (mut left, mut right) = (a, b);
+    let mut pairs = Vec::with_capacity(alloc, a.len().max(b.len()))?;
+    while let ([x, left_rest @ ..], [y, right_rest @ ..]) = (left, right) {
+        match x.0.cmp(&y.0) {
+            Ordering::Less => {
+                pairs.push(*x)?;
+                left = left_rest;
+            }
+            Ordering::Greater => {
+                pairs.push(*y)?;
+                right = right_rest;
+            }
+            Ordering::Equal => {
+                pairs.push((x.0, x.1.stronger(y.1)))?;
+                left = left_rest;
+                right = right_rest;
+            }
+        }
+    }
+    pairs.extend_from_slice(left)?;
+    pairs.extend_from_slice(right)?;
+    Ok(pairs)
+}
