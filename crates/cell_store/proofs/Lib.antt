@@ -1,0 +1,4 @@
+pub mod Locations
+pub mod Parts
+mod Exchanges
+mod Returns

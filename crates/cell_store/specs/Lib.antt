@@ -1,0 +1,5 @@
+pub mod Home
+pub mod Part
+pub mod Cells
+pub mod Lends
+pub mod Laws

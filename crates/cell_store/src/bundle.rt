@@ -1,0 +1,74 @@
+ghost use Rattle.std.specs.Prelude.{◌≡◌, IsTrue, IsSome};
+ghost use Rattle.std.specs.Borrow.{sem};
+ghost use Rattle.rw_sets.specs.Accesses.{access_at, writes};
+ghost use Rattle.cell_store.specs.declared.cell.Cell.TheVariants.{Home};
+ghost use Rattle.cell_store.specs.Cells.{cell_in, IsBundle};
+ghost use Rattle.cell_store.specs.Lends.{LendsValue};
+
+use crate::cell::Cell;
+use rw_sets::RwSet;
+use std::marker::Model;
+
+/// What a task holds of the cells: those that its set writes, and copies of those that it only reads.
+#[derive(Drop)]
+pub struct Bundle<V> {
+    pub(crate) set: RwSet,
+    pub(crate) cells: Vec<Cell<V>>,
+}
+
+impl<V> Model for Bundle<V> {
+    ghost use Rattle.cell_store.specs.Part.{Part};
+
+    ghost Value = { Part V };
+
+    ghost use Rattle.cell_store.specs.Cells.{IsBundle};
+
+    ghost view = { λ b. record { set = b.set; cells = b.cells.items } };
+
+    ghost invariant = { λ b. IsBundle (record { set = b.set; cells = b.cells.items }) };
+}
+
+impl<V> Bundle<V> {
+    /// The value at a location of the set.
+    pub fn get(&self, loc: u32) -> &V
+        requires { IsSome (access_at self.now.set loc) }
+        ensures value { cell_in self.now loc ≡ Home result.now }
+        ensures whole { IsBundle self.now }
+    {
+        match self.set.position_of(loc) {
+            Some(at) => self.cells[at].value(),
+            None => unreachable!(),
+        }
+    }
+
+    /// The value at a location that the set writes, to be changed.
+    pub fn get_mut(&mut self, loc: u32) -> &mut V
+        requires { IsTrue (writes self.old.set loc) }
+        ensures* writes_back { sem 𝓛 (LendsValue V.row self.entry loc result) }
+        ensures value { cell_in self.old loc ≡ Home result.now }
+    {
+        match self.set.position_of(loc) {
+            Some(at) => self.cells[at].value_mut(),
+            None => unreachable!(),
+        }
+    }
+}
+
+/// What is left of a bundle whose written values went home: its set, and the copies that it had.
+#[derive(Drop)]
+pub struct Shell<V> {
+    pub(crate) set: RwSet,
+    pub(crate) cells: Vec<Cell<V>>,
+}
+
+impl<V> Model for Shell<V> {
+    ghost use Rattle.cell_store.specs.Part.{Part};
+
+    ghost Value = { Part V };
+
+    ghost use Rattle.cell_store.specs.Cells.{IsShell};
+
+    ghost view = { λ s. record { set = s.set; cells = s.cells.items } };
+
+    ghost invariant = { λ s. IsShell (record { set = s.set; cells = s.cells.items }) };
+}

@@ -1,0 +1,17 @@
+//! A store of cells, of which a task takes those in its set and gives back those that it writes.
+#![tactic(auto)]
+
+mod bundle;
+mod cell;
+mod exchange;
+mod held;
+mod laws;
+mod store;
+#[cfg(test)]
+mod tests;
+
+pub use bundle::{Bundle, Shell};
+pub use cell::{Cell, Seen};
+pub use held::Held;
+pub use laws::{location_laws, return_laws};
+pub use store::Store;
