@@ -1,0 +1,150 @@
+-- Where a serial run stands after some steps.
+use Rattle.std.proofs.Common.{◌≡◌, ◌≢◌, ℕ, suc, ◌+◌, ◌-◌, ◌<◌, ◌≤◌, true, false, not, List, [], ◌∷◌, ◌++◌, length, Option, Some, None, refl, sym, ap, ◌∙◌, ⊎_elim, arith, add-one, append-nil}
+use Rattle.std.specs.Prelude.{MatchOption}
+use Rattle.std.specs.List.{list_any}
+use Rattle.std.specs.Option.{option_map}
+use Rattle.std.proofs.lemmas.Bool.{cases_lt, cases_order, true≢false}
+use Rattle.std.proofs.lemmas.List.Concat.{flat_map-append}
+use Rattle.task_order.specs.declared.key.Key.{Key}
+use Rattle.task_order.specs.declared.start.Start.{Start}
+use Rattle.task_order.specs.declared.task.Task.{Task}
+use Rattle.task_order.specs.Key.{end, is_before}
+use Rattle.task_order.specs.TaskList.{put_all}
+use Rattle.task_order.proofs.TaskLists.{length-put_all}
+use Rattle.app_laws.specs.Execution.{Operator, Execution, children_from, first_from, start_of, acts, after_steps, is_clear_before, steps_until, run_to_end, created_by, created_after, joined}
+use Rattle.app_laws.specs.Laws.{IsFirstClear}
+use Rattle.app_laws.specs.Serial.{IsOverBudget}
+use Rattle.app_laws.proofs.Apart.{length-first_from}
+use Rattle.app_laws.proofs.Steps.{after_none, after_one_more, stops_when_clear, none_before_end, created_by_task, logs_while_pending, created_never_falls, ends_within_limit}
+
+-- the execution after count steps, each of which had a task to run
+pub record IsReached {V : Type 0} (act : Operator V) (budget : ℕ) (start : Execution V) (cells : List V) (pending : List Task) (text : List ℕ) (count created : ℕ) : Type 0 where
+  pub cells-are : cells ≡ (after_steps act count start).cells
+  pub pending-are : pending ≡ (after_steps act count start).pending
+  pub text-is : text ≡ joined (after_steps act count start).log
+  pub created-are : created ≡ created_after act count start
+  pub within : created ≤ budget
+  pub busy : (fewer : ℕ) → fewer < count → (after_steps act fewer start).pending ≢ []
+
+pub reached_at_start : {V : Type 0} (act : Operator V) (budget : ℕ) (cells : List V) (first : List Start) (pending : List Task) (text : List ℕ) (created : ℕ)
+    → pending ≡ put_all (first_from 0 first) [] → text ≡ [] → created ≡ length first → created ≤ budget
+    → IsReached act budget (start_of cells first) cells pending text 0 created
+reached_at_start act budget cells first pending text created puts none many within =
+    let start = start_of cells first in
+    let same = after_none act start in
+    record {
+      cells-are = sym (ap (λ e. e.cells) same);
+      pending-are = puts ∙ sym (ap (λ e. e.pending) same);
+      text-is = none ∙ sym (ap (λ e. joined e.log) same);
+      created-are = rw after_none (omega (arith, length-put_all (first_from 0 first) [], length-first_from 0 first));
+      within = within;
+      busy = λ fewer below. absurd (omega arith);
+    }
+
+joined-push : (log : List (Key × List ℕ)) (key : Key) (text : List ℕ) → joined (log ++ (key, text) ∷ []) ≡ joined log ++ text
+joined-push log key text = flat_map-append (λ (entry : Key × List ℕ). entry.1) log ((key, text) ∷ []) ∙ ap (λ t. joined log ++ t) (append-nil text)
+
+not_empty : (task : Task) (tasks : List Task) → task ∷ tasks ≢ []
+not_empty task tasks same = absurd (cc)
+
+module _ {V : Type 0} {act : Operator V} {budget : ℕ} {start : Execution V} {cells : List V} {pending : List Task} {text : List ℕ} {count created : ℕ} (reached : IsReached act budget start cells pending text count created) where
+  -- the task that acts next
+  step_is : (task : Task) (others : List Task) → pending ≡ task ∷ others → after_steps act (suc count) start ≡ acts act (after_steps act count start) (task ∷ others)
+  step_is task others is = after_one_more act count start ∙ ap (acts act (after_steps act count start)) (sym reached.pending-are ∙ is)
+
+  created_next : (task : Task) (others : List Task) → pending ≡ task ∷ others → created_after act (suc count) start ≡ created + length (act task cells).children
+  created_next task others is =
+      let e = after_steps act count start in
+      omega (
+        arith,
+        ap created_by (step_is task others is),
+        created_by_task act e task others,
+        reached.created-are,
+        ap length (sym reached.pending-are ∙ is),
+        ap (λ cs. length (act task cs).children) reached.cells-are,
+      )
+
+  pub reached_next : (task : Task) (others : List Task) (cells' : List V) (pending' : List Task) (text' : List ℕ) (created' : ℕ) → pending ≡ task ∷ others
+      → cells' ≡ (act task cells).cells
+      → pending' ≡ put_all (children_from task.key 0 (act task cells).children) others
+      → text' ≡ text ++ (act task cells).text
+      → created' ≡ created + length (act task cells).children → created' ≤ budget
+      → IsReached act budget start cells' pending' text' (count + 1) created'
+  reached_next task others cells' pending' text' created' is cells-are pending-are text-is created-are within =
+      let e = after_steps act count start in
+      let next = step_is task others is in
+      rw add-one (record {
+        cells-are = cells-are ∙ ap (λ cs. (act task cs).cells) reached.cells-are ∙ sym (ap (λ x. x.cells) next);
+        pending-are = pending-are ∙ ap (λ cs. put_all (children_from task.key 0 (act task cs).children) others) reached.cells-are ∙ sym (ap (λ x. x.pending) next);
+        text-is =
+            text-is ∙ ap (λ t. t ++ (act task cells).text) reached.text-is ∙ ap (λ cs. joined e.log ++ (act task cs).text) reached.cells-are
+            ∙ sym (joined-push e.log task.key (act task e.cells).text) ∙ sym (ap (λ x. joined x.log) next);
+        created-are = created-are ∙ sym (created_next task others is);
+        within = within;
+        busy = λ fewer below.
+            ⊎_elim
+            (λ before. reached.busy fewer before)
+            (λ above none.
+            let last : fewer ≡ count = omega arith in
+            not_empty task others (sym is ∙ reached.pending-are ∙ sym (ap (λ n. (after_steps act n start).pending) last) ∙ none))
+            (cases_lt fewer count);
+      })
+
+  module _ (fresh : length start.log ≡ 0) where
+    count_within : count + length pending ≤ budget
+    count_within = omega (arith, logs_while_pending act start count reached.busy, ap length reached.pending-are, reached.created-are, reached.within)
+
+    -- a task that is pending can still run
+    pub count_below : (task : Task) (others : List Task) → pending ≡ task ∷ others → count < budget
+    count_below task others is = omega (arith, count_within, ap length is)
+
+    -- the first time that there are too many
+    pub over_budget : (task : Task) (others : List Task) (created' : ℕ) → pending ≡ task ∷ others
+        → created' ≡ created + length (act task cells).children → budget < created'
+        → IsOverBudget act budget start created' budget
+    over_budget task others created' is many over =
+        let after = created_next task others is in
+        record {
+          too_long = (ends_within_limit act start budget).1 (suc count, omega arith);
+          limit_is = refl;
+          first_passes = record {
+            steps = suc count;
+            many = many ∙ sym after;
+            passes = over;
+            first = λ fewer below.
+                let up_to : fewer + (count - fewer) ≡ count = omega arith in
+                omega (arith, created_never_falls act start fewer (count - fewer), ap (λ n. created_after act n start) up_to, reached.created-are, reached.within);
+          };
+        }
+
+    ends_answered : (answer : Option ℕ) → MatchOption answer ((steps : ℕ) → steps ≤ budget → is_clear_before end (after_steps act steps start) ≡ false) (λ steps. (steps ≤ budget) × IsFirstClear act end start steps)
+        → is_clear_before end (after_steps act count start) ≡ true → answer ≡ Some count
+    ends_answered None never clear = absurd (true≢false (sym clear ∙ never count (omega (arith, count_within))))
+    ends_answered (Some steps) found clear =
+        ⊎_elim
+        (λ same. ap Some same)
+        (⊎_elim
+        (λ fewer. absurd (reached.busy steps fewer (none_before_end (after_steps act steps start).pending found.1.clear)))
+        (λ more. absurd (true≢false (sym clear ∙ found.1.first count more))))
+        (cases_order steps count)
+
+    -- nothing is pending: the end
+    pub ends_here : pending ≡ [] → run_to_end act budget start ≡ Some (after_steps act count start)
+    ends_here none =
+        let clear = ap (λ tasks. not (list_any (λ (task : Task). is_before task.key end) tasks)) (sym reached.pending-are ∙ none) in
+        ap (option_map (λ steps. after_steps act steps start)) (ends_answered (steps_until act budget end start) (stops_when_clear act start budget end) clear)
+
+    pub counted : count ≡ length (after_steps act count start).log
+    counted = omega (arith, logs_while_pending act start count reached.busy)
+
+-- the first tasks alone are too many
+pub over_at_start : {V : Type 0} (act : Operator V) (budget : ℕ) (cells : List V) (first : List Start) (created : ℕ) → created ≡ length first → budget < created
+    → IsOverBudget act budget (start_of cells first) created budget
+over_at_start act budget cells first created is over =
+    let start = start_of cells first in
+    let many : created ≡ created_after act 0 start = rw after_none (omega (arith, length-put_all (first_from 0 first) [], length-first_from 0 first)) in
+    record {
+      too_long = (ends_within_limit act start budget).1 (0, omega arith);
+      limit_is = refl;
+      first_passes = record { steps = 0; many = many; passes = over; first = λ fewer below. absurd (omega arith) };
+    }

@@ -1,0 +1,4 @@
+pub mod Execution
+pub mod Laws
+pub mod Order
+pub mod Serial
