@@ -1,0 +1,8 @@
+pub mod Closed
+pub mod Cuts
+pub mod Failures
+pub mod Names
+pub mod Numbers
+pub mod Outputs
+pub mod Reading
+pub mod Sound

@@ -1,0 +1,6 @@
+pub mod Tokens
+pub mod LineForms
+pub mod Decks
+pub mod Grammar
+pub mod Statements
+pub mod Outlines

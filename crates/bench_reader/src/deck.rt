@@ -1,0 +1,81 @@
+ghost use Rattle.std.specs.Prelude.{◌≡◌, [], ◌∷◌, ◌++◌, OnOk, OnErr};
+
+use kdg_text::{NoRoom, NumList, Text};
+use std::alloc::Global;
+use std::marker::Model;
+
+/// What a gate computes from its fan-ins.
+#[derive(Clone, Copy, Debug, PartialEq, Eq)]
+pub enum GateKind {
+    /// 0 where all fan-ins are 1.
+    Nand,
+    /// The other value of its one fan-in.
+    Not,
+}
+
+/// What drives a signal.
+#[derive(Drop)]
+pub enum Form {
+    /// A primary input of the circuit.
+    Input,
+    /// A gate, with the numbers of the signals that it reads, in the order of its line.
+    Gate { kind: GateKind, fan_in: NumList },
+}
+
+/// A signal: its name as the deck spells it, and what drives it.
+#[derive(Drop)]
+pub struct Signal {
+    pub name: Text,
+    pub form: Form,
+}
+
+/// A list of signals.
+#[derive(Drop)]
+pub struct SignalList {
+    signals: Vec<Signal>,
+}
+
+impl Model for SignalList {
+    ghost use Rattle.std.specs.Prelude.{List};
+    ghost use Rattle.bench_reader.specs.declared.deck.Signal.{Signal};
+
+    ghost Value = { List Signal };
+
+    ghost view = { λ l. l.signals.items };
+}
+
+impl SignalList {
+    /// An empty list, which takes no memory.
+    pub fn new(alloc: Global) -> SignalList
+        ensures { result ≡ [] }
+    {
+        SignalList {
+            signals: Vec::new(alloc),
+        }
+    }
+
+    /// Adds a signal at the end. After `NoRoom` the list is as it was.
+    pub fn push(&mut self, signal: Signal) -> Result<(), NoRoom>
+        ensures ok { OnOk result (self.new ≡ self.old ++ signal ∷ []) }
+        ensures err { OnErr result (self.new ≡ self.old) }
+    {
+        self.signals.push(signal)?;
+        Ok(())
+    }
+
+    /// The signals, in order.
+    pub fn items(&self) -> &[Signal]
+        ensures { result.now ≡ self.now }
+    {
+        &self.signals
+    }
+}
+
+/// A circuit as its deck describes it.
+#[derive(Drop)]
+pub struct Deck {
+    /// The signals, numbered from 0 in the order of the lines that define them.
+    pub signals: SignalList,
+    /// The numbers of the signals that are outputs, in the order in which they are first declared.
+    pub outputs: NumList,
+}

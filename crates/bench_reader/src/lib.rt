@@ -1,0 +1,14 @@
+//! Reads circuits in the `.bench` format, in which the ISCAS'85 benchmark circuits are handed round.
+#![tactic(auto)]
+
+mod deck;
+mod outline;
+mod reader;
+mod statement;
+mod tokens;
+
+pub use deck::{Deck, Form, GateKind, Signal, SignalList};
+pub use reader::read_deck;
+
+#[cfg(test)]
+mod tests;
