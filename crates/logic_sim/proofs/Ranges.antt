@@ -1,0 +1,50 @@
+-- Lists of the signals below a number that pass a test, one signal further.
+use Rattle.std.proofs.Common.{◌≡◌, ◌∙◌, ℕ, ◌+◌, ◌<◌, Bool, true, false, List, [], ◌∷◌, ◌++◌, length, get_or, ap, sym, zero-add}
+use Rattle.std.specs.Prelude.{filter, map, if◌then◌else◌}
+use Rattle.std.specs.List.{range_with_len}
+use Rattle.std.proofs.lemmas.List.{append-nil, get_or_read, map-append, map-id}
+use Rattle.std.proofs.lemmas.List.Elements.{filter-append}
+use Rattle.std.proofs.lemmas.List.FromFn.{map-range_with_len_more}
+use Rattle.bench_reader.specs.declared.deck.Signal.{Signal}
+use Rattle.task_order.specs.declared.start.Start.{Start}
+use Rattle.logic_sim.specs.Event.{eval_at}
+use Rattle.logic_sim.specs.Wiring.{fan_in_of, gates_among, is_among, is_gate, no_signal, readers_among, signal_at}
+
+range_more : (n : ℕ) → range_with_len 0 (n + 1) ≡ range_with_len 0 n ++ n ∷ []
+range_more n =
+    sym (map-id (range_with_len 0 (n + 1)))
+    ∙ map-range_with_len_more (λ (z : ℕ). z) 0 n n (zero-add n)
+    ∙ ap (λ (zs : List ℕ). zs ++ n ∷ []) (map-id (range_with_len 0 n))
+
+filter_more : (p : ℕ → Bool) (n : ℕ) (b : Bool) → p n ≡ b → filter p (range_with_len 0 (n + 1)) ≡ filter p (range_with_len 0 n) ++ (if b then n ∷ [] else [])
+filter_more p n b e =
+    ap (filter p) (range_more n)
+    ∙ filter-append p (range_with_len 0 n) (n ∷ [])
+    ∙ ap (λ (t : Bool). filter p (range_with_len 0 n) ++ (if t then n ∷ [] else [])) e
+
+read_signal : (signals : List Signal) (n : ℕ) (signal : Signal) → n < length signals → signal ≡ get_or signals n signal → signal ≡ signal_at signals n
+read_signal signals n signal below is = get_or_read signals n signal below is no_signal
+
+gates_among-more : (signals : List Signal) (n : ℕ) (signal : Signal) (b : Bool) → n < length signals → signal ≡ get_or signals n signal → is_gate signal.form ≡ b →
+    gates_among signals (n + 1) ≡ gates_among signals n ++ (if b then n ∷ [] else [])
+gates_among-more signals n signal b below is e =
+    filter_more (λ number. is_gate (signal_at signals number).form) n b (ap (λ (s : Signal). is_gate s.form) (sym (read_signal signals n signal below is)) ∙ e)
+
+-- a further gate is evaluated
+pub first_evals_gate : (signals : List Signal) (n : ℕ) (signal : Signal) (starts : List Start) → n < length signals → signal ≡ get_or signals n signal → is_gate signal.form ≡ true →
+    starts ≡ map (eval_at 0) (gates_among signals n) → starts ++ eval_at 0 n ∷ [] ≡ map (eval_at 0) (gates_among signals (n + 1))
+first_evals_gate signals n signal starts below is gate so_far =
+    ap (λ (s : List Start). s ++ eval_at 0 n ∷ []) so_far
+    ∙ sym (map-append (eval_at 0) (gates_among signals n) (n ∷ []))
+    ∙ ap (map (eval_at 0)) (sym (gates_among-more signals n signal true below is gate))
+
+-- a further input isn't
+pub first_evals_input : (signals : List Signal) (n : ℕ) (signal : Signal) (starts : List Start) → n < length signals → signal ≡ get_or signals n signal → is_gate signal.form ≡ false →
+    starts ≡ map (eval_at 0) (gates_among signals n) → starts ≡ map (eval_at 0) (gates_among signals (n + 1))
+first_evals_input signals n signal starts below is gate so_far =
+    so_far ∙ ap (map (eval_at 0)) (sym (gates_among-more signals n signal false below is gate ∙ append-nil (gates_among signals n)))
+
+pub readers_among-more : (signals : List Signal) (n : ℕ) (signal : Signal) (fan_in : List ℕ) (number : ℕ) → n < length signals → signal ≡ get_or signals n signal → fan_in_of signal.form ≡ fan_in →
+    readers_among signals (n + 1) number ≡ readers_among signals n number ++ (if is_among fan_in number then n ∷ [] else [])
+readers_among-more signals n signal fan_in number below is e =
+    filter_more _ n (is_among fan_in number) (ap (λ (s : Signal). is_among (fan_in_of s.form) number) (sym (read_signal signals n signal below is)) ∙ ap (λ (f : List ℕ). is_among f number) e)

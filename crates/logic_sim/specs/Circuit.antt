@@ -1,0 +1,52 @@
+-- How the simulation of a circuit starts, which cells and tasks it has, and what it prints at the end.
+use Rattle.std.specs.Prelude.{◌≡◌, ℕ, ◌*◌, ◌%◌, ◌<◌, ◌≤◌, ◌⊎◌, IsTrue, List, length, map, replicate, All}
+use Rattle.std.specs.List.{flat_map}
+use Rattle.bench_reader.specs.declared.deck.Deck.{Deck}
+use Rattle.bench_reader.specs.Decks.{IsDeck}
+use Rattle.task_order.specs.declared.task.Body.{Body}
+use Rattle.task_order.specs.declared.start.Start.{Start}
+use Rattle.logic_sim.specs.Event.{Simulation, change_kind, eval_kind, eval_at, final_line, value_in}
+use Rattle.logic_sim.specs.Wiring.{gates_of, is_gate, signal_at}
+
+abbrev pub IsBit : ℕ → Type 0
+IsBit value = value ≤ 1
+
+-- two cells for each signal of a deck, each 0 or 1
+pub record IsFitCells (c : Simulation) (cells : List ℕ) : Type 0 where
+  pub deck : IsDeck c.deck
+  pub count : length cells ≡ 2 * length c.deck.signals
+  pub bits : All IsBit cells
+
+-- a signal takes the value 0 or 1
+pub record IsFitChange (c : Simulation) (prio : ℕ) (body : Body) : Type 0 where
+  pub kind : body.kind ≡ change_kind
+  pub even : prio % 2 ≡ 0
+  pub at_signal : body.at < length c.deck.signals
+  pub to_bit : IsBit body.arg
+
+-- a gate is evaluated
+pub record IsFitEval (c : Simulation) (prio : ℕ) (body : Body) : Type 0 where
+  pub kind : body.kind ≡ eval_kind
+  pub odd : prio % 2 ≡ 1
+  pub in_range : body.at < length c.deck.signals
+  pub at_gate : IsTrue (is_gate (signal_at c.deck.signals body.at).form)
+  pub no_arg : body.arg ≡ 0
+
+abbrev pub IsFitTask : Simulation → ℕ → Body → Type 0
+IsFitTask c prio body = IsFitChange c prio body ⊎ IsFitEval c prio body
+
+-- the last time that a circuit may be simulated to
+abbrev pub latest : ℕ
+latest = 1_000_000_000
+
+-- at first every value and every plan is 0
+abbrev pub start_cells : Deck → List ℕ
+start_cells deck = replicate (2 * length deck.signals) 0
+
+-- at first each gate is to be evaluated at time 0, in file order
+abbrev pub start_tasks : Deck → List Start
+start_tasks deck = map (eval_at 0) (gates_of deck.signals)
+
+-- a line for each output, in the order in which they are declared
+abbrev pub finals_of : Deck → List ℕ → List ℕ
+finals_of deck cells = flat_map (λ output. final_line (signal_at deck.signals output).name (value_in cells output)) deck.outputs

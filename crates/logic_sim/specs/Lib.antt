@@ -1,0 +1,6 @@
+pub mod Gate
+pub mod Wiring
+pub mod Event
+pub mod Circuit
+pub mod Tables
+pub mod Laws

@@ -1,0 +1,97 @@
+ghost use Rattle.std.specs.Prelude.{◌≡◌, ◌<◌, ◌≤◌, ◌^◌, ◌*◌, ◌+◌, ◌++◌, length, map, IfOk, OnOk};
+ghost use Rattle.logic_sim.specs.Event.{change_at, change_line, eval_at, final_line, value_line};
+ghost use Rattle.logic_sim.specs.Wiring.{gates_of};
+
+use bench_reader::{Form, Signal};
+use kdg_text::{NoRoom, Text, push_u64};
+use std::alloc::Global;
+use task_order::{Body, Start, StartList};
+
+/// The kind of a task that gives a signal a value.
+pub(crate) const CHANGE: u8 = 0;
+
+/// The kind of a task that evaluates a gate.
+pub(crate) const EVAL: u8 = 1;
+
+/// The signal takes the value at that time.
+pub(crate) fn change_start(time: u64, signal: u32, value: u8) -> Start
+    requires { 2 * time < 2 ^ 64 }
+    ensures { result ≡ change_at time signal value }
+{
+    Start {
+        prio: 2 * time,
+        body: Body {
+            kind: CHANGE,
+            at: signal,
+            arg: u64::from(value),
+        },
+    }
+}
+
+/// The gate is evaluated at that time.
+pub(crate) fn eval_start(time: u64, gate: u32) -> Start
+    requires { 2 * time + 1 < 2 ^ 64 }
+    ensures { result ≡ eval_at time gate }
+{
+    Start {
+        prio: 2 * time + 1,
+        body: Body {
+            kind: EVAL,
+            at: gate,
+            arg: 0,
+        },
+    }
+}
+
+/// Each gate is evaluated at time 0.
+#[tactic(auto, using(crate::proofs::Ranges::first_evals_gate, crate::proofs::Ranges::first_evals_input))]
+pub(crate) fn first_evals(alloc: Global, signals: &[Signal]) -> Result<StartList, NoRoom>
+    requires { length signals.now ≤ 4096 }
+    ensures { IfOk result (λ starts. starts ≡ map (eval_at 0) (gates_of signals.now)) }
+{
+    let mut starts = StartList::new(alloc);
+    for (number, signal) in signals.iter().enumerate() {
+        if let Form::Gate { .. } = signal.form {
+            starts.push(eval_start(0, number as u32))?;
+        }
+    }
+    Ok(starts)
+}
+
+/// Each of the gates is evaluated at that time.
+pub(crate) fn push_evals(made: &mut StartList, time: u64, gates: &[u32]) -> Result<(), NoRoom>
+    requires { 2 * time + 1 < 2 ^ 64 }
+    ensures { OnOk result (made.new ≡ made.old ++ map (eval_at time) gates.now) }
+{
+    for &gate in gates {
+        made.push(eval_start(time, gate))?;
+    }
+    Ok(())
+}
+
+/// Writes that the signal of this name took the value at that time.
+pub(crate) fn push_change(text: &mut Text, time: u64, name: &[u8], value: u8) -> Result<(), NoRoom>
+    ensures { OnOk result (text.new ≡ text.old ++ change_line time name.now value) }
+{
+    push_u64(text, time)?;
+    text.push_all(b" ")?;
+    push_value(text, name, value)
+}
+
+/// Writes the value that the signal of this name has at the end.
+pub(crate) fn push_final(text: &mut Text, name: &[u8], value: u8) -> Result<(), NoRoom>
+    ensures { OnOk result (text.new ≡ text.old ++ final_line name.now value) }
+{
+    text.push_all(b"final ")?;
+    push_value(text, name, value)
+}
+
+/// Writes the rest of a line.
+fn push_value(text: &mut Text, name: &[u8], value: u8) -> Result<(), NoRoom>
+    ensures { OnOk result (text.new ≡ text.old ++ value_line name.now value) }
+{
+    text.push_all(name)?;
+    text.push_all(b" ")?;
+    push_u64(text, u64::from(value))?;
+    text.push_all(b"\n")
+}

@@ -1,0 +1,10 @@
+//! Logic circuits as ordered applications. A task changes a signal or evaluates a gate, and every
+//! gate has a delay of one unit of time.
+#![tactic(auto)]
+
+mod circuit;
+mod event;
+mod gate;
+mod tables;
+
+pub use circuit::Circuit;
