@@ -1,0 +1,62 @@
+use Rattle.std.proofs.Common.{◌≡◌, ℕ, ◌≤◌, ◌&&◌, List, cond, Option, Some, None, unwrap_or, option_and_then, refl, arith, inl, inr}
+use Rattle.std.proofs.lemmas.Bool.{cases_Bool, and_parts, leb-true}
+use Rattle.std.specs.Prelude.{nat_le, IfOk}
+use Rattle.std.specs.Result.{result_ok}
+use Rattle.std.specs.Str.{bytes_eq}
+use Rattle.std.specs.Prelude.{codes}
+use Rattle.kdg_text.specs.Numbers.{u64_of}
+use Rattle.kdg_prog.specs.Words.{Word, IsAllowed, number_within, command_named, mode_value, given_value, options_given, options_unless, options_of, first_bad, settings_of, command_of}
+use Rattle.kdg_prog.specs.declared.words.Command.TheVariants.{Sim}
+use Rattle.kdg_prog.specs.declared.words.Mode.TheVariants.{Serial}
+use Rattle.kdg_prog.specs.declared.words.OptionName.TheVariants as name
+use Rattle.kdg_prog.specs.declared.words.Options.{Options}
+use Rattle.std.specs.List.{slice_get}
+
+abbrev Lies : ℕ → ℕ → ℕ → Type 0
+Lies low high n = (low ≤ n) × (n ≤ high)
+
+-- a number that passed the test of a range, or a default in the range, lies in the range
+kept_lies : (low high default : ℕ) → Lies low high default → (read : Option ℕ) → Lies low high (unwrap_or (option_and_then (λ n. cond (nat_le low n && nat_le n high) (Some n) None) read) default)
+kept_lies low high default lies None = lies
+kept_lies low high default lies (Some n) =
+    elim (cases_Bool (nat_le low n && nat_le n high)) as (λ _. Lies low high (unwrap_or (cond (nat_le low n && nat_le n high) (Some n) None) default)) [
+      | inl within ↦ (let parts = and_parts (nat_le low n) (nat_le n high) within in rw (within) (leb-true low n parts.0, leb-true n high parts.1))
+      | inr without ↦ rw (without) lies
+    ]
+
+value_lies : (low high default : ℕ) → Lies low high default → (given : Option Word) → Lies low high (unwrap_or (option_and_then (number_within low high) given) default)
+value_lies low high default lies None = lies
+value_lies low high default lies (Some word) = kept_lies low high default lies (result_ok (u64_of word))
+
+mode_is_serial : (given : Option Word) → unwrap_or (option_and_then mode_value given) Serial ≡ Serial
+mode_is_serial None = refl
+mode_is_serial (Some word) =
+    elim (cases_Bool (bytes_eq word (codes "serial"))) as (λ _. unwrap_or (mode_value word) Serial ≡ Serial) [
+      | inl same ↦ rw (same) refl
+      | inr other ↦ rw (other) refl
+    ]
+
+command_is_sim : (first : Option Word) → unwrap_or (option_and_then command_named first) Sim ≡ Sim
+command_is_sim None = refl
+command_is_sim (Some word) =
+    elim (cases_Bool (bytes_eq word (codes "sim"))) as (λ _. unwrap_or (command_named word) Sim ≡ Sim) [
+      | inl same ↦ rw (same) refl
+      | inr other ↦ rw (other) refl
+    ]
+
+given_allowed : (words : List Word) → IsAllowed (options_given (unwrap_or (command_of words) Sim) (settings_of words))
+given_allowed words = record {
+  command = command_is_sim (slice_get words 0);
+  workers = value_lies 1 64 4 (omega arith, omega arith) (given_value name.Workers (settings_of words));
+  mode = mode_is_serial (given_value name.Mode (settings_of words));
+  until = (value_lies 0 1000000000 1000 (omega arith, omega arith) (given_value name.Until (settings_of words))).1;
+  budget = (value_lies 0 1000000000 1000000 (omega arith, omega arith) (given_value name.Budget (settings_of words))).1;
+}
+
+unless_allowed : (found : Option ℕ) (options : Options) → IsAllowed options → IfOk (options_unless found options) IsAllowed
+unless_allowed None options allowed = allowed
+unless_allowed (Some index) options allowed = tt
+
+-- what words ask for is allowed
+pub options_of_allowed : (words : List Word) → IfOk (options_of words) IsAllowed
+options_of_allowed words = unless_allowed (first_bad words) _ (given_allowed words)

@@ -1,0 +1,5 @@
+pub mod Allowed
+pub mod Digits
+pub mod FirstBad
+pub mod Given
+pub mod Reading

@@ -1,0 +1,5 @@
+pub mod Answers
+pub mod Draft
+pub mod Headline
+pub mod Status
+pub mod Words

@@ -1,0 +1,148 @@
+use Rattle.std.specs.Prelude.{◌≡◌, ◌≤◌, ◌==◌, ℕ, ◌+◌, ◌-◌, ◌%◌, ◌^◌, List, [], ◌∷◌, ◌&&◌, Bool, true, false, not, nat_le, length, drop, take, Option, Some, None, is_some, is_none, unwrap_or, option_and_then, Result, Ok, Err, codes, find, if◌then◌else◌}
+use Rattle.std.specs.List.{slice_get, range_with_len}
+use Rattle.std.specs.Option.{option_map, option_map_or}
+use Rattle.std.specs.Result.{result_ok}
+use Rattle.std.specs.Str.{bytes_eq}
+use Rattle.kdg_text.specs.Numbers.{u64_of}
+use Rattle.kdg_prog.specs.declared.words.Command.{Command}
+use Rattle.kdg_prog.specs.declared.words.Command.TheVariants.{Sim}
+use Rattle.kdg_prog.specs.declared.words.Mode.{Mode}
+use Rattle.kdg_prog.specs.declared.words.Mode.TheVariants.{Serial}
+use Rattle.kdg_prog.specs.declared.words.OptionName.{OptionName}
+use Rattle.kdg_prog.specs.declared.words.OptionName.TheVariants as name
+use Rattle.kdg_prog.specs.declared.words.Options.{Options}
+
+-- a word, by its bytes
+abbrev pub Word : Type 0
+Word = List ℕ
+
+-- the command that a word names
+abbrev pub command_named : Word → Option Command
+command_named word = if bytes_eq word (codes "sim") then Some Sim else None
+
+-- how each option is written
+abbrev pub name_of : OptionName → Word
+name_of name.Workers = codes "--workers"
+name_of name.Mode = codes "--mode"
+name_of name.Seed = codes "--seed"
+name_of name.Until = codes "--until"
+name_of name.Budget = codes "--budget"
+name_of name.Stats = codes "--stats"
+
+abbrev pub option_names : List OptionName
+option_names =
+    name.Workers ∷ name.Mode ∷ name.Seed ∷ name.Until ∷ name.Budget ∷ name.Stats ∷ []
+
+-- the option that a word names
+abbrev pub option_named : Word → Option OptionName
+option_named word = find (λ name. bytes_eq word (name_of name)) option_names
+
+-- a number that lies in a range, the ends included
+abbrev pub number_within : ℕ → ℕ → Word → Option ℕ
+number_within low high word =
+    option_and_then (λ n. if nat_le low n && nat_le n high then Some n else None) (result_ok (u64_of word))
+
+-- what the values of the options say
+abbrev pub workers_value : Word → Option ℕ
+workers_value = number_within 1 64
+
+abbrev pub mode_value : Word → Option Mode
+mode_value word = if bytes_eq word (codes "serial") then Some Serial else None
+
+abbrev pub seed_value : Word → Option ℕ
+seed_value = number_within 0 (2 ^ 64 - 1)
+
+abbrev pub until_value : Word → Option ℕ
+until_value = number_within 0 1000000000
+
+abbrev pub budget_value : Word → Option ℕ
+budget_value = number_within 0 1000000000
+
+abbrev pub switch_value : Word → Option Bool
+switch_value word =
+    if bytes_eq word (codes "on") then Some true else if bytes_eq word (codes "off") then Some false else None
+
+-- a word is one of an option's values
+abbrev pub is_value : OptionName → Word → Bool
+is_value name.Workers word = is_some (workers_value word)
+is_value name.Mode word = is_some (mode_value word)
+is_value name.Seed word = is_some (seed_value word)
+is_value name.Until word = is_some (until_value word)
+is_value name.Budget word = is_some (budget_value word)
+is_value name.Stats word = is_some (switch_value word)
+
+-- each two words, the last alone left out
+abbrev pub pairs_of : List Word → List (Word × Word)
+pairs_of [] = []
+pairs_of (word ∷ []) = []
+pairs_of (word ∷ next ∷ words) = (word, next) ∷ pairs_of words
+
+-- the options behind the command, with their values
+abbrev pub settings_of : List Word → List (Word × Word)
+settings_of words = pairs_of (drop 1 words)
+
+-- the value that an option has among settings
+abbrev pub given_value : OptionName → List (Word × Word) → Option Word
+given_value name settings =
+    option_map (λ setting. setting.1) (find (λ setting. bytes_eq setting.0 (name_of name)) settings)
+
+-- a word that stands in an option's place is bad: it names no option, or one that was given before
+abbrev pub is_bad_option : List Word → ℕ → Bool
+is_bad_option words index =
+    option_map_or
+    (λ word. option_map_or (λ name. is_some (given_value name (settings_of (take index words)))) (option_named word) true)
+    (slice_get words index)
+    false
+
+-- the word behind an option is bad: it is missing, or none of the option's values
+abbrev pub is_bad_value : List Word → ℕ → Bool
+is_bad_value words index =
+    option_map_or
+    (λ name. not (option_map_or (is_value name) (slice_get words index) false))
+    (option_and_then option_named (slice_get words (index - 1)))
+    false
+
+-- the command among the words
+abbrev pub command_of : List Word → Option Command
+command_of words = option_and_then command_named (slice_get words 0)
+
+-- the word at an index is bad: the command comes first, and then options and values take turns
+abbrev pub is_bad : List Word → ℕ → Bool
+is_bad words index =
+    if index == 0 then is_none (command_of words)
+    else if index % 2 == 1 then is_bad_option words index
+    else is_bad_value words index
+
+-- the index of the first bad word, which may be the one that is missing behind the last
+abbrev pub first_bad : List Word → Option ℕ
+first_bad words = find (is_bad words) (range_with_len 0 (length words + 1))
+
+-- the value of each option, or its default
+abbrev pub options_given : Command → List (Word × Word) → Options
+options_given command settings = record {
+  command = command;
+  workers = unwrap_or (option_and_then workers_value (given_value name.Workers settings)) 4;
+  mode = unwrap_or (option_and_then mode_value (given_value name.Mode settings)) Serial;
+  seed = unwrap_or (option_and_then seed_value (given_value name.Seed settings)) 0;
+  until = unwrap_or (option_and_then until_value (given_value name.Until settings)) 1000;
+  budget = unwrap_or (option_and_then budget_value (given_value name.Budget settings)) 1000000;
+  stats = unwrap_or (option_and_then switch_value (given_value name.Stats settings)) false;
+}
+
+-- the options, unless a word is bad; then the place of the first one, counted from 1
+abbrev pub options_unless : Option ℕ → Options → Result Options ℕ
+options_unless None options = Ok options
+options_unless (Some index) options = Err (index + 1)
+
+-- what the words of a command line ask for, or the place of the first bad one
+abbrev pub options_of : List Word → Result Options ℕ
+options_of words =
+    options_unless (first_bad words) (options_given (unwrap_or (command_of words) Sim) (settings_of words))
+
+-- options that words can ask for
+pub record IsAllowed (options : Options) : Type 0 where
+  pub command : options.command ≡ Sim
+  pub workers : (1 ≤ options.workers) × (options.workers ≤ 64)
+  pub mode : options.mode ≡ Serial
+  pub until : options.until ≤ 1000000000
+  pub budget : options.budget ≤ 1000000000

@@ -1,0 +1,14 @@
+//! The command line, the top calls from words and bytes to bytes, and their answers.
+#![tactic(auto)]
+
+mod faults;
+mod status;
+mod whole_run;
+mod words;
+
+pub use status::{Status, fault_line};
+pub use whole_run::{run, run_plain};
+pub use words::{Command, Mode, Options, read_words};
+
+#[cfg(test)]
+mod tests;

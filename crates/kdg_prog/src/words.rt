@@ -1,0 +1,206 @@
+ghost use Rattle.std.specs.Prelude.{◌≡◌, ◌+◌, ◌≤◌, map, string_bytes, is_some, IfOk, IfSome, OnSome};
+ghost use Rattle.kdg_prog.specs.Words.{options_of, IsAllowed, command_named, option_named, number_within, mode_value, switch_value, is_value};
+ghost use Rattle.kdg_prog.specs.Draft.{is_given, with_value, options_drafted};
+
+use kdg_text::read_u64;
+
+/// What is run.
+#[derive(Clone, Copy, Debug, PartialEq, Eq)]
+pub enum Command {
+    /// The simulation of a circuit.
+    Sim,
+    /// The elimination of a matrix.
+    Rank,
+    /// The simulation of a mesh of springs.
+    Mesh,
+}
+
+/// How tasks are run.
+#[derive(Clone, Copy, Debug, PartialEq, Eq)]
+pub enum Mode {
+    /// One after another, on one thread.
+    Serial,
+    /// In rounds that all workers end together.
+    Rounds,
+    /// By workers that never wait for one another.
+    Free,
+}
+
+/// What the words of a command line ask for.
+#[derive(Clone, Copy, Debug, PartialEq, Eq)]
+pub struct Options {
+    pub command: Command,
+    /// 1 to 64.
+    pub workers: u32,
+    pub mode: Mode,
+    pub seed: u64,
+    /// The last time that is simulated, 0 to 1,000,000,000.
+    pub until: u64,
+    /// How many tasks may be created, 0 to 1,000,000,000.
+    pub budget: u64,
+    /// Whether figures of the run are printed behind its results.
+    pub stats: bool,
+}
+
+/// Reads the words of a command line, without the program's name, or gives the place of the first
+/// bad one, counted from 1.
+///
+/// The first word is the command, `sim`. Pairs of an option and its value follow in any order, each
+/// option at most once:
+///
+/// | option | value | default |
+/// |---|---|---|
+/// | `--workers` | 1 to 64 | 4 |
+/// | `--mode` | `serial` | `serial` |
+/// | `--seed` | 0 to 2^64 - 1 | 0 |
+/// | `--until` | 0 to 1,000,000,000 | 1000 |
+/// | `--budget` | 0 to 1,000,000,000 | 1,000,000 |
+/// | `--stats` | `on` or `off` | `off` |
+///
+/// Words are compared byte by byte, and numbers are decimal digits, which may begin with zeros. The
+/// first word is bad where it is missing or no command, an option where it is unknown or was given
+/// before, and a value where it is missing or none of its option's. A missing value has the place
+/// behind the last word.
+pub fn read_words(words: &Vec<String>) -> Result<Options, u32>
+    ensures value { result ≡ options_of (map string_bytes words.now.items) }
+    ensures allowed { IfOk result IsAllowed }
+{
+    let command = words
+        .first()
+        .and_then(|word| command_named(word.as_str()))
+        .ok_or(1u32)?;
+    let mut draft = Draft::default();
+    let mut index = 1;
+    while index < words.len() {
+        let place = index as u32 + 1;
+        let name = option_named(words[index].as_str()).ok_or(place)?;
+        if draft.has(name) {
+            return Err(place);
+        }
+        let value = words.get(index + 1).ok_or(place + 1)?;
+        draft.set(name, value.as_str()).ok_or(place + 1)?;
+        index += 2;
+    }
+    Ok(draft.options(command))
+}
+
+#[derive(Clone, Copy)]
+enum OptionName {
+    Workers,
+    Mode,
+    Seed,
+    Until,
+    Budget,
+    Stats,
+}
+
+fn command_named(word: &str) -> Option<Command>
+    ensures { result ≡ command_named word.now }
+{
+    match word {
+        "sim" => Some(Command::Sim),
+        _ => None,
+    }
+}
+
+fn option_named(word: &str) -> Option<OptionName>
+    ensures { result ≡ option_named word.now }
+{
+    match word {
+        "--workers" => Some(OptionName::Workers),
+        "--mode" => Some(OptionName::Mode),
+        "--seed" => Some(OptionName::Seed),
+        "--until" => Some(OptionName::Until),
+        "--budget" => Some(OptionName::Budget),
+        "--stats" => Some(OptionName::Stats),
+        _ => None,
+    }
+}
+
+fn read_mode(word: &str) -> Option<Mode>
+    ensures { result ≡ mode_value word.now }
+{
+    match word {
+        "serial" => Some(Mode::Serial),
+        _ => None,
+    }
+}
+
+fn read_switch(word: &str) -> Option<bool>
+    ensures { result ≡ switch_value word.now }
+{
+    match word {
+        "on" => Some(true),
+        "off" => Some(false),
+        _ => None,
+    }
+}
+
+fn read_within(word: &str, low: u64, high: u64) -> Option<u64>
+    ensures value { result ≡ number_within low high word.now }
+    ensures within { IfSome result (λ n. (low ≤ n) × (n ≤ high)) }
+{
+    let number = read_u64(word.as_bytes()).ok()?;
+    if low <= number && number <= high {
+        Some(number)
+    } else {
+        None
+    }
+}
+
+// The values of the options that were given so far.
+#[derive(Clone, Copy, Default)]
+struct Draft {
+    workers: Option<u32>,
+    mode: Option<Mode>,
+    seed: Option<u64>,
+    until: Option<u64>,
+    budget: Option<u64>,
+    stats: Option<bool>,
+}
+
+impl Draft {
+    fn has(&self, name: OptionName) -> bool
+        ensures { result ≡ is_given self.now name }
+    {
+        match name {
+            OptionName::Workers => self.workers.is_some(),
+            OptionName::Mode => self.mode.is_some(),
+            OptionName::Seed => self.seed.is_some(),
+            OptionName::Until => self.until.is_some(),
+            OptionName::Budget => self.budget.is_some(),
+            OptionName::Stats => self.stats.is_some(),
+        }
+    }
+
+    // Keeps the value of an option, or answers `None` where it is none of the option's.
+    fn set(&mut self, name: OptionName, value: &str) -> Option<()>
+        ensures variant { is_some result ≡ is_value name value.now }
+        ensures kept { OnSome result (self.new ≡ with_value self.old name value.now) }
+    {
+        match name {
+            OptionName::Workers => self.workers = Some(read_within(value, 1, 64)? as u32),
+            OptionName::Mode => self.mode = Some(read_mode(value)?),
+            OptionName::Seed => self.seed = Some(read_within(value, 0, u64::MAX)?),
+            OptionName::Until => self.until = Some(read_within(value, 0, 1_000_000_000)?),
+            OptionName::Budget => self.budget = Some(read_within(value, 0, 1_000_000_000)?),
+            OptionName::Stats => self.stats = Some(read_switch(value)?),
+        }
+        Some(())
+    }
+
+    // The values that were given, and the defaults of the other options.
+    fn options(self, command: Command) -> Options
+        ensures { result ≡ options_drafted command self }
+    {
+        Options {
+            command,
+            workers: self.workers.unwrap_or(4),
+            mode: self.mode.unwrap_or(Mode::Serial),
+            seed: self.seed.unwrap_or(0),
+            until: self.until.unwrap_or(1000),
+            budget: self.budget.unwrap_or(1_000_000),
+            stats: self.stats.unwrap_or(false),
+        }
+    }
+}
