@@ -1,0 +1,153 @@
+//! What is answered and printed for words and an input, in whatever pieces they come and go.
+
+ghost use Rattle.std.specs.Prelude.{◌≤◌};
+
+use crate::decks::{C17, C17_CUT, C17_PRINT};
+use kdg_prog::{Status, fault_line, run};
+use kdg_text::NoRoom;
+use outer_edge::{CleanSink, CleanSource};
+use std::alloc::{AllocError, Global};
+use std::test::Fail;
+
+fn words_of(alloc: Global, line: &str) -> Result<Vec<String>, AllocError> {
+    let mut words = Vec::new(alloc);
+    for word in line.split_whitespace() {
+        words.push(String::from_str(alloc, word)?)?;
+    }
+    Ok(words)
+}
+
+/// The status and what was printed, by reads and writes of at most `step` bytes.
+fn answer(
+    alloc: Global,
+    words: &str,
+    input: &str,
+    step: usize,
+) -> Result<(Status, CleanSink), NoRoom>
+    requires { 1 ≤ step }
+{
+    let words = words_of(alloc, words)?;
+    let mut source = CleanSource::new(input.as_bytes().to_vec(alloc)?, step);
+    let mut sink = CleanSink::with_room(alloc, step, 4096)?;
+    let status = run(alloc, &words, &mut source, &mut sink);
+    Ok((status, sink))
+}
+
+#[test]
+fn answers_and_prints(rt: HostRuntime) -> Result<(), Fail> {
+    let bad = Status::BadInput { line: 0, kind: 1 };
+    for (words, input, status, print) in [
+        ("sim", C17, Status::Ok, C17_PRINT),
+        ("sim --budget 20 --until 2", C17, Status::Ok, C17_PRINT),
+        (
+            "sim --mode serial --seed 7 --workers 64 --stats on",
+            C17,
+            Status::Ok,
+            C17_PRINT,
+        ),
+        (
+            "sim --until 1",
+            C17,
+            Status::Ok,
+            "1 22 1\n1 23 1\nfinal 22 1\nfinal 23 1\ntasks 18\n",
+        ),
+        (
+            "sim --until 0",
+            C17,
+            Status::Ok,
+            "final 22 0\nfinal 23 0\ntasks 6\n",
+        ),
+        (
+            "sim --mode serial --budget 19",
+            C17,
+            Status::Budget {
+                created: 20,
+                limit: 19,
+            },
+            "",
+        ),
+        (
+            "sim --budget 5",
+            C17,
+            Status::Budget {
+                created: 6,
+                limit: 5,
+            },
+            "",
+        ),
+        ("sim --budget 0", "", Status::Ok, "tasks 0\n"),
+        ("sim", C17_CUT, bad, ""),
+        (
+            "sim",
+            "OUTPUT(x)\nx = NOT(a)\nINPUT(a)",
+            Status::Ok,
+            "1 x 1\nfinal x 1\ntasks 2\n",
+        ),
+        (
+            "sim --until 3",
+            "q = NAND(q)\r\nOUTPUT(q)\r\n",
+            Status::Ok,
+            "1 q 1\n2 q 0\n3 q 1\nfinal q 1\ntasks 7\n",
+        ),
+        (
+            "sim --budget 10",
+            "q = NOT(q)\n",
+            Status::Budget {
+                created: 11,
+                limit: 10,
+            },
+            "",
+        ),
+        ("sim", "INPUT(1)\nINPUT(1)\n", bad, ""),
+        ("sim", "x = NOT(y)\n", bad, ""),
+        ("sim", "# c17\n", bad, ""),
+        ("sim", "INPUT(a)\n\n", bad, ""),
+    ] {
+        for step in [1usize, 3, 4096] {
+            let (answered, sink) = answer(rt.alloc(), words, input, step)?;
+            assert_eq!(rt; answered, status, "{words} {input}");
+            assert_eq!(rt; sink.held(), print.as_bytes(), "{words} {input}");
+        }
+    }
+    Ok(())
+}
+
+#[test]
+fn bad_words_are_told_by_their_place(rt: HostRuntime) -> Result<(), Fail> {
+    for (words, word) in [
+        ("", 1),
+        ("rank", 1),
+        ("mesh", 1),
+        ("big sim 1", 1),
+        ("--budget 5", 1),
+        ("sim --workers 0", 3),
+        ("sim --seed 1 --seed 2", 4),
+        ("sim --budget", 3),
+        ("sim --mode rounds", 3),
+        ("sim --mode free", 3),
+        ("sim --clock 2", 2),
+        ("sim --until 1000000001", 3),
+    ] {
+        let (answered, sink) = answer(rt.alloc(), words, C17, 5)?;
+        assert_eq!(rt; answered, Status::Usage { word }, "{words}");
+        assert_eq!(rt; sink.held(), b"".as_slice(), "{words}");
+    }
+    Ok(())
+}
+
+#[test]
+fn faults_are_told_with_their_codes(rt: HostRuntime) -> Result<(), Fail> {
+    for (words, input, code, told) in [
+        ("sim", C17, 0u8, ""),
+        ("sim --workers 0", C17, 2, "usage: word 3"),
+        ("sim", C17_CUT, 3, "bad input: line 0: fault 1"),
+        ("sim --budget 19", C17, 5, "budget: more than 19 tasks"),
+    ] {
+        let (status, _) = answer(rt.alloc(), words, input, 5)?;
+        let mut line = [0; 64];
+        let len = fault_line(&status, &mut line);
+        assert_eq!(rt; status.code(), code);
+        assert_eq!(rt; &line[..len], told.as_bytes());
+    }
+    Ok(())
+}

@@ -1,0 +1,10 @@
+//! Worked examples through the top call, over sources and sinks in memory. There is no code here
+//! but tests.
+#![tactic(auto)]
+
+#[cfg(test)]
+mod decks;
+#[cfg(test)]
+mod examples;
+#[cfg(test)]
+mod failures;
