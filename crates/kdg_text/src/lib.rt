@@ -6,6 +6,7 @@ mod lines;
 mod no_room;
 mod num_list;
 mod number;
+mod steps;
 #[cfg(test)]
 mod tests;
 mod text;
@@ -15,4 +16,5 @@ pub use lines::{Line, Lines};
 pub use no_room::NoRoom;
 pub use num_list::NumList;
 pub use number::{NumFault, digits_law, push_i64, push_u64, read_i64, read_u64};
+pub use steps::Steps;
 pub use text::Text;

@@ -1,5 +1,9 @@
+ghost use Rattle.std.specs.Prelude.{◌≡◌, ◌<◌};
+
 use crate::*;
 use std::alloc::Global;
+use std::marker::Brand;
+use std::sync::ledger::{Blank, Ledger};
 use std::test::Fail;
 
 #[test]
@@ -116,4 +120,20 @@ fn refusal_of_push(alloc: Global) -> Result<(), ReadFail> {
 #[test]
 fn want_of_memory_is_handed_on(rt: HostRuntime) {
     assert!(rt; refusal_of_push(rt.alloc()).is_ok());
+}
+
+fn three_steps<L: Ledger>(blank: Blank)
+    requires name { blank.name ≡ L.name }
+    requires parts { blank.parts ≡ L.parts }
+    requires some { 0 < blank.parts }
+{
+    let mut steps = Steps::<L>::new(blank);
+    for _ in 0..3 {
+        steps.tick();
+    }
+}
+
+#[test]
+fn steps_are_counted() {
+    three_steps::<Brand>(Blank::new(1));
 }
