@@ -1,3 +1,4 @@
+pub mod Applications
 pub mod Execution
 pub mod Laws
 pub mod Order

@@ -1,0 +1,111 @@
+ghost use Rattle.std.specs.Prelude.{◌≡◌, ◌+◌, length, ℕ, List, IfOk, IfErr};
+
+use crate::ChildList;
+use cell_store::{Bundle, Held, Store};
+use kdg_text::{NoRoom, Steps, Text};
+use rw_sets::RwSet;
+use std::sync::ledger::Ledger;
+use task_order::{Body, Task, TaskList};
+
+/// What a task did: its bundle with the new values, its children, and the lines that it writes.
+#[derive(Drop)]
+pub struct Effect<V: Held> {
+    pub bundle: Bundle<V>,
+    pub children: ChildList,
+    pub text: Text,
+}
+
+/// What is found of a declared set where some cells may be out.
+#[derive(Drop)]
+pub enum SetAnswer {
+    /// The declared set.
+    Known(RwSet),
+    /// The first cell that is needed to find the set out and is out. The set has its location.
+    Out(u32),
+}
+
+/// An ordered application: tasks with priorities, each of which declares the cells that it reads
+/// and writes, works on those alone, and may create further tasks that are not earlier.
+pub trait App {
+    ghost use Rattle.std.specs.Prelude.{map};
+    ghost use Rattle.task_order.specs.declared.task.Body.{Body};
+    ghost use Rattle.task_order.specs.declared.task.Task.{Task};
+    ghost use Rattle.cell_store.specs.declared.cell.Cell.TheVariants.{Home};
+    ghost use Rattle.cell_store.specs.Cells.{part_of};
+    ghost use Rattle.app_laws.specs.Applications.{Application, AgreesWith, AreFitTasks, IsFitTask, set_in, tasks_before, effect_of, CellsAreCounted, SetsAreInRange, ActsAreFit, SetsAreLocal, ActsAreLocal, ChildrenComeNoEarlier, SetsStayWithin, WalksAreTrue, IsSafeAlone, SafeTasksStaySafe};
+
+    /// What a cell holds.
+    type Val: Held;
+
+    /// What the application means: its cells and tasks, their sets, and what they do.
+    ghost meaning: { Self → Application Self.Val };
+
+    /// How many cells there are.
+    fn cells(&self) -> u32
+        ensures { result ≡ (meaning self.now).count };
+
+    /// The declared set of a task with this body, as far as the cells that are home tell it. Each
+    /// call is one step.
+    fn sets<L: Ledger>(
+        &self,
+        body: &Body,
+        store: &Store<Self::Val>,
+        steps: &mut Steps<L>,
+    ) -> Result<SetAnswer, NoRoom>
+        requires fit { (prio : ℕ) × (meaning self.now).is_fit_task prio body.now }
+        requires cells { (values : List Self.Val) × (meaning self.now).is_fit_cells values × AgreesWith store.now values }
+        ensures answer { IfOk result (λ answer. answer ≡ (meaning self.now).walk body.now store.now) }
+        ensures step { steps.new ≡ steps.old + 1 };
+
+    /// Whether a task may run although those of the pending tasks that are earlier haven't run yet:
+    /// what they and their children may still do must not touch it.
+    fn safe(&self, task: &Task, pending: &TaskList) -> bool
+        requires fit { IsFitTask (meaning self.now) task.now }
+        requires pending { AreFitTasks (meaning self.now) pending.now }
+        ensures { result ≡ (meaning self.now).is_safe task.now (tasks_before task.now.key pending.now) };
+
+    /// Does what the task does, on its bundle alone. Where memory runs out, the bundle comes back
+    /// as it was.
+    fn run(
+        &self,
+        task: &Task,
+        bundle: Bundle<Self::Val>,
+    ) -> Result<Effect<Self::Val>, Bundle<Self::Val>>
+        requires fit { IsFitTask (meaning self.now) task.now }
+        requires cells { (values : List Self.Val) × (meaning self.now).is_fit_cells values
+            × (bundle ≡ part_of (map Home values) (set_in (meaning self.now) values task.now)) }
+        ensures effect { IfOk result (λ effect. (values : List Self.Val) → (meaning self.now).is_fit_cells values →
+            bundle ≡ part_of (map Home values) (set_in (meaning self.now) values task.now) →
+            effect ≡ effect_of (meaning self.now) task.now values) }
+        ensures returned { IfErr result (λ back. back ≡ bundle) };
+
+    /// The application's cells have one value for each location.
+    ghost cells_are_counted: { (app : Self) → CellsAreCounted (meaning app) };
+
+    /// A declared set names locations of the application.
+    ghost sets_are_in_range: { (app : Self) → SetsAreInRange (meaning app) };
+
+    /// What a task makes is the application's own: cells, fewer than 2^32 children, whole lines.
+    ghost acts_are_fit: { (app : Self) → ActsAreFit (meaning app) };
+
+    /// A declared set depends on nothing but the cells that it names.
+    ghost sets_are_local: { (app : Self) → SetsAreLocal (meaning app) };
+
+    /// A task changes only what its set writes, and depends on nothing but the cells of its set.
+    ghost acts_are_local: { (app : Self) → ActsAreLocal (meaning app) };
+
+    /// No child is earlier than its parent.
+    ghost children_come_no_earlier: { (app : Self) → ChildrenComeNoEarlier (meaning app) };
+
+    /// Where a task acts, another one's set moves only within the merge of the two.
+    ghost sets_stay_within: { (app : Self) → SetsStayWithin (meaning app) };
+
+    /// What `sets` finds is the declared set, and the cell at which it stops lies in it.
+    ghost walks_are_true: { (app : Self) → WalksAreTrue (meaning app) };
+
+    /// A task with nothing earlier is safe.
+    ghost safe_alone: { (app : Self) → IsSafeAlone (meaning app) };
+
+    /// A safe task stays safe where an earlier one acts that it doesn't conflict with.
+    ghost safe_tasks_stay_safe: { (app : Self) → SafeTasksStaySafe (meaning app) };
+}
