@@ -10,6 +10,7 @@ mod steps;
 #[cfg(test)]
 mod tests;
 mod text;
+mod tokens;
 
 pub use fault::{Fault, ReadFail};
 pub use lines::{Line, Lines};
@@ -18,3 +19,4 @@ pub use num_list::NumList;
 pub use number::{NumFault, digits_law, push_i64, push_u64, read_i64, read_u64};
 pub use steps::Steps;
 pub use text::Text;
+pub use tokens::Tokens;

@@ -107,6 +107,31 @@ fn inputs_are_cut_into_lines(rt: HostRuntime) -> Result<(), Fail> {
     Ok(())
 }
 
+#[test]
+fn lines_are_cut_into_tokens(rt: HostRuntime) -> Result<(), Fail> {
+    let marks = b"(),=";
+    for (line, want) in [
+        ("x = NAND(1,y)", "x|=|NAND|(|1|,|y|)|"),
+        ("", ""),
+        (" \t ", ""),
+        ("\ta  b\t", "a|b|"),
+        ("==", "=|=|"),
+        ("a\r", "a\r|"),
+    ] {
+        let mut seen = Text::new(rt.alloc());
+        let mut tokens = Tokens::new(line.as_bytes(), marks);
+        for _ in 0..line.len() {
+            if let Some(token) = tokens.next_token() {
+                seen.push_all(token)?;
+                seen.push_byte(b'|')?;
+            }
+        }
+        assert!(rt; tokens.next_token().is_none());
+        assert_eq!(rt; seen.bytes(), want.as_bytes());
+    }
+    Ok(())
+}
+
 fn refusal_of_push(alloc: Global) -> Result<(), ReadFail> {
     let mut numbers = Vec::new(alloc);
     numbers.push(Text::new(alloc))?;
