@@ -1,5 +1,5 @@
 -- When signals and outputs make a deck.
-use Rattle.std.proofs.Common.{refl, ◌≡◌, true, false, ℕ, List, Bool, Some, map}
+use Rattle.std.proofs.Common.{refl, ◌≡◌, true, false, ℕ, List, [], Bool, Some, map}
 use Rattle.std.specs.List.{list_all}
 use Rattle.bench_reader.specs.declared.deck.Signal.{Signal}
 use Rattle.bench_reader.specs.LineForms.{NamedSignal}
@@ -14,7 +14,7 @@ given false a b h = cc
 pub deck_of_parts-numbered : (signals : List NamedSignal) (outputs : List (List ℕ)) (found : List Signal) (numbers : List ℕ) → are_apart signals ≡ true
     → some_if (list_all (is_known (signal_names signals)) signals) (map (numbered (signal_names signals)) signals) ≡ Some found
     → some_if (list_all (is_among (signal_names signals)) outputs) (firsts (map (place_of (signal_names signals)) outputs)) ≡ Some numbers
-    → deck_of_parts signals outputs ≡ Some (record { signals = found; outputs = numbers })
+    → deck_of_parts signals outputs ≡ Some (record { signals = found; outputs = numbers; stimuli = [] })
 deck_of_parts-numbered signals outputs found numbers apart known_signals known_outputs =
     let s = given _ _ _ known_signals in
     let o = given _ _ _ known_outputs in

@@ -1,5 +1,4 @@
 pub mod Closed
-pub mod Cuts
 pub mod Failures
 pub mod Names
 pub mod Numbers

@@ -11,11 +11,11 @@ use Rattle.kdg_text.specs.Lines.{lines_of}
 use Rattle.kdg_text.specs.declared.fault.ReadFail.{ReadFail}
 use Rattle.bench_reader.specs.declared.deck.Deck.{Deck}
 use Rattle.bench_reader.specs.declared.deck.GateKind.{GateKind}
-use Rattle.bench_reader.specs.declared.deck.GateKind.TheVariants.{Nand, Not}
+use Rattle.bench_reader.specs.declared.deck.GateKind.TheVariants.{Not, Buff}
 use Rattle.bench_reader.specs.declared.deck.Signal.{Signal}
-use Rattle.bench_reader.specs.LineForms.{LineForm, SignalLine, OutputLine, NamedForm, NamedInput, NamedGate, NamedSignal, is_name, is_name_byte, is_name_length, begins_with_at, is_arity, kind_of, names_of, declaration_of, declared_by, gate_with, gate_by, form_of_tokens, form_of}
-use Rattle.bench_reader.specs.Tokens.{tokens_of}
-use Rattle.bench_reader.specs.Decks.{signal_names, is_among, place_of, firsts, are_distinct, are_apart, is_known, is_closed, numbered, numbered_form, defined_by, output_by, deck_with, deck_of_forms, IsArity, IsWired, IsNameLength, IsDeck, most_signals}
+use Rattle.bench_reader.specs.LineForms.{LineForm, SignalLine, OutputLine, NamedForm, NamedInput, NamedGate, NamedSignal, marks, is_name, is_name_byte, is_name_length, begins_with_at, is_arity, kind_of, names_of, declaration_of, declared_by, gate_with, gate_by, form_of_tokens, form_of}
+use Rattle.kdg_text.specs.Tokens.{tokens_of}
+use Rattle.bench_reader.specs.Decks.{signal_names, is_among, place_of, firsts, are_distinct, are_apart, is_known, is_closed, numbered, numbered_form, defined_by, output_by, deck_with, deck_of_forms, IsArity, IsWired, IsNameLength, IsDeck, IsStimFor, inputs_of, most_signals}
 use Rattle.bench_reader.specs.Grammar.{forms_of, deck_of}
 use Rattle.bench_reader.specs.Statements.{Gives}
 use Rattle.bench_reader.proofs.Numbers.{place_of-within}
@@ -52,8 +52,9 @@ name-length word named =
     length-in_range (length word) (both_true (is_name_length (length word)) (not (begins_with_at word)) front.0).0
 
 arity-fits : (kind : GateKind) (n : ℕ) → is_arity kind n ≡ true → IsArity kind n
-arity-fits Nand n h = let low = (both_true (nat_lt 0 n) (nat_le n 255) h).0 in let high = (both_true (nat_lt 0 n) (nat_le n 255) h).1 in (grind (arith, nat_tests), grind (arith, nat_tests))
 arity-fits Not n h = grind (arith, nat_tests)
+arity-fits Buff n h = grind (arith, nat_tests)
+arity-fits _ n h = let low = (both_true (nat_lt 0 n) (nat_le n 255) h).0 in let high = (both_true (nat_lt 0 n) (nat_le n 255) h).1 in (grind (arith, nat_tests), grind (arith, nat_tests))
 
 declaration_of-fits : (word name : List ℕ) (form : LineForm) → IsNameLength (length name) → declaration_of word name ≡ Some form → IsFitLine form
 declaration_of-fits word name form fits said = by_tests (bytes_eq word (73 ∷ 78 ∷ 80 ∷ 85 ∷ 84 ∷ [])) (bytes_eq word (79 ∷ 85 ∷ 84 ∷ 80 ∷ 85 ∷ 84 ∷ [])) said
@@ -101,7 +102,7 @@ form_of_tokens-fits (first ∷ mark ∷ tokens) form said = by_tests (bytes_eq m
 
 lines-fit : (lines : List (List ℕ)) (forms : List LineForm) → forms_of lines ≡ Some forms → AllByRecursion IsFitLine forms
 lines-fit [] forms said = let same : [] ≡ forms = cc in subst (AllByRecursion IsFitLine) same tt
-lines-fit (line ∷ lines) forms said = by_cases (form_of line) (forms_of lines) (form_of_tokens-fits (tokens_of line)) (lines-fit lines) said
+lines-fit (line ∷ lines) forms said = by_cases (form_of line) (forms_of lines) (form_of_tokens-fits (tokens_of marks line)) (lines-fit lines) said
   where
     by_cases : (first : Option LineForm) (rest : Option (List LineForm)) → ((form : LineForm) → first ≡ Some form → IsFitLine form) → ((more : List LineForm) → rest ≡ Some more → AllByRecursion IsFitLine more)
         → option_and_then (λ form. option_map (λ more. form ∷ more) rest) first ≡ Some forms → AllByRecursion IsFitLine forms
@@ -202,12 +203,16 @@ closed-sound signals outputs fit closed =
     let count : length (map (numbered all) signals) ≡ length signals = length-map signals (numbered all) in
     let as_many : length all ≡ length (map (numbered all) signals) = length-map signals (λ (signal : NamedSignal). signal.name) ∙ sym count in
     record {
-      signal_count = rw count (few-signals (length signals) apart.1);
-      wired = signals-wired all (length (map (numbered all) signals)) signals as_many fit front.1;
+      wiring = record {
+        signal_count = rw count (few-signals (length signals) apart.1);
+        stimulus_count = omega arith;
+        wired = signals-wired all (length (map (numbered all) signals)) signals as_many fit front.1;
+        outputs_in_range = firsts-within (length (map (numbered all) signals)) (map (place_of all) outputs) (places-within all outputs _ as_many parts.1);
+        outputs_differ = AllPairs-from_pairs (λ (number later : ℕ). number ≢ later) (firsts (map (place_of all) outputs)) (firsts-differ (map (place_of all) outputs));
+        stimuli_fit = All-nil (IsStimFor (length (inputs_of (map (numbered all) signals))));
+      };
       name_lengths = lengths-fit all signals fit;
       names_differ = AllPairs-from_pairs (λ (signal later : Signal). signal.name ≢ later.name) (map (numbered all) signals) (names-differ all signals apart.0);
-      outputs_in_range = firsts-within (length (map (numbered all) signals)) (map (place_of all) outputs) (places-within all outputs _ as_many parts.1);
-      outputs_differ = AllPairs-from_pairs (λ (number later : ℕ). number ≢ later) (firsts (map (place_of all) outputs)) (firsts-differ (map (place_of all) outputs));
     }
 
 forms-sound : (forms : List LineForm) (deck : Deck) → AllByRecursion IsFitLine forms → deck_of_forms forms ≡ Some deck → IsDeck deck

@@ -1,12 +1,13 @@
 -- The deck that lines describe, and what holds of every deck.
-use Rattle.std.specs.Prelude.{◌≡◌, ◌≢◌, ℕ, suc, ◌<◌, ◌≤◌, Bool, true, ◌&&◌, not, ◌==◌, nat_le, if◌then◌else◌, List, [], ◌∷◌, length, map, filter, Option, None, Some, bytes_eq, All, AllPairs}
+use Rattle.std.specs.Prelude.{◌≡◌, ◌≢◌, ℕ, suc, ◌<◌, ◌≤◌, Bool, true, false, ◌&&◌, not, ◌==◌, nat_le, if◌then◌else◌, List, [], ◌∷◌, length, map, filter, Option, None, Some, bytes_eq, All, AllPairs}
 use Rattle.std.specs.List.{list_all, list_any, filter_map}
 use Rattle.bench_reader.specs.declared.deck.Deck.{Deck}
 use Rattle.bench_reader.specs.declared.deck.Form.{Form}
 use Rattle.bench_reader.specs.declared.deck.Form.TheVariants.{Input, Gate}
 use Rattle.bench_reader.specs.declared.deck.GateKind.{GateKind}
-use Rattle.bench_reader.specs.declared.deck.GateKind.TheVariants.{Nand, Not}
+use Rattle.bench_reader.specs.declared.deck.GateKind.TheVariants.{Not, Buff}
 use Rattle.bench_reader.specs.declared.deck.Signal.{Signal}
+use Rattle.bench_reader.specs.declared.deck.Stim.{Stim}
 use Rattle.bench_reader.specs.LineForms.{LineForm, SignalLine, OutputLine, NamedForm, NamedInput, NamedGate, NamedSignal}
 
 -- the signal that a line defines
@@ -77,6 +78,7 @@ abbrev pub deck_with : List NamedSignal → List (List ℕ) → Deck
 deck_with signals outputs = record {
   signals = map (numbered (signal_names signals)) signals;
   outputs = firsts (map (place_of (signal_names signals)) outputs);
+  stimuli = [];
 }
 
 -- the deck of these signals and outputs, if they make one
@@ -89,8 +91,9 @@ deck_of_forms forms = deck_of_parts (filter_map defined_by forms) (filter_map ou
 
 -- a gate of the kind may have n fan-ins
 abbrev pub IsArity : GateKind → ℕ → Type 0
-IsArity Nand n = (1 ≤ n) × (n ≤ 255)
 IsArity Not n = n ≡ 1
+IsArity Buff n = n ≡ 1
+IsArity _ n = (1 ≤ n) × (n ≤ 255)
 
 -- in a deck of n signals
 abbrev pub IsWired : ℕ → Form → Type 0
@@ -100,11 +103,38 @@ IsWired n (Gate kind fan_in) = IsArity kind (length fan_in) × All (λ number. n
 abbrev pub IsNameLength : ℕ → Type 0
 IsNameLength n = (1 ≤ n) × (n ≤ 64)
 
--- what holds of each deck that was read
-pub record IsDeck (deck : Deck) : Type 0 where
+abbrev pub is_input : Form → Bool
+is_input Input = true
+is_input (Gate kind fan_in) = false
+
+-- the primary inputs, in order
+abbrev pub inputs_of : List Signal → List Signal
+inputs_of signals = filter (λ signal. is_input signal.form) signals
+
+abbrev pub most_stimuli : ℕ
+most_stimuli = 65536
+
+-- the last time that a stimulus may have
+abbrev pub latest_stimulus : ℕ
+latest_stimulus = 1_000_000_000
+
+-- a stimulus of a circuit with n primary inputs
+pub record IsStimFor (n : ℕ) (stimulus : Stim) : Type 0 where
+  pub not_too_late : stimulus.time ≤ latest_stimulus
+  pub one_for_each : length stimulus.bits ≡ n
+  pub zeros_and_ones : All (λ bit. bit ≤ 1) stimulus.bits
+
+-- what a circuit needs of its deck
+pub record IsSoundlyWired (deck : Deck) : Type 0 where
   pub signal_count : length deck.signals ≤ most_signals
+  pub stimulus_count : length deck.stimuli ≤ most_stimuli
   pub wired : All (λ signal. IsWired (length deck.signals) signal.form) deck.signals
-  pub name_lengths : All (λ signal. IsNameLength (length signal.name)) deck.signals
-  pub names_differ : AllPairs (λ signal later. signal.name ≢ later.name) deck.signals
   pub outputs_in_range : All (λ number. number < length deck.signals) deck.outputs
   pub outputs_differ : AllPairs (λ number later. number ≢ later) deck.outputs
+  pub stimuli_fit : All (IsStimFor (length (inputs_of deck.signals))) deck.stimuli
+
+-- what holds of each deck that was read
+pub record IsDeck (deck : Deck) : Type 0 where
+  pub wiring : IsSoundlyWired deck
+  pub name_lengths : All (λ signal. IsNameLength (length signal.name)) deck.signals
+  pub names_differ : AllPairs (λ signal later. signal.name ≢ later.name) deck.signals

@@ -1,4 +1,3 @@
-pub mod Tokens
 pub mod LineForms
 pub mod Decks
 pub mod Grammar

@@ -3,8 +3,8 @@ use Rattle.std.specs.Prelude.{ℕ, Bool, false, ◌&&◌, not, ◌==◌, nat_lt,
 use Rattle.std.specs.List.{list_all}
 use Rattle.std.specs.Option.{option_map, option_and_then}
 use Rattle.bench_reader.specs.declared.deck.GateKind.{GateKind}
-use Rattle.bench_reader.specs.declared.deck.GateKind.TheVariants.{Nand, Not}
-use Rattle.bench_reader.specs.Tokens.{is_mark, tokens_of}
+use Rattle.bench_reader.specs.declared.deck.GateKind.TheVariants.{Nand, Not, Buff}
+use Rattle.kdg_text.specs.Tokens.{is_mark, tokens_of}
 
 -- what drives a signal, where the fan-ins are still names
 pub data NamedForm : Type 0 where
@@ -21,9 +21,13 @@ pub data LineForm : Type 0 where
   SignalLine : (signal : NamedSignal) → LineForm
   OutputLine : (name : List ℕ) → LineForm
 
+-- the bytes that are tokens of their own
+abbrev pub marks : List ℕ
+marks = codes "(),="
+
 -- a printable byte but '#' and the marks
 abbrev pub is_name_byte : ℕ → Bool
-is_name_byte b = nat_le 33 b && nat_le b 126 && not (is_mark b) && not (b == 35)
+is_name_byte b = nat_le 33 b && nat_le b 126 && not (is_mark marks b) && not (b == 35)
 
 abbrev pub begins_with_at : List ℕ → Bool
 begins_with_at [] = false
@@ -42,8 +46,9 @@ kind_of word = if bytes_eq word (codes "NAND") then Some Nand else if bytes_eq w
 
 -- whether a gate of this kind may have so many fan-ins
 abbrev pub is_arity : GateKind → ℕ → Bool
-is_arity Nand n = nat_lt 0 n && nat_le n 255
 is_arity Not n = n == 1
+is_arity Buff n = n == 1
+is_arity _ n = nat_lt 0 n && nat_le n 255
 
 -- The names of NAME ) or of NAME , and more names.
 abbrev pub names_of : List (List ℕ) → Option (List (List ℕ))
@@ -84,4 +89,4 @@ form_of_tokens (first ∷ mark ∷ tokens) =
 form_of_tokens _ = None
 
 abbrev pub form_of : List ℕ → Option LineForm
-form_of line = form_of_tokens (tokens_of line)
+form_of line = form_of_tokens (tokens_of marks line)

@@ -5,9 +5,8 @@ mod deck;
 mod outline;
 mod reader;
 mod statement;
-mod tokens;
 
-pub use deck::{Deck, Form, GateKind, Signal, SignalList};
+pub use deck::{Deck, Form, GateKind, Signal, SignalList, Stim, StimList};
 pub use reader::read_deck;
 
 #[cfg(test)]

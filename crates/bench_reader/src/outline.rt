@@ -5,7 +5,7 @@ ghost use Rattle.bench_reader.specs.Outlines.{with_line, some_if, number_of, Cla
 ghost use Rattle.bench_reader.specs.Statements.{Gives, line_form, named, spellings};
 
 use crate::statement::{Draft, DraftForm, NOT_A_DECK, Statement};
-use crate::{Deck, Form, Signal, SignalList};
+use crate::{Deck, Form, Signal, SignalList, StimList};
 use kdg_text::{NumList, ReadFail, Text};
 use std::alloc::Global;
 use std::collections::BTreeMap;
@@ -84,7 +84,12 @@ impl<'a> Outline<'a> {
     {
         let signals = self.signals(alloc)?;
         let outputs = self.output_numbers(alloc)?;
-        Ok(Deck { signals, outputs })
+        let stimuli = StimList::new(alloc);
+        Ok(Deck {
+            signals,
+            outputs,
+            stimuli,
+        })
     }
 
     fn signals(&self, alloc: Global) -> Result<SignalList, ReadFail>

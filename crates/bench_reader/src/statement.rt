@@ -4,8 +4,7 @@ ghost use Rattle.bench_reader.specs.LineForms.{kind_of, is_name, is_name_byte, i
 ghost use Rattle.bench_reader.specs.Statements.{Gives, line_form, spellings};
 
 use crate::GateKind;
-use crate::tokens::{Tokens, is_mark};
-use kdg_text::{Fault, ReadFail};
+use kdg_text::{Fault, ReadFail, Tokens};
 use std::alloc::Global;
 
 /// The answer to every input that isn't a deck.
@@ -16,6 +15,8 @@ pub(crate) const NOT_A_DECK: ReadFail = ReadFail::Bad(Fault {
 });
 
 const MOST_NAME_BYTES: usize = 64;
+
+const MARKS: &[u8] = b"(),=";
 
 const OPENING: &[u8] = b"(";
 
@@ -61,7 +62,7 @@ pub(crate) enum Statement<'a> {
 pub(crate) fn statement_of<'a>(alloc: Global, line: &'a [u8]) -> Result<Statement<'a>, ReadFail>
     ensures { Gives line_form result (form_of line.now) }
 {
-    let mut tokens = Tokens::new(line);
+    let mut tokens = Tokens::new(line, MARKS);
     let first = token(&mut tokens)?;
     let mark = token(&mut tokens)?;
     if mark == OPENING {
@@ -155,8 +156,8 @@ fn is_arity(kind: GateKind, fan_ins: usize) -> bool
     ensures { result ≡ is_arity kind fan_ins }
 {
     match kind {
-        GateKind::Nand => 0 < fan_ins && fan_ins <= 255,
-        GateKind::Not => fan_ins == 1,
+        GateKind::Not | GateKind::Buff => fan_ins == 1,
+        _ => 0 < fan_ins && fan_ins <= 255,
     }
 }
 
@@ -181,5 +182,5 @@ fn has_name_bytes(word: &[u8]) -> bool
 fn is_name_byte(byte: u8) -> bool
     ensures { result ≡ is_name_byte byte }
 {
-    33 <= byte && byte <= 126 && !is_mark(byte) && byte != b'#'
+    33 <= byte && byte <= 126 && !MARKS.contains(&byte) && byte != b'#'
 }

@@ -24,6 +24,7 @@ fn described(alloc: Global, deck: &Deck) -> Result<Vec<u8>, Fail> {
                 let word: &[u8] = match kind {
                     GateKind::Nand => b" nand",
                     GateKind::Not => b" not",
+                    _ => b" other",
                 };
                 text.extend_from_slice(word)?;
                 push_numbers(alloc, &mut text, fan_in.items())?;

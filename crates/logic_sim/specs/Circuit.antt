@@ -2,7 +2,7 @@
 use Rattle.std.specs.Prelude.{◌≡◌, ℕ, ◌*◌, ◌%◌, ◌<◌, ◌≤◌, ◌⊎◌, IsTrue, List, length, map, replicate, All}
 use Rattle.std.specs.List.{flat_map}
 use Rattle.bench_reader.specs.declared.deck.Deck.{Deck}
-use Rattle.bench_reader.specs.Decks.{IsDeck}
+use Rattle.bench_reader.specs.Decks.{IsSoundlyWired}
 use Rattle.task_order.specs.declared.task.Body.{Body}
 use Rattle.task_order.specs.declared.start.Start.{Start}
 use Rattle.logic_sim.specs.Event.{Simulation, change_kind, eval_kind, eval_at, final_line, value_in}
@@ -13,7 +13,7 @@ IsBit value = value ≤ 1
 
 -- two cells for each signal of a deck, each 0 or 1
 pub record IsFitCells (c : Simulation) (cells : List ℕ) : Type 0 where
-  pub deck : IsDeck c.deck
+  pub deck : IsSoundlyWired c.deck
   pub count : length cells ≡ 2 * length c.deck.signals
   pub bits : All IsBit cells
 

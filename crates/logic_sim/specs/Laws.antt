@@ -6,7 +6,7 @@ use Rattle.std.proofs.lemmas.List.{length-map}
 use Rattle.std.proofs.lemmas.List.Elements.{All-set}
 use Rattle.std.proofs.lemmas.List.FromFn.{length-range_with_len}
 use Rattle.std.proofs.lemmas.List.Sums.{count_by-le-length, length-filter}
-use Rattle.bench_reader.specs.Decks.{IsDeck}
+use Rattle.bench_reader.specs.Decks.{IsSoundlyWired}
 use Rattle.bench_reader.specs.declared.deck.Deck.{Deck}
 use Rattle.bench_reader.specs.declared.deck.Form.{Form}
 use Rattle.bench_reader.specs.declared.deck.Form.TheVariants.{Input, Gate}
@@ -72,7 +72,7 @@ start_tasks-fit c =
     all_mapped _ (eval_at 0) _ (filter_range _ (λ number. is_gate (signal_at c.deck.signals number).form) 0 (length c.deck.signals)
     (λ z below gate. eval_at-fit c 0 z (omega arith) gate))
 
-pub start_tasks-few : (deck : Deck) → IsDeck deck → length (start_tasks deck) ≤ 4096
+pub start_tasks-few : (deck : Deck) → IsSoundlyWired deck → length (start_tasks deck) ≤ 4096
 start_tasks-few deck read =
     omega (arith, length-map (gates_of deck.signals) (eval_at 0), length-filter_range (λ number. is_gate (signal_at deck.signals number).form) (length deck.signals), read.signal_count)
 

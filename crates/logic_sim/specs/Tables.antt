@@ -3,7 +3,7 @@ use Rattle.std.specs.Prelude.{◌≡◌, ◌==◌, ℕ, ◌-◌, ◌<◌, ◌≤
 use Rattle.std.specs.Option.{option_map_or}
 use Rattle.bench_reader.specs.declared.deck.Deck.{Deck}
 use Rattle.bench_reader.specs.declared.deck.Signal.{Signal}
-use Rattle.bench_reader.specs.Decks.{IsDeck}
+use Rattle.bench_reader.specs.Decks.{IsSoundlyWired}
 use Rattle.logic_sim.specs.Circuit.{latest}
 use Rattle.logic_sim.specs.Wiring.{is_among, readers_among}
 
@@ -32,7 +32,7 @@ pub record MarksOutputs (outputs : List ℕ) (n : ℕ) (marks : List Bool) : Typ
 
 -- what holds of each circuit
 pub record IsPrepared (deck : Deck) (until : ℕ) (readers : List (List ℕ)) (is_output : List Bool) : Type 0 where
-  pub deck_read : IsDeck deck
+  pub deck_read : IsSoundlyWired deck
   pub not_too_late : until ≤ latest
   pub all_readers : ListsReaders deck.signals (length deck.signals) readers
   pub all_outputs : MarksOutputs deck.outputs (length deck.signals) is_output

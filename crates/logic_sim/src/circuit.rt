@@ -1,5 +1,5 @@
 ghost use Rattle.std.specs.Prelude.{◌≡◌, ◌+◌, ◌*◌, ◌^◌, ◌<◌, ◌≤◌, IsTrue, [], length, IfOk, OnOk};
-ghost use Rattle.bench_reader.specs.Decks.{IsDeck};
+ghost use Rattle.bench_reader.specs.Decks.{IsSoundlyWired};
 ghost use Rattle.app_laws.specs.Laws.{AllFit};
 ghost use Rattle.logic_sim.specs.Circuit.{IsFitCells, IsFitTask, finals_of, latest, start_cells, start_tasks};
 ghost use Rattle.logic_sim.specs.Event.{act_of, change_of, eval_of};
@@ -43,7 +43,7 @@ impl Model for Circuit {
 impl Circuit {
     /// The circuit of a deck, in which nothing happens after the time `until`.
     pub fn new(alloc: Global, deck: Deck, until: u64) -> Result<Circuit, NoRoom>
-        requires deck { IsDeck deck }
+        requires deck { IsSoundlyWired deck }
         requires until { until ≤ latest }
         ensures { IfOk result (λ circuit. circuit ≡ record { deck = deck; until = until }) }
     {

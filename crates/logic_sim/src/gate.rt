@@ -10,8 +10,12 @@ pub(crate) fn output_of(kind: GateKind, ones: usize, inputs: usize) -> u8
     ensures { result ≡ bit_of (is_high kind ones inputs) }
 {
     let is_high = match kind {
+        GateKind::And => ones == inputs,
         GateKind::Nand => ones != inputs,
-        GateKind::Not => ones == 0,
+        GateKind::Or | GateKind::Buff => ones != 0,
+        GateKind::Nor | GateKind::Not => ones == 0,
+        GateKind::Xor => ones % 2 == 1,
+        GateKind::Xnor => ones % 2 != 1,
     };
     u8::from(is_high)
 }
