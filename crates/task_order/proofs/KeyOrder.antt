@@ -3,12 +3,13 @@ use Rattle.std.specs.Cmp.{nat_cmp_total, tied_itself}
 use Rattle.std.specs.Cmp.Lexicographic.{slice_cmp}
 use Rattle.std.specs.declared.cmp.Ordering.{Ordering}
 use Rattle.std.specs.declared.cmp.Ordering.TheVariants.{Less, Equal, Greater}
-use Rattle.std.specs.Ordering.{nat_cmp, ordering_then, ordering_reverse}
-use Rattle.std.proofs.Common.{◌≡◌, ◌≢◌, ℕ, ◌<◌, ◌≤◌, List, [], ◌∷◌, ◌++◌, refl, sym, ◌∙◌, ap, arith}
+use Rattle.std.specs.Ordering.{nat_cmp, ordering_then, ordering_reverse, is_lt}
+use Rattle.std.proofs.Common.{◌≡◌, ◌≢◌, ℕ, ◌<◌, ◌≤◌, ◌⊎◌, inl, inr, true, List, [], ◌∷◌, ◌++◌, refl, sym, ◌∙◌, ap, arith}
 use Rattle.std.proofs.lemmas.Bool.Decides.{nat_tests}
 use Rattle.std.proofs.lemmas.Map.Lookups.{exact_unsigned, exact_bytes, exact_pairs}
 use Rattle.task_order.specs.declared.key.Key.{Key}
 use Rattle.task_order.specs.Key.{key_cmp, key_cmp_total, IsExactOrder, ChildrenComeLater, ChildrenComeInTurn}
+use Rattle.task_order.specs.Laws.{EarlierIsConnected, EarlierIsTurned}
 
 nat_cmp-same : (n : ℕ) → nat_cmp n n ≡ Equal
 nat_cmp-same = tied_itself nat_cmp_total
@@ -38,6 +39,22 @@ key_cmp-turned a b greater = key_cmp_total.antisymm b a ∙ ap ordering_reverse 
 
 pub key_cmp-turned_back : (a b : Key) → key_cmp a b ≡ Less → key_cmp b a ≡ Greater
 key_cmp-turned_back a b earlier = key_cmp_total.antisymm b a ∙ ap ordering_reverse earlier
+
+pub earlier_turned : EarlierIsTurned
+earlier_turned a b = (key_cmp-turned_back a b, key_cmp-turned b a)
+
+connected_by : (a b : Key) (o : Ordering) → key_cmp a b ≡ o → a ≢ b → (key_cmp a b ≡ Less) ⊎ (key_cmp b a ≡ Less)
+connected_by a b Less is differ = inl is
+connected_by a b Equal is differ = absurd (differ (key_cmp-exact a b is))
+connected_by a b Greater is differ = inr (key_cmp-turned a b is)
+
+pub earlier_connected : EarlierIsConnected
+earlier_connected a b = connected_by a b _ refl
+
+pub Less_from_test : (o : Ordering) → is_lt o ≡ true → o ≡ Less
+Less_from_test Less is = refl
+Less_from_test Equal is = cc
+Less_from_test Greater is = cc
 
 -- a path comes before each that goes on from it
 slice_cmp-longer : (path : List ℕ) (number : ℕ) → slice_cmp nat_cmp path (path ++ number ∷ []) ≡ Less

@@ -1,2 +1,5 @@
 pub mod KeyOrder
 pub mod TaskLists
+pub mod Fronts
+pub mod Distinct
+pub mod Without

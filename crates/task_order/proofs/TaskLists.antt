@@ -1,17 +1,68 @@
 -- What follows for lists of tasks in key order.
 use Rattle.std.proofs.Common.{◌≡◌, ◌≢◌, ◌+◌, Bool, true, false, cond, List, [], ◌∷◌, ◌++◌, length, refl, sym, ◌∙◌, ap, arith}
 use Rattle.std.specs.BTreeSet.{insert_key}
-use Rattle.std.specs.List.{AllByRecursion}
+use Rattle.std.specs.Prelude.{◌↔◌}
+use Rattle.std.specs.List.{AllByRecursion, filter}
 use Rattle.std.specs.List.Sorted.{IsPermutation, IsStrictlySortedBy}
 use Rattle.std.specs.declared.cmp.Ordering.{Ordering}
 use Rattle.std.specs.declared.cmp.Ordering.TheVariants.{Less, Equal, Greater}
-use Rattle.std.specs.Ordering.{match_ordering, is_lt}
+use Rattle.std.specs.Ordering.{match_ordering, is_lt, is_eq}
 use Rattle.std.proofs.lemmas.List.Sorted.{IsPermutation-refl, IsPermutation-cons, IsPermutation-trans, IsPermutation-swap}
 use Rattle.task_order.specs.declared.key.Key.{Key}
 use Rattle.task_order.specs.declared.task.Task.{Task}
 use Rattle.task_order.specs.Key.{key_cmp, key_cmp_total}
-use Rattle.task_order.specs.TaskList.{IsAscending, IsNewKey, put_in, put_all}
-use Rattle.task_order.proofs.KeyOrder.{key_cmp-exact, key_cmp-turned, key_cmp-turned_back, differ_from_earlier}
+use Rattle.task_order.specs.TaskList.{IsAscending, IsNewKey, put_in, put_all, has_key}
+use Rattle.task_order.proofs.KeyOrder.{key_cmp-exact, key_cmp-same, key_cmp-turned, key_cmp-turned_back, differ_from_earlier, Less_from_test}
+
+-- ---- what holds of each task
+
+pub All-weaker : {X : Type 0} (P Q : X → Type 0) → ((x : X) → P x → Q x) → (xs : List X) → AllByRecursion P xs → AllByRecursion Q xs
+All-weaker P Q weaker [] all = tt
+All-weaker P Q weaker (x ∷ xs) all = (weaker x all.0, All-weaker P Q weaker xs all.1)
+
+pub All-append : {X : Type 0} (P : X → Type 0) (xs ys : List X) → AllByRecursion P xs → AllByRecursion P ys → AllByRecursion P (xs ++ ys)
+All-append P [] ys all rest = rest
+All-append P (x ∷ xs) ys all rest = (all.0, All-append P xs ys all.1 rest)
+
+pub All-parts : {X : Type 0} (P : X → Type 0) (xs ys : List X) → AllByRecursion P (xs ++ ys) → AllByRecursion P xs × AllByRecursion P ys
+All-parts P [] ys all = (tt, all)
+All-parts P (x ∷ xs) ys all = let rest : AllByRecursion P xs × AllByRecursion P ys = All-parts P xs ys all.1 in ((all.0, rest.0), rest.1)
+
+pub All-filter : {X : Type 0} (P : X → Type 0) (p : X → Bool) (xs : List X) → AllByRecursion P xs → AllByRecursion P (filter p xs)
+All-filter P p [] all = tt
+All-filter P p (x ∷ xs) all = elim (p x) as (λ test. AllByRecursion P (cond test (x ∷ filter p xs) (filter p xs))) [
+  | true ↦ (all.0, All-filter P p xs all.1)
+  | false ↦ All-filter P p xs all.1
+]
+
+pub filter-all : {X : Type 0} (p : X → Bool) (xs : List X) → AllByRecursion (λ x. p x ≡ true) xs → filter p xs ≡ xs
+filter-all p [] all = refl
+filter-all p (x ∷ xs) all = ap (λ test. cond test (x ∷ filter p xs) (filter p xs)) all.0 ∙ ap (λ rest. x ∷ rest) (filter-all p xs all.1)
+
+pub filter-none : {X : Type 0} (p : X → Bool) (xs : List X) → AllByRecursion (λ x. p x ≡ false) xs → filter p xs ≡ []
+filter-none p [] all = refl
+filter-none p (x ∷ xs) all = ap (λ test. cond test (x ∷ filter p xs) (filter p xs)) all.0 ∙ filter-none p xs all.1
+
+-- some tasks of an ascending list ascend too
+pub IsAscending-filter : (p : Task → Bool) (tasks : List Task) → IsAscending tasks → IsAscending (filter p tasks)
+IsAscending-filter p [] up = tt
+IsAscending-filter p (task ∷ tasks) up = elim (p task) as (λ test. IsAscending (cond test (task ∷ filter p tasks) (filter p tasks))) [
+  | true ↦ (All-filter (λ other. key_cmp task.key other.key ≡ Less) p tasks up.0, IsAscending-filter p tasks up.1)
+  | false ↦ IsAscending-filter p tasks up.1
+]
+
+-- ---- the test for a key
+
+Equal_from_test : (o : Ordering) → is_eq o ≡ true → o ≡ Equal
+Equal_from_test Less is = cc
+Equal_from_test Equal is = refl
+Equal_from_test Greater is = cc
+
+pub has_from_test : (key : Key) (task : Task) → has_key key task ≡ true → task.key ≡ key
+has_from_test key task is = key_cmp-exact task.key key (Equal_from_test _ is)
+
+pub test_from_has : (key : Key) (task : Task) → task.key ≡ key → has_key key task ≡ true
+test_from_has key task same = ap (λ k. is_eq (key_cmp k key)) same ∙ ap is_eq (key_cmp-same key)
 
 -- ---- what an ordered set keeps and does
 
@@ -64,6 +115,10 @@ all_from_put_in P task (other ∷ tasks) all =
     ] in
     by_case (is_past task other) all
 
+pub new_key_put_in : (key : Key) (task : Task) (tasks : List Task) → IsNewKey key (put_in task tasks) ↔ ((task.key ≢ key) × IsNewKey key tasks)
+new_key_put_in key task tasks =
+    (all_from_put_in (λ other. other.key ≢ key) task tasks, λ new. AllByRecursion-put_in (λ other. other.key ≢ key) task tasks new.0 new.1)
+
 -- the key stays new where another task is put in
 pub IsNewKey-put_in : (key : Key) (task : Task) (tasks : List Task) → task.key ≢ key → IsNewKey key tasks → IsNewKey key (put_in task tasks)
 IsNewKey-put_in key task tasks differs new = AllByRecursion-put_in (λ other. other.key ≢ key) task tasks differs new
@@ -80,6 +135,10 @@ put_in-first task (other ∷ tasks) all = ap (λ o. cond (is_lt o) (other ∷ pu
 -- and behind an earlier one
 pub put_in-behind : (task other : Task) (tasks : List Task) → key_cmp other.key task.key ≡ Less → put_in task (other ∷ tasks) ≡ other ∷ put_in task tasks
 put_in-behind task other tasks earlier = ap (λ o. cond (is_lt o) (other ∷ put_in task tasks) (task ∷ other ∷ tasks)) earlier
+
+pub put_in-last : (task : Task) (tasks : List Task) → AllByRecursion (λ other. key_cmp other.key task.key ≡ Less) tasks → put_in task tasks ≡ tasks ++ task ∷ []
+put_in-last task [] all = refl
+put_in-last task (other ∷ tasks) all = put_in-behind task other tasks all.0 ∙ ap (λ rest. other ∷ rest) (put_in-last task tasks all.1)
 
 ascending_step : (task other : Task) (tasks : List Task) (o : Ordering) → key_cmp other.key task.key ≡ o → other.key ≢ task.key → IsAscending (other ∷ tasks) → IsAscending (put_in task tasks)
     → IsAscending (cond (is_lt o) (other ∷ put_in task tasks) (task ∷ other ∷ tasks))
@@ -119,11 +178,6 @@ stops_before_both : (task next other : Task) (tasks rest : List Task) (past : Bo
     → put_in task (cond past (other ∷ rest) (next ∷ other ∷ tasks)) ≡ task ∷ cond past (other ∷ rest) (next ∷ other ∷ tasks)
 stops_before_both task next other tasks rest true earlier not_past = stops_at_head task other rest _ refl not_past
 stops_before_both task next other tasks rest false earlier not_past = stops_at_head task next (other ∷ tasks) Greater (key_cmp-turned_back task.key next.key earlier) refl
-
-Less_from_test : (o : Ordering) → is_lt o ≡ true → o ≡ Less
-Less_from_test Less is = refl
-Less_from_test Equal is = cc
-Less_from_test Greater is = cc
 
 earlier_step : (task next other : Task) (tasks : List Task) → key_cmp task.key next.key ≡ Less → (past : Bool) → is_past task other ≡ past
     → put_in task (put_in next tasks) ≡ put_in next (put_in task tasks) → put_in task (put_in next (other ∷ tasks)) ≡ put_in next (put_in task (other ∷ tasks))

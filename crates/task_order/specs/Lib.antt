@@ -1,2 +1,3 @@
 pub mod Key
 pub mod TaskList
+pub mod Laws

@@ -2,12 +2,16 @@
 #![tactic(auto)]
 
 mod key;
+mod laws;
 mod path;
 mod start;
 mod task;
 mod task_list;
 
 pub use key::{Key, key_order};
+pub use laws::{
+    ascending_laws, before_laws, earlier_laws, put_all_laws, put_in_laws, without_laws,
+};
 pub use path::Path;
 pub use start::{Start, StartList};
 pub use task::{Body, Task};
