@@ -1,5 +1,7 @@
 pub mod Accesses
 pub mod Merged
 pub mod Lookups
+pub mod Independence
+pub mod Pairs
 mod Places
 mod Skips

@@ -1,4 +1,4 @@
--- What a search finds in an ascending list, and what an access added at that place leaves.
+-- What a search finds in an ascending list, and what an access that is put in there leaves.
 use Rattle.std.proofs.Common.{◌≡◌, ℕ, zero, suc, ◌-◌, ◌<◌, ◌≤◌, [], ◌∷◌, length, get_or, set, Some, None, Result, Ok, Err, IfOk, IfErr, refl, sym, ap, ◌∙◌, arith}
 use Rattle.std.specs.List.{insert}
 use Rattle.std.specs.List.Sorted.{IsSearchInRange, IsBinarySearchResult, IsNonDecreasingBy}
@@ -9,10 +9,10 @@ use Rattle.std.proofs.lemmas.List.Sorted.{IsNonDecreasingBy-from_default}
 use Rattle.std.proofs.lemmas.Bool.Decides.{nat_tests}
 use Rattle.rw_sets.specs.declared.access.Access.{Access}
 use Rattle.rw_sets.specs.declared.access.Access.TheVariants.{Read}
-use Rattle.rw_sets.specs.Accesses.{Accesses, AllBeyond, IsAscending, access_at, stronger, added}
+use Rattle.rw_sets.specs.Accesses.{Accesses, AllBeyond, IsAscending, access_at, stronger, put_access}
 use Rattle.rw_sets.specs.Places.{location_at, IsAt, IsGapFor}
 use Rattle.rw_sets.proofs.Accesses.{access_first, access_other}
-use Rattle.rw_sets.proofs.Merged.{added_below, added_at, added_above}
+use Rattle.rw_sets.proofs.Merged.{put_below, put_at, put_above}
 
 -- the access at place i
 abbrev access_in : Accesses → ℕ → Access
@@ -99,17 +99,17 @@ absent_in_gap (q ∷ l) loc (suc i) h =
     access_other q l loc (λ e. omega arith) ∙ absent_in_gap l loc i (gap_tail q l loc i h)
 
 -- the pair at the place is written over
-added_at_place : (l : Accesses) (p : ℕ × Access) (i : ℕ) → IsAscending l → IsAt l p.0 i → added l p ≡ set l i (p.0, stronger (access_in l i) p.1)
-added_at_place [] p i up h = absurd (omega (arith, h.in_range))
-added_at_place (q ∷ l) p zero up h = added_at q p l (sym h.here) ∙ ap (λ n. (n, stronger q.1 p.1) ∷ l) h.here
-added_at_place (q ∷ l) p (suc i) up h = added_above q p l (first_below q l p.0 i up h) ∙ ap (λ r. q ∷ r) (added_at_place l p i up.1 (at_tail q l p.0 i h))
+put_at_place : (l : Accesses) (p : ℕ × Access) (i : ℕ) → IsAscending l → IsAt l p.0 i → put_access l p ≡ set l i (p.0, stronger (access_in l i) p.1)
+put_at_place [] p i up h = absurd (omega (arith, h.in_range))
+put_at_place (q ∷ l) p zero up h = put_at q p l (sym h.here) ∙ ap (λ n. (n, stronger q.1 p.1) ∷ l) h.here
+put_at_place (q ∷ l) p (suc i) up h = put_above q p l (first_below q l p.0 i up h) ∙ ap (λ r. q ∷ r) (put_at_place l p i up.1 (at_tail q l p.0 i h))
 
 -- or the pair is inserted in the gap
-pub added_in_gap : (l : Accesses) (p : ℕ × Access) (i : ℕ) → IsGapFor l p.0 i → added l p ≡ insert l i p
-added_in_gap [] p zero h = refl
-added_in_gap [] p (suc i) h = absurd (omega (arith, h.in_range))
-added_in_gap (q ∷ l) p zero h = added_below q p l (h.higher_after 0 (omega arith) (omega arith))
-added_in_gap (q ∷ l) p (suc i) h = added_above q p l (h.lower_before 0 (omega arith)) ∙ ap (λ r. q ∷ r) (added_in_gap l p i (gap_tail q l p.0 i h))
+pub put_in_gap : (l : Accesses) (p : ℕ × Access) (i : ℕ) → IsGapFor l p.0 i → put_access l p ≡ insert l i p
+put_in_gap [] p zero h = refl
+put_in_gap [] p (suc i) h = absurd (omega (arith, h.in_range))
+put_in_gap (q ∷ l) p zero h = put_below q p l (h.higher_after 0 (omega arith) (omega arith))
+put_in_gap (q ∷ l) p (suc i) h = put_above q p l (h.lower_before 0 (omega arith)) ∙ ap (λ r. q ∷ r) (put_in_gap l p i (gap_tail q l p.0 i h))
 
 -- the pair that is read at the place, as an index gives it
 module _ (l : Accesses) (loc i : ℕ) (p : ℕ × Access) (up : IsAscending l) (at : IsAt l loc i) (read : p ≡ get_or l i p) where
@@ -119,5 +119,5 @@ module _ (l : Accesses) (loc i : ℕ) (p : ℕ × Access) (up : IsAscending l) (
   pub access_read : access_at l loc ≡ Some p.1
   access_read = access_at_place l loc i up at ∙ ap Some (sym is_read)
 
-  pub written_over : (x new : Access) → new ≡ stronger p.1 x → set l i (loc, new) ≡ added l (loc, x)
-  written_over x new e = ap (λ (y : Access). set l i (loc, y)) (e ∙ ap (λ y. stronger y x) is_read) ∙ sym (added_at_place l (loc, x) i up at)
+  pub written_over : (x new : Access) → new ≡ stronger p.1 x → set l i (loc, new) ≡ put_access l (loc, x)
+  written_over x new e = ap (λ (y : Access). set l i (loc, y)) (e ∙ ap (λ y. stronger y x) is_read) ∙ sym (put_at_place l (loc, x) i up at)

@@ -1,5 +1,6 @@
 -- A set of locations, each with the access to it, as a list of pairs.
-use Rattle.std.specs.Prelude.{ℕ, ◌<◌, Bool, true, false, List, [], ◌∷◌, Option, Some, None, IsTrue, nat_lt, ◌==◌, if◌then◌else◌}
+use Rattle.std.specs.Prelude.{◌≡◌, ℕ, ◌<◌, Bool, true, false, ◌||◌, List, [], ◌∷◌, Option, Some, None, IsSome, IsTrue, nat_lt, ◌==◌, if◌then◌else◌}
+use Rattle.std.specs.List.{list_any}
 use Rattle.rw_sets.specs.declared.access.Access.{Access}
 use Rattle.rw_sets.specs.declared.access.Access.TheVariants.{Read, Write}
 
@@ -45,12 +46,11 @@ joined None y = y
 joined (Some x) None = Some x
 joined (Some x) (Some y) = Some (stronger x y)
 
--- both sets have an access, and at least one of them is Write
+-- at least one of the two is Write
 abbrev pub excludes : Access → Access → Bool
-excludes Read Read = false
-excludes Read Write = true
-excludes Write y = true
+excludes x y = is_write x || is_write y
 
+-- both sets have an access, and the two exclude each other
 abbrev pub clash : Option Access → Option Access → Bool
 clash None y = false
 clash (Some x) None = false
@@ -59,6 +59,19 @@ clash (Some x) (Some y) = excludes x y
 -- the sets share a location, and at least one of them writes it
 abbrev pub Conflicts : Accesses → Accesses → Type 0
 Conflicts a b = (loc : ℕ) × IsTrue (clash (access_at a loc) (access_at b loc))
+
+-- whether they conflict, found by the locations of the first
+abbrev pub conflicts_with : Accesses → Accesses → Bool
+conflicts_with a b = list_any (λ p. clash (access_at a p.0) (access_at b p.0)) a
+
+-- neither set has a location that the other writes
+pub record AreIndependent (a b : Accesses) : Type 0 where
+  pub left_writes : (loc : ℕ) → IsTrue (writes a loc) → access_at b loc ≡ None
+  pub right_writes : (loc : ℕ) → IsTrue (writes b loc) → access_at a loc ≡ None
+
+-- each location of the set is below the bound
+abbrev pub IsInRange : Accesses → ℕ → Type 0
+IsInRange set bound = (loc : ℕ) → IsSome (access_at set loc) → loc < bound
 
 -- the second allows what the first does: Read is allowed by either, Write by Write
 abbrev pub allows : Access → Access → Bool
@@ -76,14 +89,14 @@ abbrev pub IsWithin : Accesses → Accesses → Type 0
 IsWithin a b = (loc : ℕ) → IsTrue (covers (access_at a loc) (access_at b loc))
 
 -- the set with one access more
-abbrev pub added : Accesses → ℕ × Access → Accesses
-added [] p = p ∷ []
-added (q ∷ qs) p =
+abbrev pub put_access : Accesses → ℕ × Access → Accesses
+put_access [] p = p ∷ []
+put_access (q ∷ qs) p =
     if nat_lt p.0 q.0 then p ∷ q ∷ qs
     else if p.0 == q.0 then (q.0, stronger q.1 p.1) ∷ qs
-    else q ∷ added qs p
+    else q ∷ put_access qs p
 
--- the first set, with each access of the second added
+-- the first set, with each access of the second put in
 abbrev pub merged : Accesses → Accesses → Accesses
 merged a [] = a
-merged a (p ∷ ps) = merged (added a p) ps
+merged a (p ∷ ps) = merged (put_access a p) ps

@@ -35,9 +35,6 @@ impl Access {
     pub fn excludes(self, other: Access) -> bool
         ensures { result ≡ excludes self other }
     {
-        match (self, other) {
-            (Access::Read, Access::Read) => false,
-            _ => true,
-        }
+        self.is_write() || other.is_write()
     }
 }

@@ -9,5 +9,5 @@ mod tests;
 mod walk;
 
 pub use access::Access;
-pub use laws::{conflict_laws, merge_laws, within_laws};
+pub use laws::{conflict_laws, independence_laws, lookup_laws, merge_laws, pair_laws, within_laws};
 pub use rw_set::RwSet;

@@ -1,5 +1,5 @@
 ghost use Rattle.std.specs.Prelude.{◌≡◌, ◌↔◌, [], ◌∷◌, IsTrue, IfSome, IfNone, IfOk, IfErr, OnOk, OnErr};
-ghost use Rattle.rw_sets.specs.Accesses.{IsAscending, access_at, Conflicts, merged};
+ghost use Rattle.rw_sets.specs.Accesses.{IsAscending, access_at, Conflicts, conflicts_with, merged};
 ghost use Rattle.rw_sets.specs.Places.{IsAt, IsGapFor};
 
 use crate::Access;
@@ -80,7 +80,8 @@ impl RwSet {
 
     /// Whether the sets share a location that at least one of them writes.
     pub fn conflicts(&self, other: &RwSet) -> bool
-        ensures { IsTrue result ↔ Conflicts self.now other.now }
+        ensures where_shared { IsTrue result ↔ Conflicts self.now other.now }
+        ensures tested { result ≡ conflicts_with self.now other.now }
     {
         pairs_conflict(self.items(), other.items())
     }
