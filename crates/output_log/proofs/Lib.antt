@@ -1,1 +1,5 @@
+pub mod Filters
+pub mod Joins
 pub mod LogEntries
+pub mod Parts
+pub mod Puts

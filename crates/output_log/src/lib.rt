@@ -1,8 +1,10 @@
 //! What the tasks wrote, kept in the order of their keys.
 #![tactic(auto)]
 
+mod laws;
 mod log;
 
+pub use laws::{join_laws, part_laws, put_laws};
 pub use log::Log;
 
 #[cfg(test)]

@@ -1,6 +1,8 @@
 ghost use Rattle.std.specs.Prelude.{◌≡◌, ◌+◌, ◌<◌, ◌≤◌, [], ◌++◌, length, take, IfOk, OnOk, OnErr};
-ghost use Rattle.output_log.specs.LogState.{IsInKeyOrder, IsNewEntry, entries_before, entries_from, with_entry, joined};
+ghost use Rattle.task_order.specs.Key.{at_key};
+ghost use Rattle.output_log.specs.Entries.{IsInKeyOrder, IsNewEntry, entries_before, entries_from, with_entry, joined_texts};
 
+use crate::laws::put_laws;
 use kdg_text::{NoRoom, Text};
 use std::alloc::Global;
 use std::collections::VecDeque;
@@ -19,7 +21,8 @@ pub struct Log {
 impl Model for Log {
     ghost use Rattle.std.specs.Prelude.{◌-◌};
     ghost use Rattle.std.specs.VecDeque.{deque_len, deque_capacity};
-    ghost use Rattle.output_log.specs.LogState.{LogState, IsInKeyOrder};
+    ghost use Rattle.output_log.specs.LogState.{LogState};
+    ghost use Rattle.output_log.specs.Entries.{IsInKeyOrder};
 
     ghost Value = { LogState };
 
@@ -56,6 +59,7 @@ impl Log {
         ensures entries { self.new.entries ≡ with_entry key text self.old.entries }
         ensures spare { self.old.spare ≤ self.new.spare + 1 }
     {
+        put_laws();
         let place = self.below(&key);
         match self.entries.insert(place, (key, text)) {
             Ok(()) => {}
@@ -65,7 +69,7 @@ impl Log {
 
     /// How many entries are earlier than the key.
     pub fn below(&self, key: &Key) -> usize
-        ensures count { result ≡ length (entries_before key.now self.now.entries) }
+        ensures count { result ≡ length (entries_before (at_key key.now) self.now.entries) }
         ensures bound { result ≤ length self.now.entries }
         ensures ordered { IsInKeyOrder self.now.entries }
     {
@@ -76,11 +80,11 @@ impl Log {
     /// Takes the entries that are earlier than the key out, and joins their texts. After `NoRoom`
     /// the log is as it was.
     pub fn take_below(&mut self, key: &Key) -> Result<Text, NoRoom>
-        ensures text { IfOk result (λ text. text ≡ joined (entries_before key.now self.old.entries)) }
-        ensures rest { OnOk result (self.new.entries ≡ entries_from key.now self.old.entries) }
+        ensures text { IfOk result (λ text. text ≡ joined_texts (entries_before (at_key key.now) self.old.entries)) }
+        ensures rest { OnOk result (self.new.entries ≡ entries_from (at_key key.now) self.old.entries) }
         ensures unchanged { OnErr result (self.new.entries ≡ self.old.entries) }
         ensures spare { self.old.spare ≤ self.new.spare }
-        ensures parts { self.old.entries ≡ entries_before key.now self.old.entries ++ entries_from key.now self.old.entries }
+        ensures parts { self.old.entries ≡ entries_before (at_key key.now) self.old.entries ++ entries_from (at_key key.now) self.old.entries }
     {
         let count = self.below(key);
         let text = self.first_texts(count)?;
@@ -92,7 +96,7 @@ impl Log {
 
     /// The texts of all entries, joined.
     pub fn all(&self) -> Result<Text, NoRoom>
-        ensures { IfOk result (λ text. text ≡ joined self.now.entries) }
+        ensures { IfOk result (λ text. text ≡ joined_texts self.now.entries) }
     {
         self.first_texts(self.entries.len())
     }
@@ -100,7 +104,7 @@ impl Log {
     /// The texts of so many entries from the first on, joined.
     fn first_texts(&self, count: usize) -> Result<Text, NoRoom>
         requires { count ≤ length self.now.entries }
-        ensures { IfOk result (λ text. text ≡ joined (take count self.now.entries)) }
+        ensures { IfOk result (λ text. text ≡ joined_texts (take count self.now.entries)) }
     {
         let mut text = Text::new(*self.entries.allocator());
         for i in 0..count {

@@ -1,12 +1,14 @@
 use Rattle.std.proofs.Common.{rules, of_calls, ◌∙◌, ap, length}
 use Rattle.std.proofs.lemmas.List.Sorted.{IsPartitionPoint-from_clause}
-use Rattle.output_log.specs.LogState.{LogState, is_earlier, entries_before}
+use Rattle.task_order.specs.Key.{at_key}
+use Rattle.output_log.specs.Entries.{is_entry_before, entries_before}
+use Rattle.output_log.specs.LogState.{LogState}
 use Rattle.output_log.proofs.LogEntries.{is_partitioned, length-before}
 use Rattle.output_log.proofs.log.Log.below.Goals as goal
 
 pub returns-clause-count : goal.returns-clause-count
 returns-clause-count c =
-    let key = c.args.key.now in
+    let bound = at_key c.args.key.now in
     let entries = c.self.inside.entries.items in
-    let point = IsPartitionPoint-from_clause (is_earlier key) entries c.partition_point.result c.partition_point.ensures.partitioned (is_partitioned key entries c.self.invariant) (λ a r f k. search (rules, of_calls)) in
-    length-before key entries c.partition_point.result (search rules) point ∙ ap (λ (log : LogState). length (entries_before key log.entries)) c.self.view_is
+    let point = IsPartitionPoint-from_clause (is_entry_before bound) entries c.partition_point.result c.partition_point.ensures.partitioned (is_partitioned bound entries c.self.invariant) (λ a r f k. search (rules, of_calls)) in
+    length-before bound entries c.partition_point.result (search rules) point ∙ ap (λ (log : LogState). length (entries_before bound log.entries)) c.self.view_is

@@ -1,7 +1,8 @@
 use Rattle.std.proofs.Common.{◌∙◌, ap, subst, sym}
 use Rattle.std.specs.List.{insert}
-use Rattle.output_log.specs.LogState.{LogState, IsInKeyOrder}
-use Rattle.output_log.proofs.LogEntries.{insert_before, IsInKeyOrder-with_entry}
+use Rattle.output_log.specs.Entries.{IsInKeyOrder}
+use Rattle.output_log.specs.LogState.{LogState}
+use Rattle.output_log.proofs.LogEntries.{insert_before}
 use Rattle.output_log.proofs.log.Log.put.Goals as goal
 
 pub returns-clause-entries : goal.returns-clause-entries
@@ -11,4 +12,4 @@ returns-clause-entries c =
 
 pub invariant_of-self : goal.invariant_of-self
 invariant_of-self c =
-    subst IsInKeyOrder (sym (returns-clause-entries c)) (IsInKeyOrder-with_entry c.args.key c.args.text c.args.self.now.entries c.requires.new c.below-place.ensures.ordered)
+    subst IsInKeyOrder (sym (returns-clause-entries c)) (c.put_laws.ensures.order c.args.key c.args.text c.args.self.now.entries c.requires.new c.below-place.ensures.ordered)
