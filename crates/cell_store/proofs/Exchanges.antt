@@ -8,7 +8,7 @@ use Rattle.rw_sets.specs.Accesses.{Accesses, AllBeyond, IsAscending, is_write, w
 use Rattle.cell_store.specs.declared.cell.Cell.{Cell}
 use Rattle.cell_store.specs.declared.cell.Cell.TheVariants.{Out}
 use Rattle.cell_store.specs.Part.{Part}
-use Rattle.cell_store.specs.Cells.{cell_at, held_at, cell_in, cells_given, rewritten}
+use Rattle.cell_store.specs.Cells.{cell_at, held_at, cell_in, cells_given, with_written}
 use Rattle.cell_store.proofs.Locations.{writes_first, writes_other, unwritten_beyond, held_first, held_other}
 use Rattle.cell_store.proofs.Parts.{length-each_from, cell_given, same_cells}
 
@@ -65,13 +65,13 @@ module _ {V : Type 0} where
   given_none home hs = same_cells _ _ (length_given home (part [] hs)) (λ loc within. cell_given home (part [] hs) loc (omega (arith, length_given home (part [] hs))))
 
   -- a write at one location doesn't change what is read further on
-  rewritten_beyond : (home : List (Cell V)) (n : ℕ) (h : Cell V) (ps : Accesses) (hs : List (Cell V)) → AllBeyond n ps → rewritten (cell_at (set home n h)) ps hs ≡ rewritten (cell_at home) ps hs
-  rewritten_beyond home n h [] hs beyond = refl
-  rewritten_beyond home n h (p ∷ ps) [] beyond = refl
-  rewritten_beyond home n h ((m, Read) ∷ ps) (c ∷ cs) beyond = ap (λ rest. c ∷ rest) (rewritten_beyond home n h ps cs beyond.1)
-  rewritten_beyond home n h ((m, Write) ∷ ps) (c ∷ cs) beyond =
+  with_written_beyond : (home : List (Cell V)) (n : ℕ) (h : Cell V) (ps : Accesses) (hs : List (Cell V)) → AllBeyond n ps → with_written (cell_at (set home n h)) ps hs ≡ with_written (cell_at home) ps hs
+  with_written_beyond home n h [] hs beyond = refl
+  with_written_beyond home n h (p ∷ ps) [] beyond = refl
+  with_written_beyond home n h ((m, Read) ∷ ps) (c ∷ cs) beyond = ap (λ rest. c ∷ rest) (with_written_beyond home n h ps cs beyond.1)
+  with_written_beyond home n h ((m, Write) ∷ ps) (c ∷ cs) beyond =
       let here = get_or-set_other home n m h Out (λ e. omega (arith, beyond.0)) in
-      let rest = rewritten_beyond home n h ps cs beyond.1 in
+      let rest = with_written_beyond home n h ps cs beyond.1 in
       cc
 
   -- what is done and what is left of an exchange, at place i
@@ -79,12 +79,12 @@ module _ {V : Type 0} where
     pub same_length : length home ≡ length home0
     pub one_each : length held ≡ length ps
     pub home_left : cells_given home (part (drop i ps) (drop i held)) ≡ cells_given home0 (part ps held0)
-    pub held_left : take i held ++ rewritten (cell_at home) (drop i ps) (drop i held) ≡ rewritten (cell_at home0) ps held0
+    pub held_left : take i held ++ with_written (cell_at home) (drop i ps) (drop i held) ≡ with_written (cell_at home0) ps held0
 
   pub exchange_start : (home : List (Cell V)) (ps : Accesses) (held : List (Cell V)) → length held ≡ length ps → Exchanging home ps held 0 home held
   exchange_start home ps held e = record { same_length = refl; one_each = e; home_left = refl; held_left = refl }
 
-  pub exchange_end : (home0 : List (Cell V)) (ps : Accesses) (held0 home held : List (Cell V)) (i : ℕ) → i ≡ length ps → Exchanging home0 ps held0 i home held → record { home : home ≡ cells_given home0 (part ps held0); held : held ≡ rewritten (cell_at home0) ps held0 }
+  pub exchange_end : (home0 : List (Cell V)) (ps : Accesses) (held0 home held : List (Cell V)) (i : ℕ) → i ≡ length ps → Exchanging home0 ps held0 i home held → record { home : home ≡ cells_given home0 (part ps held0); held : held ≡ with_written (cell_at home0) ps held0 }
   exchange_end home0 ps held0 home held i e h =
       let no-pairs : drop i ps ≡ [] = drop_all i ps (omega arith) in
       let all : take i held ≡ held = take_all i held (omega (arith, h.one_each)) in
@@ -122,5 +122,5 @@ module _ {V : Type 0} where
         same_length = length-set home n cell ∙ h.same_length;
         one_each = length-set held i (cell_at home n) ∙ h.one_each;
         home_left = rw (drop-set-lt (i + 1) held i (cell_at home n) (omega arith)) (sym (given_write home n (drop (i + 1) ps) cell (drop (i + 1) held) beyond.0 within) ∙ left);
-        held_left = rw (drop-set-lt (i + 1) held i (cell_at home n) (omega arith), take_more_set held i (cell_at home n) in-held, append_assoc, rewritten_beyond home n cell (drop (i + 1) ps) (drop (i + 1) held) beyond.0) done;
+        held_left = rw (drop-set-lt (i + 1) held i (cell_at home n) (omega arith), take_more_set held i (cell_at home n) in-held, append_assoc, with_written_beyond home n cell (drop (i + 1) ps) (drop (i + 1) held) beyond.0) done;
       }

@@ -2,3 +2,5 @@ pub mod Locations
 pub mod Parts
 mod Exchanges
 mod Returns
+mod Independent
+mod Values

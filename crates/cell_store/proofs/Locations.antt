@@ -1,16 +1,16 @@
 -- What a set has at its locations, and the cells that go with them.
-use Rattle.std.proofs.Common.{◌≡◌, ℕ, zero, suc, ◌<◌, true, false, eqb, cond, List, [], ◌∷◌, length, map, get_or, set, Option, Some, None, IsSome, IsTrue, refl, sym, ap, ◌∙◌, subst, inl, inr, arith}
+use Rattle.std.proofs.Common.{◌≡◌, ℕ, zero, suc, ◌<◌, true, false, eqb, cond, List, [], ◌∷◌, length, map, get_or, set, Option, Some, None, IsSome, is_some, IsTrue, refl, sym, ap, ◌∙◌, subst, inl, inr, arith}
 use Rattle.std.proofs.lemmas.List.{get_or_default}
 use Rattle.std.proofs.lemmas.Bool.{cases_eq, false≢true}
 use Rattle.std.proofs.lemmas.Bool.Decides.{nat_tests}
 use Rattle.rw_sets.specs.declared.access.Access.{Access}
 use Rattle.rw_sets.specs.declared.access.Access.TheVariants.{Read, Write}
-use Rattle.rw_sets.specs.Accesses.{Accesses, AllBeyond, IsAscending, access_at, is_write, allows_write, writes}
+use Rattle.rw_sets.specs.Accesses.{Accesses, AllBeyond, IsAscending, access_at, is_write, allows_write, writes, covers, IsWithin}
 use Rattle.rw_sets.specs.Places.{location_at, IsAt}
 use Rattle.cell_store.specs.declared.cell.Cell.{Cell}
 use Rattle.cell_store.specs.declared.cell.Cell.TheVariants.{Out}
 use Rattle.cell_store.specs.Home.{IsHome}
-use Rattle.cell_store.specs.Cells.{cell_at, held_at, rewritten, put_at}
+use Rattle.cell_store.specs.Cells.{cell_at, held_at, with_written, put_at}
 
 pub access_first : (p : ℕ × Access) (ps : Accesses) (loc : ℕ) → p.0 ≡ loc → access_at (p ∷ ps) loc ≡ Some p.1
 access_first p ps loc e = grind (arith, nat_tests)
@@ -58,6 +58,12 @@ has_in_place (p ∷ ps) (suc i) d lt = elim (cases_eq p.0 (get_or ps i d).0) [
   | inr differs ↦ rw (access_other p ps (get_or ps i d).0 differs) (has_in_place ps i d (omega arith))
 ]
 
+pub has_later : (p : ℕ × Access) (ps : Accesses) (loc : ℕ) → IsSome (access_at ps loc) → IsSome (access_at (p ∷ ps) loc)
+has_later p ps loc has = elim (cases_eq p.0 loc) [
+  | inl same ↦ rw (access_first p ps loc same) refl
+  | inr differs ↦ rw (access_other p ps loc differs) has
+]
+
 -- what is written is there
 pub has_from_writes : (ps : Accesses) (loc : ℕ) → IsTrue (writes ps loc) → IsSome (access_at ps loc)
 has_from_writes ps loc h = some_from (access_at ps loc) h
@@ -65,6 +71,17 @@ has_from_writes ps loc h = some_from (access_at ps loc) h
     some_from : (x : Option Access) → IsTrue (allows_write x) → IsSome x
     some_from None k = absurd (false≢true k)
     some_from (Some x) k = refl
+
+-- what lies within another set is written there
+pub writes_within : (a b : Accesses) → IsWithin a b → (loc : ℕ) → IsTrue (writes a loc) → IsTrue (writes b loc)
+writes_within a b within loc = covered (access_at a loc) (access_at b loc) (within loc)
+  where
+    covered : (x y : Option Access) → IsTrue (covers x y) → IsTrue (allows_write x) → IsTrue (allows_write y)
+    covered None y h written = absurd (false≢true written)
+    covered (Some x) None h written = absurd (false≢true h)
+    covered (Some Read) (Some y) h written = absurd (false≢true written)
+    covered (Some Write) (Some Read) h written = absurd (false≢true h)
+    covered (Some Write) (Some Write) h written = refl
 
 -- what holds of each location that a set writes holds of those after the first
 written_rest : {P : ℕ → Type 0} (p : ℕ × Access) (ps : Accesses) → AllBeyond p.0 ps → ((loc : ℕ) → IsTrue (writes (p ∷ ps) loc) → P loc) → (loc : ℕ) → IsTrue (writes ps loc) → P loc
@@ -152,51 +169,68 @@ module _ {V : Type 0} where
   ]
 
   -- the cells after a rewrite of those that the set writes
-  pub held-rewritten : (f : ℕ → Cell V) (ps : Accesses) (cells : List (Cell V)) (loc : ℕ) → length cells ≡ length ps → held_at ps (rewritten f ps cells) loc ≡ cond (writes ps loc) (f loc) (held_at ps cells loc)
-  held-rewritten f [] cells loc e = refl
-  held-rewritten f (p ∷ ps) [] loc e = absurd (omega arith)
-  held-rewritten f ((n, x) ∷ ps) (c ∷ cs) loc e = elim (cases_eq n loc) [
+  pub held-with_written : (f : ℕ → Cell V) (ps : Accesses) (cells : List (Cell V)) (loc : ℕ) → length cells ≡ length ps → held_at ps (with_written f ps cells) loc ≡ cond (writes ps loc) (f loc) (held_at ps cells loc)
+  held-with_written f [] cells loc e = refl
+  held-with_written f (p ∷ ps) [] loc e = absurd (omega arith)
+  held-with_written f ((n, x) ∷ ps) (c ∷ cs) loc e = elim (cases_eq n loc) [
     | inl same ↦
-        let first : held_at ((n, x) ∷ ps) (rewritten f ((n, x) ∷ ps) (c ∷ cs)) loc ≡ cond (is_write x) (f n) c = held_first (n, x) ps (cond (is_write x) (f n) c) (rewritten f ps cs) loc same in
+        let first : held_at ((n, x) ∷ ps) (with_written f ((n, x) ∷ ps) (c ∷ cs)) loc ≡ cond (is_write x) (f n) c = held_first (n, x) ps (cond (is_write x) (f n) c) (with_written f ps cs) loc same in
         rw (first, writes_first (n, x) ps loc same, held_first (n, x) ps c cs loc same, same) refl
-    | inr differs ↦ rw (held_other (n, x) ps (cond (is_write x) (f n) c) (rewritten f ps cs) loc differs, writes_other (n, x) ps loc differs, held_other (n, x) ps c cs loc differs) (held-rewritten f ps cs loc (omega arith))
+    | inr differs ↦ rw (held_other (n, x) ps (cond (is_write x) (f n) c) (with_written f ps cs) loc differs, writes_other (n, x) ps loc differs, held_other (n, x) ps c cs loc differs) (held-with_written f ps cs loc (omega arith))
   ]
 
-  pub length-rewritten : (f : ℕ → Cell V) (ps : Accesses) (cells : List (Cell V)) → length cells ≡ length ps → length (rewritten f ps cells) ≡ length ps
-  length-rewritten f [] cells e = refl
-  length-rewritten f (p ∷ ps) [] e = absurd (omega arith)
-  length-rewritten f (p ∷ ps) (c ∷ cs) e = ap suc (length-rewritten f ps cs (omega arith))
+  pub length-with_written : (f : ℕ → Cell V) (ps : Accesses) (cells : List (Cell V)) → length cells ≡ length ps → length (with_written f ps cells) ≡ length ps
+  length-with_written f [] cells e = refl
+  length-with_written f (p ∷ ps) [] e = absurd (omega arith)
+  length-with_written f (p ∷ ps) (c ∷ cs) e = ap suc (length-with_written f ps cs (omega arith))
 
   -- a rewrite goes by the locations that the set writes alone
-  pub rewritten_same : (f g : ℕ → Cell V) (ps : Accesses) (cells : List (Cell V)) → IsAscending ps → ((loc : ℕ) → IsTrue (writes ps loc) → f loc ≡ g loc) → rewritten f ps cells ≡ rewritten g ps cells
-  rewritten_same f g [] cells up same = refl
-  rewritten_same f g (p ∷ ps) [] up same = refl
-  rewritten_same f g ((n, Read) ∷ ps) (c ∷ cs) up same = ap (λ rest. c ∷ rest) (rewritten_same f g ps cs up.1 (written_rest (n, Read) ps up.0 same))
-  rewritten_same f g ((n, Write) ∷ ps) (c ∷ cs) up same =
+  pub with_written_same : (f g : ℕ → Cell V) (ps : Accesses) (cells : List (Cell V)) → IsAscending ps → ((loc : ℕ) → IsTrue (writes ps loc) → f loc ≡ g loc) → with_written f ps cells ≡ with_written g ps cells
+  with_written_same f g [] cells up same = refl
+  with_written_same f g (p ∷ ps) [] up same = refl
+  with_written_same f g ((n, Read) ∷ ps) (c ∷ cs) up same = ap (λ rest. c ∷ rest) (with_written_same f g ps cs up.1 (written_rest (n, Read) ps up.0 same))
+  with_written_same f g ((n, Write) ∷ ps) (c ∷ cs) up same =
       let first = same n (writes_first (n, Write) ps n refl) in
-      let rest = rewritten_same f g ps cs up.1 (written_rest (n, Write) ps up.0 same) in
+      let rest = with_written_same f g ps cs up.1 (written_rest (n, Write) ps up.0 same) in
       cc
 
   -- the cells behind the first are found in the rest
-  rewritten_behind : (p : ℕ × Access) (ps : Accesses) (c : Cell V) (cs : List (Cell V)) → IsAscending (p ∷ ps) → rewritten (held_at (p ∷ ps) (c ∷ cs)) ps cs ≡ rewritten (held_at ps cs) ps cs
-  rewritten_behind p ps c cs up = rewritten_same (held_at (p ∷ ps) (c ∷ cs)) (held_at ps cs) ps cs up.1 (λ loc written. held_other p ps c cs loc (λ e.
+  with_written_behind : (p : ℕ × Access) (ps : Accesses) (c : Cell V) (cs : List (Cell V)) → IsAscending (p ∷ ps) → with_written (held_at (p ∷ ps) (c ∷ cs)) ps cs ≡ with_written (held_at ps cs) ps cs
+  with_written_behind p ps c cs up = with_written_same (held_at (p ∷ ps) (c ∷ cs)) (held_at ps cs) ps cs up.1 (λ loc written. held_other p ps c cs loc (λ e.
       let unwritten : writes ps loc ≡ false = subst (λ l. writes ps l ≡ false) e (unwritten_beyond p.0 ps up.0) in
       false≢true (sym unwritten ∙ written)))
 
   -- a second rewrite leaves nothing of the first
-  pub rewritten_twice : (f g : ℕ → Cell V) (ps : Accesses) (cells : List (Cell V)) → rewritten f ps (rewritten g ps cells) ≡ rewritten f ps cells
-  rewritten_twice f g [] cells = refl
-  rewritten_twice f g (p ∷ ps) [] = refl
-  rewritten_twice f g ((n, Read) ∷ ps) (c ∷ cs) = ap (λ rest. c ∷ rest) (rewritten_twice f g ps cs)
-  rewritten_twice f g ((n, Write) ∷ ps) (c ∷ cs) = ap (λ rest. f n ∷ rest) (rewritten_twice f g ps cs)
+  pub with_written_twice : (f g : ℕ → Cell V) (ps : Accesses) (cells : List (Cell V)) → with_written f ps (with_written g ps cells) ≡ with_written f ps cells
+  with_written_twice f g [] cells = refl
+  with_written_twice f g (p ∷ ps) [] = refl
+  with_written_twice f g ((n, Read) ∷ ps) (c ∷ cs) = ap (λ rest. c ∷ rest) (with_written_twice f g ps cs)
+  with_written_twice f g ((n, Write) ∷ ps) (c ∷ cs) = ap (λ rest. f n ∷ rest) (with_written_twice f g ps cs)
 
   -- a rewrite with the cells that are there changes nothing
-  pub rewritten_itself : (ps : Accesses) (cells : List (Cell V)) → IsAscending ps → length cells ≡ length ps → rewritten (held_at ps cells) ps cells ≡ cells
-  rewritten_itself [] [] up e = refl
-  rewritten_itself [] (c ∷ cs) up e = absurd (omega arith)
-  rewritten_itself (p ∷ ps) [] up e = refl
-  rewritten_itself ((n, Read) ∷ ps) (c ∷ cs) up e = ap (λ rest. c ∷ rest) (rewritten_behind (n, Read) ps c cs up ∙ rewritten_itself ps cs up.1 (omega arith))
-  rewritten_itself ((n, Write) ∷ ps) (c ∷ cs) up e =
+  pub with_written_itself : (ps : Accesses) (cells : List (Cell V)) → IsAscending ps → length cells ≡ length ps → with_written (held_at ps cells) ps cells ≡ cells
+  with_written_itself [] [] up e = refl
+  with_written_itself [] (c ∷ cs) up e = absurd (omega arith)
+  with_written_itself (p ∷ ps) [] up e = refl
+  with_written_itself ((n, Read) ∷ ps) (c ∷ cs) up e = ap (λ rest. c ∷ rest) (with_written_behind (n, Read) ps c cs up ∙ with_written_itself ps cs up.1 (omega arith))
+  with_written_itself ((n, Write) ∷ ps) (c ∷ cs) up e =
       let first = held_first (n, Write) ps c cs n refl in
-      let rest = rewritten_behind (n, Write) ps c cs up ∙ rewritten_itself ps cs up.1 (omega arith) in
+      let rest = with_written_behind (n, Write) ps c cs up ∙ with_written_itself ps cs up.1 (omega arith) in
       cc
+
+  -- cells in the order of an ascending set are known by their locations
+  pub same_held : (ps : Accesses) (cells others : List (Cell V)) → IsAscending ps → length cells ≡ length ps → length others ≡ length ps → ((loc : ℕ) → IsSome (access_at ps loc) → held_at ps cells loc ≡ held_at ps others loc) → cells ≡ others
+  same_held [] [] [] up e f same = refl
+  same_held [] (c ∷ cs) others up e f same = absurd (omega arith)
+  same_held [] [] (d ∷ ds) up e f same = absurd (omega arith)
+  same_held (p ∷ ps) [] others up e f same = absurd (omega arith)
+  same_held (p ∷ ps) (c ∷ cs) [] up e f same = absurd (omega arith)
+  same_held (p ∷ ps) (c ∷ cs) (d ∷ ds) up e f same =
+      let first = sym (held_first p ps c cs p.0 refl) ∙ same p.0 (rw (access_first p ps p.0 refl) refl) ∙ held_first p ps d ds p.0 refl in
+      let rest = same_held ps cs ds up.1 (omega arith) (omega arith) (λ loc has.
+      let differs : p.0 ≡ loc → ⊥ = λ same-loc. is_beyond loc same-loc has in
+      sym (held_other p ps c cs loc differs) ∙ same loc (rw (access_other p ps loc differs) has) ∙ held_other p ps d ds loc differs) in
+      cc
+    where
+      is_beyond : (loc : ℕ) → p.0 ≡ loc → IsSome (access_at ps loc) → ⊥
+      is_beyond loc same-loc has = false≢true (sym (ap is_some (subst (λ l. access_at ps l ≡ None) same-loc (absent_beyond p.0 ps up.0))) ∙ has)

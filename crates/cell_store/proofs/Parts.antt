@@ -1,7 +1,7 @@
 -- What the cells have at a location after a part is taken or given, and what such parts are.
 use Rattle.std.proofs.Common.{◌≡◌, ℕ, zero, suc, ◌+◌, ◌<◌, Bool, true, false, cond, List, [], ◌∷◌, length, map, get_or, take, ◌++◌, Option, Some, None, IsSome, IsTrue, refl, sym, ap, ◌∙◌, subst, inl, inr, arith}
-use Rattle.std.proofs.lemmas.Bool.{cases_eq, cases_Bool, false≢true}
-use Rattle.std.proofs.lemmas.List.{ext_get_or, length-map, take-append-le, take_all, take_more, map-append}
+use Rattle.std.proofs.lemmas.Bool.{cases_lt, cases_eq, cases_Bool, false≢true}
+use Rattle.std.proofs.lemmas.List.{get_or_past, ext_get_or, length-map, take-append-le, take_all, take_more, map-append}
 use Rattle.rw_sets.specs.declared.access.Access.{Access}
 use Rattle.rw_sets.specs.declared.access.Access.TheVariants.{Read, Write}
 use Rattle.rw_sets.specs.Accesses.{Accesses, IsAscending, access_at, allows_write, writes}
@@ -9,8 +9,8 @@ use Rattle.cell_store.specs.declared.cell.Cell.{Cell}
 use Rattle.cell_store.specs.declared.cell.Cell.TheVariants.{Home, Out}
 use Rattle.cell_store.specs.Home.{IsHome}
 use Rattle.cell_store.specs.Part.{Part}
-use Rattle.cell_store.specs.Cells.{cell_at, held_at, cell_in, part_of, each_from, cells_taken, cells_given, rewritten, with_value, unwritten, shell_of, refilled, IsPart, IsBundle, IsShell, AreHome, AreWrittenHome, AreWrittenOut}
-use Rattle.cell_store.proofs.Locations.{home_in_range, has_from_writes, held_map, held-rewritten, length-rewritten, held-put_same, held-put_other, length-put_at, rewritten_same}
+use Rattle.cell_store.specs.Cells.{cell_at, held_at, cell_in, part_of, each_from, cells_taken, cells_given, with_written, with_value, read_copy, shell_of, bundle_of, IsPart, IsBundle, IsShell, AreHome, AreWrittenHome, AreWrittenOut}
+use Rattle.cell_store.proofs.Locations.{access_first, has_later, home_in_range, has_from_writes, held_map, held-with_written, length-with_written, held-put_same, held-put_other, length-put_at, with_written_same}
 
 module _ {V : Type 0} where
   pub length-each_from : (f : ℕ → Cell V → Cell V) (n : ℕ) (cells : List (Cell V)) → length (each_from f n cells) ≡ length cells
@@ -29,9 +29,25 @@ module _ {V : Type 0} where
       let rest = each_from_same f g (suc n) cs same in
       cc
 
+  pub length-cells_taken : (cells : List (Cell V)) (ps : Accesses) → length (cells_taken cells ps) ≡ length cells
+  length-cells_taken cells ps = length-each_from (λ loc cell. cond (writes ps loc) Out cell) 0 cells
+
+  pub length-cells_given : (cells : List (Cell V)) (part : Part V) → length (cells_given cells part) ≡ length cells
+  length-cells_given cells part = length-each_from (λ loc cell. cond (writes part.set loc) (cell_in part loc) cell) 0 cells
+
   -- by location
-  pub cell_taken : (cells : List (Cell V)) (ps : Accesses) (loc : ℕ) → loc < length cells → cell_at (cells_taken cells ps) loc ≡ cond (writes ps loc) Out (cell_at cells loc)
-  cell_taken cells ps loc lt = each_from_at (λ loc cell. cond (writes ps loc) Out cell) 0 cells loc loc lt (omega arith)
+  pub cell_taken : (cells : List (Cell V)) (ps : Accesses) (loc : ℕ) → cell_at (cells_taken cells ps) loc ≡ cond (writes ps loc) Out (cell_at cells loc)
+  cell_taken cells ps loc = elim (cases_lt loc (length cells)) [
+    | inl within ↦ each_from_at (λ loc cell. cond (writes ps loc) Out cell) 0 cells loc loc within (omega arith)
+    | inr past ↦
+        let here : cell_at cells loc ≡ Out = get_or_past cells loc Out past in
+        let after : cell_at (cells_taken cells ps) loc ≡ Out = get_or_past (cells_taken cells ps) loc Out (omega (arith, length-cells_taken cells ps)) in
+        rw (after, here) (sym (either_way Out (writes ps loc)))
+  ]
+    where
+      either_way : (cell : Cell V) (b : Bool) → cond b cell cell ≡ cell
+      either_way cell true = refl
+      either_way cell false = refl
 
   pub cell_given : (cells : List (Cell V)) (part : Part V) (loc : ℕ) → loc < length cells → cell_at (cells_given cells part) loc ≡ cond (writes part.set loc) (cell_in part loc) (cell_at cells loc)
   cell_given cells part loc lt = each_from_at (λ loc cell. cond (writes part.set loc) (cell_in part loc) cell) 0 cells loc loc lt (omega arith)
@@ -49,19 +65,19 @@ module _ {V : Type 0} where
       by_test false h c = refl
 
   -- what is copied before the written cells are moved
-  pub unwritten_empty : (cells : List (Cell V)) (ps : Accesses) (loc : ℕ) → IsTrue (writes ps loc) → held_at ps (map (unwritten cells) ps) loc ≡ Out
-  unwritten_empty cells ps loc written = by_access (access_at ps loc) refl written
+  pub read_copy_empty : (cells : List (Cell V)) (ps : Accesses) (loc : ℕ) → IsTrue (writes ps loc) → held_at ps (map (read_copy cells) ps) loc ≡ Out
+  read_copy_empty cells ps loc written = by_access (access_at ps loc) refl written
     where
-      by_access : (x : Option Access) → access_at ps loc ≡ x → IsTrue (allows_write x) → held_at ps (map (unwritten cells) ps) loc ≡ Out
+      by_access : (x : Option Access) → access_at ps loc ≡ x → IsTrue (allows_write x) → held_at ps (map (read_copy cells) ps) loc ≡ Out
       by_access None e h = absurd (false≢true h)
       by_access (Some Read) e h = absurd (false≢true h)
-      by_access (Some Write) e h = held_map (unwritten cells) ps loc Write e
+      by_access (Some Write) e h = held_map (read_copy cells) ps loc Write e
 
   -- and with the written cells moved in it is the part
-  pub rewritten_unwritten : (cells : List (Cell V)) (ps : Accesses) → rewritten (cell_at cells) ps (map (unwritten cells) ps) ≡ map (λ (p : ℕ × Access). cell_at cells p.0) ps
-  rewritten_unwritten cells [] = refl
-  rewritten_unwritten cells ((n, Read) ∷ ps) = ap (λ rest. cell_at cells n ∷ rest) (rewritten_unwritten cells ps)
-  rewritten_unwritten cells ((n, Write) ∷ ps) = ap (λ rest. cell_at cells n ∷ rest) (rewritten_unwritten cells ps)
+  pub with_written-read_copies : (cells : List (Cell V)) (ps : Accesses) → with_written (cell_at cells) ps (map (read_copy cells) ps) ≡ map (λ (p : ℕ × Access). cell_at cells p.0) ps
+  with_written-read_copies cells [] = refl
+  with_written-read_copies cells ((n, Read) ∷ ps) = ap (λ rest. cell_at cells n ∷ rest) (with_written-read_copies cells ps)
+  with_written-read_copies cells ((n, Write) ∷ ps) = ap (λ rest. cell_at cells n ∷ rest) (with_written-read_copies cells ps)
 
   -- a part has the cells of its locations
   pub cell_in_part_of : (cells : List (Cell V)) (ps : Accesses) (loc : ℕ) → IsSome (access_at ps loc) → cell_in (part_of cells ps) loc ≡ cell_at cells loc
@@ -71,9 +87,23 @@ module _ {V : Type 0} where
       by_access None e h = absurd (false≢true h)
       by_access (Some x) e h = held_map (λ p. cell_at cells p.0) ps loc x e
 
+  -- parts of cells that are the same at the locations of a set
+  pub same_parts : (cells others : List (Cell V)) (ps : Accesses) → ((loc : ℕ) → IsSome (access_at ps loc) → cell_at cells loc ≡ cell_at others loc) → part_of cells ps ≡ part_of others ps
+  same_parts cells others ps same = ap (λ held. record { set = ps; cells = held }) (each ps same)
+    where
+      each : (qs : Accesses) → ((loc : ℕ) → IsSome (access_at qs loc) → cell_at cells loc ≡ cell_at others loc) → map (λ (p : ℕ × Access). cell_at cells p.0) qs ≡ map (λ (p : ℕ × Access). cell_at others p.0) qs
+      each [] same = refl
+      each (p ∷ ps) same =
+          let first : cell_at cells p.0 ≡ cell_at others p.0 = same p.0 (rw (access_first p ps p.0 refl) refl) in
+          let rest = each ps (λ loc has. same loc (has_later p ps loc has)) in
+          cc
+
+  pub is_part_of : (cells : List (Cell V)) (ps : Accesses) → IsAscending ps → IsPart (part_of cells ps)
+  is_part_of cells ps up = record { ascending = up; one_each = length-map ps (λ (p : ℕ × Access). cell_at cells p.0) }
+
   pub is_bundle_part_of : (cells : List (Cell V)) (ps : Accesses) → IsAscending ps → AreHome cells ps → IsBundle (part_of cells ps)
   is_bundle_part_of cells ps up home = record {
-    is_part = record { ascending = up; one_each = length-map ps (λ (p : ℕ × Access). cell_at cells p.0) };
+    is_part = is_part_of cells ps up;
     full = λ loc has. subst IsHome (sym (cell_in_part_of cells ps loc has)) (home loc has);
   }
 
@@ -88,31 +118,31 @@ module _ {V : Type 0} where
   }
 
   -- a rewrite of what a part writes, by location
-  rewritten_in : (f : ℕ → Cell V) (part : Part V) (loc : ℕ) → IsPart part → cell_in (record part { cells = rewritten f part.set part.cells }) loc ≡ cond (writes part.set loc) (f loc) (cell_in part loc)
-  rewritten_in f part loc h = held-rewritten f part.set part.cells loc h.one_each
+  pub cell_in-with_written : (f : ℕ → Cell V) (part : Part V) (loc : ℕ) → IsPart part → cell_in (record part { cells = with_written f part.set part.cells }) loc ≡ cond (writes part.set loc) (f loc) (cell_in part loc)
+  cell_in-with_written f part loc h = held-with_written f part.set part.cells loc h.one_each
 
-  is_part_rewritten : (f : ℕ → Cell V) (part : Part V) → IsPart part → IsPart (record part { cells = rewritten f part.set part.cells })
-  is_part_rewritten f part h = record { ascending = h.ascending; one_each = length-rewritten f part.set part.cells h.one_each }
+  is_part_with_written : (f : ℕ → Cell V) (part : Part V) → IsPart part → IsPart (record part { cells = with_written f part.set part.cells })
+  is_part_with_written f part h = record { ascending = h.ascending; one_each = length-with_written f part.set part.cells h.one_each }
 
   pub is_shell : (part : Part V) → IsBundle part → IsShell (shell_of part)
   is_shell part h = record {
-    is_part = is_part_rewritten (λ _. Out) part h.is_part;
-    kept = λ loc has unwritten. subst IsHome (sym (rewritten_in (λ _. Out) part loc h.is_part ∙ ap (λ b. cond b Out (cell_in part loc)) unwritten)) (h.full loc has);
-    emptied = λ loc written. rewritten_in (λ _. Out) part loc h.is_part ∙ ap (λ b. cond b Out (cell_in part loc)) written;
+    is_part = is_part_with_written (λ _. Out) part h.is_part;
+    kept = λ loc has unwritten. subst IsHome (sym (cell_in-with_written (λ _. Out) part loc h.is_part ∙ ap (λ b. cond b Out (cell_in part loc)) unwritten)) (h.full loc has);
+    emptied = λ loc written. cell_in-with_written (λ _. Out) part loc h.is_part ∙ ap (λ b. cond b Out (cell_in part loc)) written;
   }
 
-  pub is_bundle_refilled : (cells : List (Cell V)) (part : Part V) → IsShell part → AreWrittenHome cells part.set → IsBundle (refilled cells part)
-  is_bundle_refilled cells part h home = record {
-    is_part = is_part_rewritten (cell_at cells) part h.is_part;
+  pub is_bundle_again : (cells : List (Cell V)) (part : Part V) → IsShell part → AreWrittenHome cells part.set → IsBundle (bundle_of cells part)
+  is_bundle_again cells part h home = record {
+    is_part = is_part_with_written (cell_at cells) part h.is_part;
     full = λ loc has. elim (cases_Bool (writes part.set loc)) [
-      | inl written ↦ subst IsHome (sym (rewritten_in (cell_at cells) part loc h.is_part ∙ ap (λ b. cond b (cell_at cells loc) (cell_in part loc)) written)) (home loc written)
-      | inr unwritten ↦ subst IsHome (sym (rewritten_in (cell_at cells) part loc h.is_part ∙ ap (λ b. cond b (cell_at cells loc) (cell_in part loc)) unwritten)) (h.kept loc has unwritten)
+      | inl written ↦ subst IsHome (sym (cell_in-with_written (cell_at cells) part loc h.is_part ∙ ap (λ b. cond b (cell_at cells loc) (cell_in part loc)) written)) (home loc written)
+      | inr unwritten ↦ subst IsHome (sym (cell_in-with_written (cell_at cells) part loc h.is_part ∙ ap (λ b. cond b (cell_at cells loc) (cell_in part loc)) unwritten)) (h.kept loc has unwritten)
     ];
   }
 
   -- what a bundle leaves where its written cells were out
-  pub given_leaves_shell : (cells : List (Cell V)) (part : Part V) → IsBundle part → AreWrittenOut cells part.set → rewritten (cell_at cells) part.set part.cells ≡ rewritten (λ _. Out) part.set part.cells
-  given_leaves_shell cells part h out = rewritten_same (cell_at cells) (λ _. Out) part.set part.cells h.is_part.ascending (λ loc written. (out loc written).1)
+  pub given_leaves_shell : (cells : List (Cell V)) (part : Part V) → IsBundle part → AreWrittenOut cells part.set → with_written (cell_at cells) part.set part.cells ≡ with_written (λ _. Out) part.set part.cells
+  given_leaves_shell cells part h out = with_written_same (cell_at cells) (λ _. Out) part.set part.cells h.is_part.ascending (λ loc written. (out loc written).1)
 
   -- the elements of a vector that was written as a slice
   pub whole_items : (n : ℕ) (xs ys : List (Cell V)) → n ≡ length xs → take n (xs ++ ys) ≡ xs
@@ -129,24 +159,28 @@ module _ {V : Type 0} where
   written_home cells ps home loc written = home loc (has_from_writes ps loc written)
 
   -- the copies so far, and one more
-  pub copies_more : (cells : List (Cell V)) (ps : Accesses) (i : ℕ) (copies copies' : List (Cell V)) (cell : Cell V) → i < length ps → copies ≡ map (unwritten cells) (take i ps) → copies' ≡ copies ++ cell ∷ [] → cell ≡ unwritten cells (get_or ps i (0, Read)) → copies' ≡ map (unwritten cells) (take (i + 1) ps)
+  pub copies_more : (cells : List (Cell V)) (ps : Accesses) (i : ℕ) (copies copies' : List (Cell V)) (cell : Cell V) → i < length ps → copies ≡ map (read_copy cells) (take i ps) → copies' ≡ copies ++ cell ∷ [] → cell ≡ read_copy cells (get_or ps i (0, Read)) → copies' ≡ map (read_copy cells) (take (i + 1) ps)
   copies_more cells ps i copies copies' cell lt so-far pushed e = rw (pushed, so-far, e, take_more ps i (0, Read) lt, map-append) refl
 
-  unwritten_read : (cells : List (Cell V)) (p : ℕ × Access) → p.1 ≡ Read → unwritten cells p ≡ cell_at cells p.0
-  unwritten_read cells (n, Read) e = refl
-  unwritten_read cells (n, Write) e = absurd cc
+  read_copy_is : (cells : List (Cell V)) (p : ℕ × Access) → p.1 ≡ Read → read_copy cells p ≡ cell_at cells p.0
+  read_copy_is cells (n, Read) e = refl
+  read_copy_is cells (n, Write) e = absurd cc
 
   -- what is copied of a cell that is read, and of one that is written
-  pub copied_read : (cells : List (Cell V)) (ps : Accesses) (i : ℕ) (cell : Cell V) → (get_or ps i (0, Read)).1 ≡ Read → cell ≡ cell_at cells (get_or ps i (0, Read)).0 → cell ≡ unwritten cells (get_or ps i (0, Read))
-  copied_read cells ps i cell read e = e ∙ sym (unwritten_read cells (get_or ps i (0, Read)) read)
+  pub copied_read : (cells : List (Cell V)) (ps : Accesses) (i : ℕ) (cell : Cell V) → (get_or ps i (0, Read)).1 ≡ Read → cell ≡ cell_at cells (get_or ps i (0, Read)).0 → cell ≡ read_copy cells (get_or ps i (0, Read))
+  copied_read cells ps i cell read e = e ∙ sym (read_copy_is cells (get_or ps i (0, Read)) read)
 
-  pub copied_write : (cells : List (Cell V)) (p : ℕ × Access) → p.1 ≡ Write → Out ≡ unwritten cells p
+  pub copied_write : (cells : List (Cell V)) (p : ℕ × Access) → p.1 ≡ Write → Out ≡ read_copy cells p
   copied_write cells (n, Read) e = absurd cc
   copied_write cells (n, Write) e = refl
+
+  -- after a bundle is given, its written cells are home
+  pub given_leaves_home : (cells : List (Cell V)) (bundle : Part V) → IsBundle bundle → AreWrittenOut cells bundle.set → AreWrittenHome (cells_given cells bundle) bundle.set
+  given_leaves_home cells bundle h out loc written = subst IsHome (sym (cell_given cells bundle loc (out loc written).0 ∙ ap (λ b. cond b (cell_in bundle loc) (cell_at cells loc)) written)) (h.full loc (has_from_writes bundle.set loc written))
 
   -- after a part is taken, its written cells are out
   pub taken_leaves_out : (cells : List (Cell V)) (ps : Accesses) → AreHome cells ps → AreWrittenOut (cells_taken cells ps) ps
   taken_leaves_out cells ps home loc written =
       let within = written_in_range cells ps (written_home cells ps home) loc written in
       let as-many = length-each_from (λ loc cell. cond (writes ps loc) Out cell) 0 cells in
-      (omega arith, cell_taken cells ps loc within ∙ ap (λ b. cond b Out (cell_at cells loc)) written)
+      (omega arith, cell_taken cells ps loc ∙ ap (λ b. cond b Out (cell_at cells loc)) written)

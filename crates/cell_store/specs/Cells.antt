@@ -39,8 +39,8 @@ module _ {V : Type 0} where
   part_of cells set = record { set = set; cells = map (λ p. cell_at cells p.0) set }
 
   -- the cell that a pair of a set reads, and an empty one where it writes
-  abbrev pub unwritten : List (Cell V) → ℕ × Access → Cell V
-  unwritten cells p = if is_write p.1 then Out else cell_at cells p.0
+  abbrev pub read_copy : List (Cell V) → ℕ × Access → Cell V
+  read_copy cells p = if is_write p.1 then Out else cell_at cells p.0
 
   -- a change of each cell by its location, where the first cell has this location
   abbrev pub each_from : (ℕ → Cell V → Cell V) → ℕ → List (Cell V) → List (Cell V)
@@ -56,18 +56,18 @@ module _ {V : Type 0} where
   cells_given cells part = each_from (λ loc cell. if writes part.set loc then cell_in part loc else cell) 0 cells
 
   -- the cells in the order of a set, with this one at each location that it writes
-  abbrev pub rewritten : (ℕ → Cell V) → Accesses → List (Cell V) → List (Cell V)
-  rewritten at [] cells = []
-  rewritten at (p ∷ ps) [] = []
-  rewritten at (p ∷ ps) (cell ∷ cells) = (if is_write p.1 then at p.0 else cell) ∷ rewritten at ps cells
+  abbrev pub with_written : (ℕ → Cell V) → Accesses → List (Cell V) → List (Cell V)
+  with_written at [] cells = []
+  with_written at (p ∷ ps) [] = []
+  with_written at (p ∷ ps) (cell ∷ cells) = (if is_write p.1 then at p.0 else cell) ∷ with_written at ps cells
 
   -- what a part keeps where the cells that it writes have gone home
   abbrev pub shell_of : Part V → Part V
-  shell_of part = record part { cells = rewritten (λ _. Out) part.set part.cells }
+  shell_of part = record part { cells = with_written (λ _. Out) part.set part.cells }
 
   -- the part with the cells that it writes as they are home
-  abbrev pub refilled : List (Cell V) → Part V → Part V
-  refilled cells part = record part { cells = rewritten (cell_at cells) part.set part.cells }
+  abbrev pub bundle_of : List (Cell V) → Part V → Part V
+  bundle_of cells part = record part { cells = with_written (cell_at cells) part.set part.cells }
 
   -- the cells in the order of a set, with another at one location
   abbrev pub put_at : Accesses → List (Cell V) → ℕ → Cell V → List (Cell V)

@@ -1,6 +1,6 @@
 ghost use Rattle.std.specs.Prelude.{◌≡◌, ℕ, ◌<◌, length, IsTrue};
 ghost use Rattle.rw_sets.specs.Accesses.{IsAscending, writes};
-ghost use Rattle.cell_store.specs.Cells.{cell_at, cells_given, rewritten};
+ghost use Rattle.cell_store.specs.Cells.{cell_at, cells_given, with_written};
 
 use crate::cell::Cell;
 use rw_sets::Access;
@@ -12,7 +12,7 @@ pub(crate) fn exchange<V>(home: &mut [Cell<V>], set: &[(u32, Access)], held: &mu
     requires one_each { length held.old ≡ length set.now }
     requires in_range { (loc : ℕ) → IsTrue (writes set.now loc) → loc < length home.old }
     ensures home { home.new ≡ cells_given home.old (record { set = set.now; cells = held.old }) }
-    ensures held { held.new ≡ rewritten (cell_at home.old) set.now held.old }
+    ensures held { held.new ≡ with_written (cell_at home.old) set.now held.old }
 {
     for (i, (loc, access)) in set.iter().enumerate() {
         if access.is_write() {

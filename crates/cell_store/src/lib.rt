@@ -13,5 +13,5 @@ mod tests;
 pub use bundle::{Bundle, Shell};
 pub use cell::{Cell, Seen};
 pub use held::Held;
-pub use laws::{location_laws, return_laws};
+pub use laws::{independence_laws, location_laws, return_laws, value_laws};
 pub use store::Store;

@@ -1,7 +1,7 @@
 ghost use Rattle.std.specs.Prelude.{◌≡◌, ◌<◌, ◌^◌, length, map, vec_len, IfOk, OnOk, OnErr};
 ghost use Rattle.cell_store.specs.declared.cell.Cell.TheVariants.{Home};
 ghost use Rattle.cell_store.specs.Home.{cell_seen};
-ghost use Rattle.cell_store.specs.Cells.{cell_at, AreHome, AreWrittenHome, AreWrittenOut, part_of, cells_taken, cells_given, shell_of, refilled, unwritten};
+ghost use Rattle.cell_store.specs.Cells.{cell_at, AreHome, AreWrittenHome, AreWrittenOut, part_of, cells_taken, cells_given, shell_of, bundle_of, read_copy};
 
 use crate::bundle::{Bundle, Shell};
 use crate::cell::{Cell, Seen};
@@ -88,7 +88,7 @@ impl<V: Held> Store<V> {
     pub fn regain(&mut self, shell: Shell<V>) -> Bundle<V>
         requires { AreWrittenHome self.old shell.set }
         ensures out { self.new ≡ cells_taken self.old shell.set }
-        ensures bundle { result ≡ refilled self.old shell }
+        ensures bundle { result ≡ bundle_of self.old shell }
     {
         let Shell { set, mut cells } = shell;
         exchange(&mut self.cells, set.items(), &mut cells);
@@ -99,7 +99,7 @@ impl<V: Held> Store<V> {
 // A copy of each cell of a set that it only reads, and an empty cell for each that it writes.
 fn read_copies<V: Held>(cells: &Vec<Cell<V>>, set: &[(u32, Access)]) -> Result<Vec<Cell<V>>, NoRoom>
     requires { AreHome cells.now.items set.now }
-    ensures { IfOk result (λ copies. copies.items ≡ map (unwritten cells.now.items) set.now) }
+    ensures { IfOk result (λ copies. copies.items ≡ map (read_copy cells.now.items) set.now) }
 {
     let mut copies = Vec::with_capacity(*cells.allocator(), set.len())?;
     for (loc, access) in set {

@@ -1,6 +1,6 @@
 use Rattle.std.proofs.Common.{◌∙◌, ap, length}
 use Rattle.cell_store.proofs.Parts.{taken_leaves_out}
-use Rattle.cell_store.proofs.Returns.{length-cells_taken, length-cells_given}
+use Rattle.cell_store.proofs.Parts.{length-cells_taken, length-cells_given}
 use Rattle.cell_store.proofs.tests.rewrite.Goals as goal
 
 pub give-requires-after_bounds : goal.give-requires-after_bounds

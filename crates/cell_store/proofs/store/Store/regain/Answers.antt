@@ -1,5 +1,5 @@
 use Rattle.std.proofs.Common.{arith, ◌≡◌, length, drop, take, ◌++◌}
-use Rattle.cell_store.proofs.Parts.{is_bundle_refilled, whole_items, written_in_range}
+use Rattle.cell_store.proofs.Parts.{is_bundle_again, whole_items, written_in_range}
 use Rattle.cell_store.proofs.store.Store.regain.Goals as goal
 
 pub exchange-requires-clause-ascending : goal.exchange-requires-clause-ascending
@@ -20,4 +20,4 @@ invariant_of-result g c =
     let home = rw (← c.self.view_is, ← c.shell.view_is) at c.requires in
     let whole : take c.shell.inside.cells.len (new ++ drop (length new) items) ≡ new = whole_items _ new _ (omega arith) in
     let filled = rw (c.deref_mut.ensures.value, c.items.ensures.all, c.deref_mut-2.ensures.value) at c.exchange.ensures.held in
-    rw (whole, filled) (is_bundle_refilled _ _ c.shell.invariant home)
+    rw (whole, filled) (is_bundle_again _ _ c.shell.invariant home)
