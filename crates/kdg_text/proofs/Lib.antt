@@ -1,3 +1,4 @@
 pub mod Parts
 pub mod Numerals
 pub mod Cuts
+pub mod FirstFault

@@ -1,5 +1,8 @@
 ghost use Rattle.kdg_text.specs.declared.fault.ReadFail.TheVariants as refusals;
-ghost use Rattle.std.specs.Prelude.{◌≡◌};
+ghost use Rattle.std.specs.Prelude.{◌≡◌, List, Option, None, Some};
+ghost use Rattle.kdg_text.specs.Faults.{Numbered, fault_on, first_fault, IsFaultless, IsFirstFault};
+ghost use Rattle.kdg_text.specs.declared.fault.Fault.{Fault};
+ghost use Rattle.kdg_text.specs.declared.fault.LineFault.{LineFault};
 
 use crate::NoRoom;
 use std::alloc::{AllocError, AllocFailed};
@@ -14,6 +17,35 @@ pub struct Fault {
     /// The limit that the input goes beyond, or 0 for every other kind.
     pub bound: u64,
 }
+
+/// What is wrong with one line.
+#[derive(Clone, Copy, Debug, PartialEq, Eq)]
+pub struct LineFault {
+    /// The reader's own number for the kind of fault.
+    pub kind: u8,
+    /// The limit that the line goes beyond, or 0 for every other kind.
+    pub bound: u64,
+}
+
+impl LineFault {
+    /// The fault as one of the line of that number.
+    pub fn on_line(self, line: u64) -> Fault
+        ensures { result ≡ fault_on line self }
+    {
+        Fault {
+            line,
+            kind: self.kind,
+            bound: self.bound,
+        }
+    }
+}
+
+/// The first fault of lines is the one of the first line that has any, beside the lines before it,
+/// and lines have none exactly where each is without one.
+pub fn first_fault_law<L>()
+    ensures found { (judge : List (Numbered L) → L → Option LineFault) (lines : List (Numbered L)) (fault : Fault) → first_fault judge lines ≡ Some fault → IsFirstFault judge lines fault }
+    ensures none { (judge : List (Numbered L) → L → Option LineFault) (lines : List (Numbered L)) → first_fault judge lines ≡ None → IsFaultless judge lines }
+{}
 
 /// Why a reader gave nothing.
 #[derive(Clone, Copy, Debug, PartialEq, Eq)]

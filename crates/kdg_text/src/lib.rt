@@ -12,8 +12,8 @@ mod tests;
 mod text;
 mod tokens;
 
-pub use fault::{Fault, ReadFail};
-pub use lines::{Line, Lines};
+pub use fault::{Fault, LineFault, ReadFail, first_fault_law};
+pub use lines::{Line, Lines, without_comment};
 pub use no_room::NoRoom;
 pub use num_list::NumList;
 pub use number::{NumFault, digits_law, push_i64, push_u64, read_i64, read_u64};

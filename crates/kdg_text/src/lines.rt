@@ -1,6 +1,7 @@
 ghost use Rattle.std.specs.Prelude.{◌≡◌, ◌+◌, ◌<◌, ◌↔◌, ◌==◌, [], ◌∷◌, length, position, IsNone, IfSome, OnSome, IfNone};
 ghost use Rattle.std.specs.Str.Lines.{strip_carriage_return};
 ghost use Rattle.kdg_text.specs.Lines.{lines_of, parts_of};
+ghost use Rattle.kdg_text.specs.Faults.{before_comment};
 
 use std::marker::Model;
 
@@ -100,4 +101,20 @@ fn without_carriage_return(part: &[u8]) -> &[u8]
         [front @ .., b'\r'] => front,
         _ => part,
     }
+}
+
+/// The part of a line before the first byte that begins a comment.
+pub fn without_comment(line: &[u8], mark: u8) -> &[u8]
+    ensures { result.now ≡ before_comment mark line.now }
+{
+    match comment_start(line, mark) {
+        Some(end) => &line[..end],
+        None => line,
+    }
+}
+
+fn comment_start(line: &[u8], mark: u8) -> Option<usize>
+    ensures { result ≡ position (λ byte. byte == mark) line.now }
+{
+    line.iter().position(|byte| *byte == mark)
 }

@@ -132,6 +132,25 @@ fn lines_are_cut_into_tokens(rt: HostRuntime) -> Result<(), Fail> {
     Ok(())
 }
 
+#[test]
+fn comments_are_cut_off(rt: HostRuntime) {
+    for (line, want) in [("a # b # c", "a "), ("#", ""), ("", ""), ("a", "a")] {
+        assert_eq!(rt; without_comment(line.as_bytes(), b'#'), want.as_bytes());
+    }
+}
+
+#[test]
+fn faults_have_their_line(rt: HostRuntime) {
+    first_fault_law::<u8>();
+    let fault = LineFault { kind: 9, bound: 64 };
+    let want = Fault {
+        line: 3,
+        kind: 9,
+        bound: 64,
+    };
+    assert_eq!(rt; fault.on_line(3), want);
+}
+
 fn refusal_of_push(alloc: Global) -> Result<(), ReadFail> {
     let mut numbers = Vec::new(alloc);
     numbers.push(Text::new(alloc))?;
