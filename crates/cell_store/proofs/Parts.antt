@@ -179,8 +179,10 @@ module _ {V : Type 0} where
   given_leaves_home cells bundle h out loc written = subst IsHome (sym (cell_given cells bundle loc (out loc written).0 ∙ ap (λ b. cond b (cell_in bundle loc) (cell_at cells loc)) written)) (h.full loc (has_from_writes bundle.set loc written))
 
   -- after a part is taken, its written cells are out
+  pub written_taken_out : (cells : List (Cell V)) (ps : Accesses) → AreWrittenHome cells ps → AreWrittenOut (cells_taken cells ps) ps
+  written_taken_out cells ps home loc written =
+      let within = written_in_range cells ps home loc written in
+      (omega (arith, length-cells_taken cells ps), cell_taken cells ps loc ∙ ap (λ b. cond b Out (cell_at cells loc)) written)
+
   pub taken_leaves_out : (cells : List (Cell V)) (ps : Accesses) → AreHome cells ps → AreWrittenOut (cells_taken cells ps) ps
-  taken_leaves_out cells ps home loc written =
-      let within = written_in_range cells ps (written_home cells ps home) loc written in
-      let as-many = length-each_from (λ loc cell. cond (writes ps loc) Out cell) 0 cells in
-      (omega arith, cell_taken cells ps loc ∙ ap (λ b. cond b Out (cell_at cells loc)) written)
+  taken_leaves_out cells ps home = written_taken_out cells ps (written_home cells ps home)

@@ -1,7 +1,8 @@
-ghost use Rattle.std.specs.Prelude.{◌≡◌, ◌<◌, ◌^◌, length, map, vec_len, IfOk, OnOk, OnErr};
+ghost use Rattle.std.specs.Prelude.{◌≡◌, ℕ, ◌<◌, ◌^◌, length, map, vec_len, IsTrue, IfOk, OnOk, OnErr};
+ghost use Rattle.rw_sets.specs.Accesses.{IsAscending, writes};
 ghost use Rattle.cell_store.specs.declared.cell.Cell.TheVariants.{Home};
 ghost use Rattle.cell_store.specs.Home.{cell_seen};
-ghost use Rattle.cell_store.specs.Cells.{cell_at, AreHome, AreWrittenHome, AreWrittenOut, part_of, cells_taken, cells_given, shell_of, bundle_of, read_copy};
+ghost use Rattle.cell_store.specs.Cells.{cell_at, AreHome, AreWrittenHome, AreWrittenOut, IsBundle, part_of, cells_taken, cells_given, shell_of, bundle_of, read_copy, with_written};
 
 use crate::bundle::{Bundle, Shell};
 use crate::cell::{Cell, Seen};
@@ -63,36 +64,64 @@ impl<V: Held> Store<V> {
     pub fn take(&mut self, set: &RwSet) -> Result<Bundle<V>, NoRoom>
         requires { AreHome self.old set.now }
         ensures bundle { IfOk result (λ bundle. bundle ≡ part_of self.old set.now) }
+        ensures whole { IfOk result IsBundle }
         ensures ok { OnOk result (self.new ≡ cells_taken self.old set.now) }
+        ensures out { OnOk result (AreWrittenOut self.new set.now) }
         ensures err { OnErr result (self.new ≡ self.old) }
     {
-        let set = set.copy()?;
-        let items = set.items();
-        let mut cells = read_copies(&self.cells, items)?;
-        exchange(&mut self.cells, items, &mut cells);
+        self.take_owned(set.copy()?)
+    }
+
+    /// As `take`, of a set that goes into the bundle. After `NoRoom` the set is dropped, and the store
+    /// is as it was.
+    pub fn take_owned(&mut self, set: RwSet) -> Result<Bundle<V>, NoRoom>
+        requires { AreHome self.old set }
+        ensures bundle { IfOk result (λ bundle. bundle ≡ part_of self.old set) }
+        ensures whole { IfOk result IsBundle }
+        ensures ok { OnOk result (self.new ≡ cells_taken self.old set) }
+        ensures out { OnOk result (AreWrittenOut self.new set) }
+        ensures err { OnErr result (self.new ≡ self.old) }
+    {
+        let mut cells = read_copies(&self.cells, set.items())?;
+        self.exchange(set.items(), &mut cells);
         Ok(Bundle { set, cells })
     }
 
     /// Puts the values that a bundle writes home, and leaves the rest of the bundle.
     pub fn give(&mut self, bundle: Bundle<V>) -> Shell<V>
         requires { AreWrittenOut self.old bundle.set }
-        ensures home { self.new ≡ cells_given self.old bundle }
+        ensures given { self.new ≡ cells_given self.old bundle }
+        ensures home { AreWrittenHome self.new bundle.set }
+        ensures whole { IsBundle bundle }
         ensures shell { result ≡ shell_of bundle }
     {
         let Bundle { set, mut cells } = bundle;
-        exchange(&mut self.cells, set.items(), &mut cells);
+        self.exchange(set.items(), &mut cells);
         Shell { set, cells }
     }
 
     /// Moves the cells that a shell writes out again, as they are home now.
     pub fn regain(&mut self, shell: Shell<V>) -> Bundle<V>
         requires { AreWrittenHome self.old shell.set }
-        ensures out { self.new ≡ cells_taken self.old shell.set }
+        ensures taken { self.new ≡ cells_taken self.old shell.set }
+        ensures out { AreWrittenOut self.new shell.set }
         ensures bundle { result ≡ bundle_of self.old shell }
+        ensures whole { IsBundle result }
     {
         let Shell { set, mut cells } = shell;
-        exchange(&mut self.cells, set.items(), &mut cells);
+        self.exchange(set.items(), &mut cells);
         Bundle { set, cells }
+    }
+
+    // Exchanges the cells that a set writes with those that are held in the order of the set.
+    fn exchange(&mut self, set: &[(u32, Access)], held: &mut Vec<Cell<V>>)
+        requires ascending { IsAscending set.now }
+        requires one_each { length held.old.items ≡ length set.now }
+        requires in_range { (loc : ℕ) → IsTrue (writes set.now loc) → loc < length self.old }
+        ensures home { self.new ≡ cells_given self.old (record { set = set.now; cells = held.old.items }) }
+        ensures held { held.new.items ≡ with_written (cell_at self.old) set.now held.old.items }
+    {
+        exchange(&mut self.cells, set, held);
     }
 }
 
