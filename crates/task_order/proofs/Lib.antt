@@ -3,3 +3,4 @@ pub mod TaskLists
 pub mod Fronts
 pub mod Distinct
 pub mod Without
+pub mod Pairs

@@ -53,7 +53,7 @@ IsAscending-filter p (task ∷ tasks) up = elim (p task) as (λ test. IsAscendin
 
 -- ---- the test for a key
 
-Equal_from_test : (o : Ordering) → is_eq o ≡ true → o ≡ Equal
+pub Equal_from_test : (o : Ordering) → is_eq o ≡ true → o ≡ Equal
 Equal_from_test Less is = cc
 Equal_from_test Equal is = refl
 Equal_from_test Greater is = cc

@@ -1,3 +1,5 @@
 pub mod Key
 pub mod TaskList
 pub mod Laws
+pub mod Pairs
+pub mod Lent

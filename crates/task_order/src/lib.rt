@@ -15,7 +15,7 @@ pub use laws::{
 pub use path::Path;
 pub use start::{Start, StartList};
 pub use task::{Body, Task};
-pub use task_list::{TaskList, Tasks};
+pub use task_list::{TaskList, TaskRef, Tasks};
 
 #[cfg(test)]
 mod tests;

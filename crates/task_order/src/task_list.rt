@@ -1,92 +1,50 @@
-ghost use Rattle.std.specs.Prelude.{◌≡◌, ◌<◌, ◌^◌, ◌↔◌, [], ◌∷◌, Some, refl, length, slice_get, IsTrue, IfSome, IfNone, IfErr, OnOk, OnErr};
-ghost use Rattle.std.specs.Cmp.{eq_by_cmp_equiv, on_equiv, on_total, partial_equiv_from_equiv, po};
-ghost use Rattle.std.specs.Ordering.{eq_by_cmp};
+ghost use Rattle.std.specs.Prelude.{◌≡◌, ◌<◌, ◌^◌, ◌↔◌, [], ◌∷◌, Some, length, slice_get, IsTrue, IfSome, IfNone, IfErr, OnOk, OnErr};
 ghost use Rattle.std.specs.Iterator.{at_most};
-ghost use Rattle.std.specs.Map.Iter.{ShowsInOrder, TakesFirst, deref};
-ghost use Rattle.task_order.specs.declared.task.Task.{Task};
-ghost use Rattle.task_order.specs.Key.{key_cmp, key_cmp_total};
-ghost use Rattle.task_order.specs.TaskList.{IsAscending, IsNewKey, put_in};
+ghost use Rattle.std.specs.List.{Contains};
+ghost use Rattle.std.specs.Map.Iter.{ShowsInOrder, TakesFirst};
+ghost use Rattle.std.specs.Option.{option_map};
+ghost use Rattle.task_order.specs.TaskList.{IsAscending, IsNewKey, put_in, tasks_before, without};
 
-use crate::Task;
+use crate::{Body, Key, Task};
 use std::alloc::Global;
-use std::cmp::Ordering;
-use std::collections::{BTreeSet, btree_set};
+use std::collections::{BTreeMap, btree_map};
 use std::marker::Model;
 
-/// A task that is compared by its key alone.
-#[derive(Drop)]
-struct ByKey {
-    task: Task,
-}
-
-impl Model for ByKey {
-    ghost use Rattle.task_order.specs.declared.task.Task.{Task};
-
-    ghost Value = { Task };
-
-    ghost view = { λ entry. entry.task };
-}
-
-impl PartialEq for ByKey {
-    ghost eq = { λ a b. eq_by_cmp key_cmp a.key b.key };
-
-    ghost laws = { partial_equiv_from_equiv (on_equiv (λ a. a.key) (eq_by_cmp_equiv key_cmp_total)) };
-
-    fn eq(&self, other: &ByKey) -> bool {
-        self.cmp(other).is_eq()
-    }
-}
-
-impl Eq for ByKey {
-    ghost laws = { on_equiv (λ a. a.key) (eq_by_cmp_equiv key_cmp_total) };
-}
-
-impl PartialOrd for ByKey {
-    ghost partial_cmp = { λ a b. Some (key_cmp a.key b.key) };
-
-    ghost laws = { po (on_total (λ a. a.key) key_cmp_total) (λ a b. refl) };
-
-    fn partial_cmp(&self, other: &ByKey) -> Option<Ordering> {
-        Some(self.cmp(other))
-    }
-}
-
-impl Ord for ByKey {
-    ghost cmp = { λ a b. key_cmp a.key b.key };
-
-    ghost total = { on_total (λ a. a.key) key_cmp_total };
-
-    ghost matches_partial_cmp = { λ a b. refl };
-
-    ghost matches_eq = { λ a b. refl };
-
-    fn cmp(&self, other: &ByKey) -> Ordering {
-        self.task.key.compare(&other.task.key)
-    }
+/// A task of a list.
+#[derive(Clone, Copy)]
+pub struct TaskRef<'a> {
+    pub key: &'a Key,
+    pub body: Body,
 }
 
 /// Tasks in the order of their keys, each key once.
 #[derive(Drop)]
 pub struct TaskList {
-    tasks: BTreeSet<ByKey>,
+    bodies: BTreeMap<Key, Body>,
 }
 
 impl Model for TaskList {
     ghost use Rattle.std.specs.Prelude.{List};
     ghost use Rattle.task_order.specs.declared.task.Task.{Task};
+    ghost use Rattle.task_order.specs.Pairs.{tasks_of};
+    ghost use Rattle.task_order.specs.TaskList.{IsAscending};
 
     ghost Value = { List Task };
 
-    ghost view = { λ list. list.tasks.keys };
+    ghost view = { λ list. tasks_of list.bodies.entries };
+
+    ghost invariant = { λ list. IsAscending (tasks_of list.bodies.entries) };
 }
 
 impl TaskList {
+    ghost use Rattle.task_order.specs.Lent.{lent_task};
+
     /// An empty list, which takes no memory.
     pub fn new(alloc: Global) -> TaskList
         ensures { result ≡ [] }
     {
         TaskList {
-            tasks: BTreeSet::new(alloc),
+            bodies: BTreeMap::new(alloc),
         }
     }
 
@@ -96,34 +54,56 @@ impl TaskList {
         ensures ascending { IsAscending self.now }
         ensures small { result < 2 ^ 63 }
     {
-        self.tasks.len()
+        self.bodies.len()
     }
 
     /// Whether there is no task.
     pub fn is_empty(&self) -> bool
         ensures { IsTrue result ↔ (self.now ≡ []) }
     {
-        self.tasks.is_empty()
+        self.bodies.is_empty()
     }
 
     /// The task at a place in the order, counted from 0. This walks to it: to go over all tasks,
     /// use `iter`.
-    pub fn at(&self, i: usize) -> &Task
+    pub fn at(&self, i: usize) -> TaskRef<'_>
         requires { i < length self.now }
-        ensures { slice_get self.now i ≡ Some result.now }
+        ensures { slice_get self.now i ≡ Some (lent_task result) }
     {
-        let entry = self.tasks.iter().nth(i).unwrap();
-        &entry.task
+        self.iter().nth(i).unwrap()
+    }
+
+    /// The earliest task.
+    pub fn first(&self) -> Option<TaskRef<'_>>
+        ensures { option_map lent_task result ≡ slice_get self.now 0 }
+    {
+        let (key, body) = self.bodies.first_key_value()?;
+        Some(TaskRef { key, body: *body })
+    }
+
+    /// What the task with this key does, where there is one.
+    pub fn get(&self, key: &Key) -> Option<Body>
+        ensures found { IfSome result (λ body. Contains self.now (record { key = key.now; body = body })) }
+        ensures absent { IfNone result (IsNewKey key.now self.now) }
+    {
+        self.bodies.get(key).copied()
+    }
+
+    /// How many tasks are earlier than the key.
+    pub fn rank(&self, key: &Key) -> usize
+        ensures { result ≡ length (tasks_before key.now self.now) }
+    {
+        self.bodies.range(..key).count()
     }
 
     /// The tasks, in order.
     pub fn iter(&self) -> Tasks<'_>
         ensures rest { result ≡ self.now }
         ensures ascending { IsAscending self.now }
-        ensures runs { ShowsInOrder (deref {X = Task}) }
+        ensures runs { ShowsInOrder lent_task }
     {
         Tasks {
-            entries: self.tasks.iter(),
+            entries: self.bodies.iter(),
         }
     }
 
@@ -135,11 +115,12 @@ impl TaskList {
         ensures returned { IfErr result (λ back. back ≡ task) }
         ensures unchanged { OnErr result (self.new ≡ self.old) }
     {
-        match self.tasks.insert(ByKey { task }) {
+        let Task { key, body } = task;
+        match self.bodies.insert(key, body) {
             Ok(_) => Ok(()),
             Err(failed) => {
-                let ByKey { task } = failed.value;
-                Err(task)
+                let (key, body) = failed.value;
+                Err(Task { key, body })
             }
         }
     }
@@ -151,35 +132,49 @@ impl TaskList {
         ensures empty { IfNone result (self.old ≡ []) }
         ensures stays_empty { IfNone result (self.new ≡ []) }
     {
-        let entry = self.tasks.pop_first()?;
-        Some(entry.task)
+        let (key, body) = self.bodies.pop_first()?;
+        Some(Task { key, body })
+    }
+
+    /// Takes the task with this key out, where there is one.
+    pub fn remove(&mut self, key: &Key) -> Option<Task>
+        ensures left { self.new ≡ without key.now self.old }
+        ensures found { IfSome result (λ task. (task.key ≡ key.now) × Contains self.old task) }
+        ensures absent { IfNone result (IsNewKey key.now self.old) }
+        ensures unchanged { IfNone result (self.new ≡ self.old) }
+    {
+        let (key, body) = self.bodies.remove_entry(key)?;
+        Some(Task { key, body })
     }
 }
 
 /// The tasks of a list, in order, seen as the list of those that are left.
 #[derive(Drop)]
 pub struct Tasks<'a> {
-    entries: btree_set::Iter<'a, ByKey>,
+    entries: btree_map::Iter<'a, Key, Body>,
 }
 
 impl<'a> Model for Tasks<'a> {
     ghost use Rattle.std.specs.Prelude.{List};
     ghost use Rattle.task_order.specs.declared.task.Task.{Task};
+    ghost use Rattle.task_order.specs.Pairs.{tasks_of};
 
     ghost Value = { List Task };
 
-    ghost view = { λ tasks. tasks.entries };
+    ghost view = { λ tasks. tasks_of tasks.entries };
 }
 
 impl<'a> Iterator for Tasks<'a> {
-    type Item = &'a Task;
+    ghost use Rattle.task_order.specs.Lent.{lent_task};
 
-    ghost next_gives = { TakesFirst deref };
+    type Item = TaskRef<'a>;
+
+    ghost next_gives = { TakesFirst lent_task };
 
     ghost remaining = { λ tasks. at_most (length tasks) };
 
-    fn next(&mut self) -> Option<&'a Task> {
-        let entry = self.entries.next()?;
-        Some(&entry.task)
+    fn next(&mut self) -> Option<TaskRef<'a>> {
+        let (key, body) = self.entries.next()?;
+        Some(TaskRef { key, body: *body })
     }
 }

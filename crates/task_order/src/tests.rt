@@ -116,7 +116,7 @@ fn tasks_are_walked_in_key_order(rt: HostRuntime) -> Result<(), Fail> {
             format!(in rt.alloc(); "{:?}", task.key)?.as_str(),
             IN_ORDER[place]
         );
-        assert_eq!(rt; task, tasks.at(place));
+        assert_eq!(rt; task.key, tasks.at(place).key);
         place += 1;
     }
     assert_eq!(rt; place, 5);
@@ -133,6 +133,34 @@ fn tasks_come_out_in_key_order(rt: HostRuntime) -> Result<(), Fail> {
     }
     assert!(rt; tasks.is_empty());
     assert_eq!(rt; tasks.take_first(), None);
+    Ok(())
+}
+
+#[test]
+fn tasks_are_found_by_key(rt: HostRuntime) -> Result<(), Fail> {
+    let alloc = rt.alloc();
+    let mut tasks = five_tasks(&rt, alloc)?;
+    let present = Key {
+        prio: 3,
+        path: path(alloc, 3, &[])?,
+    };
+    let absent = Key {
+        prio: 3,
+        path: path(alloc, 9, &[])?,
+    };
+    assert_eq!(rt; tasks.rank(&present), 3);
+    assert_eq!(rt; tasks.get(&present), Some(BODY));
+    assert_eq!(rt; tasks.get(&absent), None);
+    assert_eq!(rt; tasks.remove(&absent), None);
+    assert_eq!(rt; tasks.len(), 5);
+    let first = tasks.first().ok_or("none is there")?;
+    assert_eq!(rt; format!(in alloc; "{:?}", first.key)?.as_str(), IN_ORDER[0]);
+    let removed = tasks.remove(&present).ok_or("the task is not there")?;
+    assert_eq!(rt; removed.key, present);
+    assert_eq!(rt; tasks.get(&present), None);
+    let taken = tasks.take_first().ok_or("none is left")?;
+    assert_eq!(rt; format!(in alloc; "{:?}", taken.key)?.as_str(), IN_ORDER[0]);
+    assert_eq!(rt; tasks.len(), 3);
     Ok(())
 }
 
