@@ -2,7 +2,7 @@
 use Rattle.std.proofs.Common.{◌≡◌, ℕ, zero, suc, ◌+◌, ◌<◌, ◌≤◌, true, false, List, [], ◌∷◌, ◌++◌, length, take, drop, get_or, sym, ◌∙◌, ap, arith}
 use Rattle.std.proofs.Math.Seq.{take-append_seam, drop-append_seam}
 use Rattle.std.proofs.lemmas.Grind.{flat_map-append}
-use Rattle.std.proofs.lemmas.List.{append-nil, take_more}
+use Rattle.std.proofs.lemmas.List.{append-nil}
 use Rattle.std.specs.List.{AllByRecursion, insert}
 use Rattle.std.specs.List.Sorted.{IsPartitionedBy, IsPartitionPoint, IsStrictlySortedBy}
 use Rattle.std.specs.declared.cmp.Ordering.TheVariants.{Less}
@@ -56,9 +56,20 @@ length-before bound (entry ∷ entries) (suc place) inside point =
     ap suc (length-before bound entries place (omega (arith, inside)) ((λ k d from upto. point.0 (suc k) d (omega arith) (omega (arith, upto))), (λ k d from upto. point.1 (suc k) d (omega (arith, from)) (omega (arith, upto)))))
     ∙ sym (ap length (filter-cons (is_entry_before bound) entry entries true (point.0 0 entry (omega arith) (omega arith))))
 
+-- where the last entry is before the bound, all are
+pub last_is_latest : (bound : Bound) (entries : List Entry) (last : ℕ) (d : Entry) → IsInKeyOrder entries → last + 1 ≡ length entries → is_entry_before bound (get_or entries last d) ≡ true → length entries ≡ length (entries_before bound entries)
+unfolding IsStrictlySortedBy
+last_is_latest bound [] last d ordered is before = absurd (omega (arith, is))
+last_is_latest bound (entry ∷ []) zero d ordered is before = sym (ap length (filter-cons (is_entry_before bound) entry [] true before))
+last_is_latest bound (entry ∷ []) (suc last) d ordered is before = absurd (omega (arith, is))
+last_is_latest bound (entry ∷ next ∷ entries) zero d ordered is before = absurd (omega (arith, is))
+last_is_latest bound (entry ∷ next ∷ entries) (suc last) d ordered is before =
+    let first : is_entry_before bound entry ≡ true = first_earlier bound entry (next ∷ entries) ordered.0 last d (omega (arith, is)) before in
+    ap suc (last_is_latest bound (next ∷ entries) last d ordered.1 (omega (arith, is)) before) ∙ sym (ap length (filter-cons (is_entry_before bound) entry (next ∷ entries) true first))
+
 -- ---- the texts
 
 -- one more text
-pub joined_texts_more : (entries : List Entry) (i : ℕ) (d : Entry) → i < length entries → joined_texts (take (i + 1) entries) ≡ joined_texts (take i entries) ++ (get_or entries i d).1
-joined_texts_more entries i d inside =
-    ap joined_texts (take_more entries i d inside) ∙ flat_map-append (λ (entry : Entry). entry.1) (take i entries) (get_or entries i d ∷ []) ∙ ap (λ l. joined_texts (take i entries) ++ l) (append-nil (get_or entries i d).1)
+pub joined_texts_pushed : (entries : List Entry) (entry : Entry) → joined_texts (entries ++ entry ∷ []) ≡ joined_texts entries ++ entry.1
+joined_texts_pushed entries entry =
+    flat_map-append (λ (entry : Entry). entry.1) entries (entry ∷ []) ∙ ap (λ l. joined_texts entries ++ l) (append-nil entry.1)

@@ -1,4 +1,4 @@
-ghost use Rattle.std.specs.Prelude.{◌≡◌, ◌+◌, ◌<◌, ◌≤◌, [], ◌++◌, length, take, IfOk, OnOk, OnErr};
+ghost use Rattle.std.specs.Prelude.{◌≡◌, ◌+◌, ◌<◌, ◌≤◌, [], ◌↔◌, length, take, drop, IsTrue, IfOk, OnOk, OnErr};
 ghost use Rattle.task_order.specs.Key.{at_key};
 ghost use Rattle.output_log.specs.Entries.{IsInKeyOrder, IsNewEntry, entries_before, entries_from, with_entry, joined_texts};
 
@@ -52,6 +52,21 @@ impl Log {
         Ok(())
     }
 
+    /// How many entries there are.
+    pub fn len(&self) -> usize
+        ensures len { result ≡ length self.now.entries }
+        ensures ordered { IsInKeyOrder self.now.entries }
+    {
+        self.entries.len()
+    }
+
+    /// Whether there is no entry.
+    pub fn is_empty(&self) -> bool
+        ensures { IsTrue result ↔ (self.now.entries ≡ []) }
+    {
+        self.entries.is_empty()
+    }
+
     /// Puts an entry at its place, where `reserve` made one. It takes no memory.
     pub fn put(&mut self, key: Key, text: Text)
         requires room { 0 < self.old.spare }
@@ -60,7 +75,7 @@ impl Log {
         ensures spare { self.old.spare ≤ self.new.spare + 1 }
     {
         put_laws();
-        let place = self.below(&key);
+        let place = self.place_of(&key);
         match self.entries.insert(place, (key, text)) {
             Ok(()) => {}
             Err(_) => unreachable!(),
@@ -84,14 +99,21 @@ impl Log {
         ensures rest { OnOk result (self.new.entries ≡ entries_from (at_key key.now) self.old.entries) }
         ensures unchanged { OnErr result (self.new.entries ≡ self.old.entries) }
         ensures spare { self.old.spare ≤ self.new.spare }
-        ensures parts { self.old.entries ≡ entries_before (at_key key.now) self.old.entries ++ entries_from (at_key key.now) self.old.entries }
+        ensures ordered { IsInKeyOrder self.old.entries }
     {
         let count = self.below(key);
-        let text = self.first_texts(count)?;
-        for _ in 0..count {
-            let _ = self.entries.pop_front();
-        }
-        Ok(text)
+        self.take_first(count)
+    }
+
+    /// Takes all entries out, and joins their texts. After `NoRoom` the log is as it was.
+    pub fn take_all(&mut self) -> Result<Text, NoRoom>
+        ensures text { IfOk result (λ text. text ≡ joined_texts self.old.entries) }
+        ensures rest { OnOk result (self.new.entries ≡ []) }
+        ensures unchanged { OnErr result (self.new.entries ≡ self.old.entries) }
+        ensures spare { self.old.spare ≤ self.new.spare }
+    {
+        let count = self.entries.len();
+        self.take_first(count)
     }
 
     /// The texts of all entries, joined.
@@ -101,14 +123,39 @@ impl Log {
         self.first_texts(self.entries.len())
     }
 
-    /// The texts of so many entries from the first on, joined.
+    // The place of an entry of the key, which usually is later than all.
+    fn place_of(&self, key: &Key) -> usize
+        ensures place { result ≡ length (entries_before (at_key key.now) self.now.entries) }
+        ensures bound { result ≤ length self.now.entries }
+        ensures ordered { IsInKeyOrder self.now.entries }
+    {
+        match self.entries.back() {
+            Some(last) if last.0.compare(key).is_lt() => self.entries.len(),
+            _ => self.below(key),
+        }
+    }
+
+    // Takes so many entries from the first on out, and joins their texts.
+    fn take_first(&mut self, count: usize) -> Result<Text, NoRoom>
+        requires { count ≤ length self.old.entries }
+        ensures text { IfOk result (λ text. text ≡ joined_texts (take count self.old.entries)) }
+        ensures rest { OnOk result (self.new.entries ≡ drop count self.old.entries) }
+        ensures unchanged { OnErr result (self.new.entries ≡ self.old.entries) }
+        ensures spare { self.old.spare ≤ self.new.spare }
+    {
+        let text = self.first_texts(count)?;
+        self.entries.drain(..count);
+        Ok(text)
+    }
+
+    // The texts of so many entries from the first on, joined.
     fn first_texts(&self, count: usize) -> Result<Text, NoRoom>
         requires { count ≤ length self.now.entries }
         ensures { IfOk result (λ text. text ≡ joined_texts (take count self.now.entries)) }
     {
         let mut text = Text::new(*self.entries.allocator());
-        for i in 0..count {
-            text.push_all(self.entries[i].1.bytes())?;
+        for entry in self.entries.range(..count) {
+            text.push_all(entry.1.bytes())?;
         }
         Ok(text)
     }

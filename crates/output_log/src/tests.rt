@@ -27,11 +27,14 @@ fn texts_are_joined_in_key_order(rt: HostRuntime) -> Result<(), Fail> {
     log.reserve(2)?;
     log.put(key(alloc, 1)?, text(alloc, b"b")?);
     log.put(key(alloc, 0)?, text(alloc, b"a")?);
+    assert_eq!(rt; log.len(), 2);
     let bound = key(alloc, 1)?;
     assert_eq!(rt; log.below(&bound), 1);
     assert_eq!(rt; log.all()?.bytes(), b"ab".as_slice());
     assert_eq!(rt; log.take_below(&bound)?.bytes(), b"a".as_slice());
     assert_eq!(rt; log.below(&bound), 0);
     assert_eq!(rt; log.all()?.bytes(), b"b".as_slice());
+    assert_eq!(rt; log.take_all()?.bytes(), b"b".as_slice());
+    assert!(rt; log.is_empty());
     Ok(())
 }

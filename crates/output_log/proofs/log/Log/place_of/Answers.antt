@@ -1,0 +1,18 @@
+use Rattle.std.proofs.Common.{◌≡◌, ◌≤◌, ◌-◌, ◌∙◌, rules, ap, sym, subst, arith, length, get_or, deque_len, true}
+use Rattle.std.specs.Ordering.{is_lt}
+use Rattle.task_order.specs.Key.{at_key}
+use Rattle.output_log.specs.LogState.{LogState}
+use Rattle.output_log.specs.Entries.{Entry, is_entry_before, entries_before}
+use Rattle.output_log.proofs.LogEntries.{last_is_latest}
+use Rattle.output_log.proofs.log.Log.place_of.Goals as goal
+
+pub returns-in-Some-clause-place : goal.returns-in-Some-clause-place
+returns-in-Some-clause-place c =
+    let bound = at_key c.args.key.now in
+    let entries = c.self.inside.entries.items in
+    let whole : deque_len c.self.inside.entries ≡ length entries = search rules in
+    let some : 1 ≤ deque_len c.self.inside.entries = search (rules, c.back.ensures.variant) in
+    let earlier : is_entry_before bound c.in-Some.last.now ≡ true = ap is_lt (sym c.compare.ensures.order) ∙ sym c.is_lt.ensures ∙ c.if-is_lt.true in
+    let last : is_entry_before bound (get_or entries (deque_len c.self.inside.entries - 1) c.in-Some.last.now) ≡ true = subst (λ (entry : Entry). is_entry_before bound entry ≡ true) c.in-Some.ensures.lookup earlier in
+    c.len.ensures ∙ whole ∙ last_is_latest bound entries (deque_len c.self.inside.entries - 1) c.in-Some.last.now c.self.invariant (omega arith) last
+    ∙ ap (λ (log : LogState). length (entries_before bound log.entries)) c.self.view_is
