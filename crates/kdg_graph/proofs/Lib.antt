@@ -1,0 +1,4 @@
+pub mod Places
+pub mod Dealing
+pub mod Ordering
+pub mod Keeping

@@ -1,0 +1,163 @@
+-- Nodes in key order.
+use Rattle.std.proofs.Common.{◌≡◌, ℕ, zero, suc, ◌+◌, ◌<◌, ◌≤◌, Bool, true, false, cond, List, [], ◌∷◌, length, take, drop, get_or, refl, sym, ◌∙◌, ap, subst, arith, add-one, add-zero, ◌-◌, not, ◌&&◌}
+use Rattle.std.specs.List.{AllByRecursion, filter, insert, list_any}
+use Rattle.std.specs.Cmp.{tied_itself}
+use Rattle.std.proofs.Math.Seq.{drop-cons}
+use Rattle.std.proofs.lemmas.List.{get_or-drop, length-drop, take_all}
+use Rattle.std.specs.List.Sorted.{IsPartitionedBy, IsPartitionPoint}
+use Rattle.std.specs.declared.cmp.Ordering.{Ordering}
+use Rattle.std.specs.declared.cmp.Ordering.TheVariants.{Less, Equal, Greater}
+use Rattle.std.specs.Ordering.{is_lt, ordering_reverse}
+use Rattle.task_order.specs.declared.key.Key.{Key}
+use Rattle.task_order.specs.declared.task.Task.{Task}
+use Rattle.task_order.specs.Key.{key_cmp, key_cmp_total}
+use Rattle.task_order.specs.TaskList.{IsAscending, put_in}
+use Rattle.kdg_graph.specs.Node.{Node}
+use Rattle.kdg_graph.specs.Nodes.{earlier_than, ids_of, later_than, put_node, tasks_of}
+use Rattle.rw_sets.specs.Accesses.{conflicts_with}
+use Rattle.kdg_graph.specs.Edges.{is_source, laters_of}
+
+-- the tasks of the nodes with one more
+pub tasks-put_node : (node : Node) (nodes : List Node) → tasks_of (put_node node nodes) ≡ put_in node.task (tasks_of nodes)
+tasks-put_node node [] = refl
+tasks-put_node node (other ∷ nodes) =
+    elim (is_lt (key_cmp other.task.key node.task.key)) as (λ past. tasks_of (cond past (other ∷ put_node node nodes) (node ∷ other ∷ nodes)) ≡ cond past (other.task ∷ put_in node.task (tasks_of nodes)) (node.task ∷ other.task ∷ tasks_of nodes)) [
+      | true ↦ ap (λ rest. other.task ∷ rest) (tasks-put_node node nodes)
+      | false ↦ refl
+    ]
+
+-- ---- the search for the place of a key
+
+-- whether a node is earlier than the key
+abbrev pub is_before : Key → Node → Bool
+is_before key node = is_lt (key_cmp node.task.key key)
+
+pub Less_from_test : (o : Ordering) → is_lt o ≡ true → o ≡ Less
+Less_from_test Less is = refl
+Less_from_test Equal is = cc
+Less_from_test Greater is = cc
+
+-- an earlier node has only earlier ones before it
+first_earlier : (key : Key) (node : Node) (nodes : List Node) → AllByRecursion (λ other. key_cmp node.task.key other.key ≡ Less) (tasks_of nodes) → (j : ℕ) (d : Node) → j < length nodes → is_before key (get_or nodes j d) ≡ true → is_before key node ≡ true
+first_earlier key node [] all j d inside earlier = absurd (omega (arith, inside))
+first_earlier key node (other ∷ nodes) all zero d inside earlier = ap is_lt (key_cmp_total.trans node.task.key other.task.key key all.0 (Less_from_test _ earlier))
+first_earlier key node (other ∷ nodes) all (suc j) d inside earlier = first_earlier key node nodes all.1 j d (omega (arith, inside)) earlier
+
+pub is_partitioned : (key : Key) (nodes : List Node) → IsAscending (tasks_of nodes) → IsPartitionedBy (is_before key) nodes
+is_partitioned key [] up i j d ordered inside earlier = absurd (omega (arith, inside))
+is_partitioned key (node ∷ nodes) up zero zero d ordered inside earlier = earlier
+is_partitioned key (node ∷ nodes) up zero (suc j) d ordered inside earlier = first_earlier key node nodes up.0 j d (omega (arith, inside)) earlier
+is_partitioned key (node ∷ nodes) up (suc i) zero d ordered inside earlier = absurd (omega (arith, ordered))
+is_partitioned key (node ∷ nodes) up (suc i) (suc j) d ordered inside earlier = is_partitioned key nodes up.1 i j d (omega (arith, ordered)) (omega (arith, inside)) earlier
+
+-- a node goes to its place, behind those that are earlier
+pub insert_at_point : (node : Node) (nodes : List Node) (place : ℕ) → place ≤ length nodes
+    → IsPartitionPoint (λ other. is_before node.task.key other ≡ true) (λ other. is_before node.task.key other ≡ false) nodes place → insert nodes place node ≡ put_node node nodes
+insert_at_point node [] zero inside point = refl
+insert_at_point node [] (suc place) inside point = absurd (omega (arith, inside))
+insert_at_point node (other ∷ nodes) zero inside point =
+    sym (ap (λ past. cond past (other ∷ put_node node nodes) (node ∷ other ∷ nodes)) (point.1 0 other (omega arith) (omega arith)))
+insert_at_point node (other ∷ nodes) (suc place) inside point =
+    ap (λ rest. other ∷ rest) (insert_at_point node nodes place (omega (arith, inside)) ((λ k d from upto. point.0 (suc k) d (omega arith) (omega (arith, upto))), (λ k d from upto. point.1 (suc k) d (omega (arith, from)) (omega (arith, upto)))))
+    ∙ sym (ap (λ past. cond past (other ∷ put_node node nodes) (node ∷ other ∷ nodes)) (point.0 0 other (omega arith) (omega arith)))
+
+-- ---- the earlier nodes and the later ones, by place
+
+turned : (a b : Key) → key_cmp a b ≡ Less → is_lt (key_cmp b a) ≡ false
+turned a b earlier = ap is_lt (key_cmp_total.antisymm b a ∙ ap ordering_reverse earlier)
+
+not_itself : (key : Key) → is_lt (key_cmp key key) ≡ false
+not_itself key = ap is_lt (tied_itself key_cmp_total key)
+
+filter-none : (p : Node → Bool) (nodes : List Node) → AllByRecursion (λ node. p node ≡ false) nodes → filter p nodes ≡ []
+filter-none p [] all = refl
+filter-none p (node ∷ nodes) all = ap (λ test. cond test (node ∷ filter p nodes) (filter p nodes)) all.0 ∙ filter-none p nodes all.1
+
+filter-all : (p : Node → Bool) (nodes : List Node) → AllByRecursion (λ node. p node ≡ true) nodes → filter p nodes ≡ nodes
+filter-all p [] all = refl
+filter-all p (node ∷ nodes) all = ap (λ test. cond test (node ∷ filter p nodes) (filter p nodes)) all.0 ∙ ap (λ rest. node ∷ rest) (filter-all p nodes all.1)
+
+none_earlier : (key : Key) (nodes : List Node) → AllByRecursion (λ other. key_cmp key other.key ≡ Less) (tasks_of nodes) → AllByRecursion (λ node. is_before key node ≡ false) nodes
+none_earlier key [] all = tt
+none_earlier key (node ∷ nodes) all = (turned key node.task.key all.0, none_earlier key nodes all.1)
+
+all_later : (key : Key) (nodes : List Node) → AllByRecursion (λ other. key_cmp key other.key ≡ Less) (tasks_of nodes) → AllByRecursion (λ node. is_lt (key_cmp key node.task.key) ≡ true) nodes
+all_later key [] all = tt
+all_later key (node ∷ nodes) all = (ap is_lt all.0, all_later key nodes all.1)
+
+earlier_at : (P : Task → Type 0) (nodes : List Node) (at : ℕ) (d : Node) → at < length nodes → AllByRecursion P (tasks_of nodes) → P (get_or nodes at d).task
+earlier_at P [] at d inside all = absurd (omega (arith, inside))
+earlier_at P (node ∷ nodes) zero d inside all = all.0
+earlier_at P (node ∷ nodes) (suc at) d inside all = earlier_at P nodes at d (omega (arith, inside)) all.1
+
+-- the nodes before a place are those that are earlier than the node there
+pub earlier_than-place : (nodes : List Node) (at : ℕ) (d : Node) → at < length nodes → IsAscending (tasks_of nodes) → earlier_than (get_or nodes at d).task.key nodes ≡ take at nodes
+earlier_than-place [] at d inside up = absurd (omega (arith, inside))
+earlier_than-place (node ∷ nodes) zero d inside up =
+    ap (λ test. cond test (node ∷ earlier_than node.task.key nodes) (earlier_than node.task.key nodes)) (not_itself node.task.key)
+    ∙ filter-none (is_before node.task.key) nodes (none_earlier node.task.key nodes up.0)
+earlier_than-place (node ∷ nodes) (suc at) d inside up =
+    let key : Key = (get_or nodes at d).task.key in
+    let first : key_cmp node.task.key key ≡ Less = earlier_at (λ other. key_cmp node.task.key other.key ≡ Less) nodes at d (omega (arith, inside)) up.0 in
+    ap (λ test. cond test (node ∷ earlier_than key nodes) (earlier_than key nodes)) (ap is_lt first)
+    ∙ ap (λ rest. node ∷ rest) (earlier_than-place nodes at d (omega (arith, inside)) up.1)
+
+-- and those behind it are later
+pub later_than-place : (nodes : List Node) (at : ℕ) (d : Node) → at < length nodes → IsAscending (tasks_of nodes) → later_than (get_or nodes at d).task.key nodes ≡ drop (suc at) nodes
+later_than-place [] at d inside up = absurd (omega (arith, inside))
+later_than-place (node ∷ nodes) zero d inside up =
+    ap (λ test. cond test (node ∷ later_than node.task.key nodes) (later_than node.task.key nodes)) (not_itself node.task.key)
+    ∙ filter-all (λ other. is_lt (key_cmp node.task.key other.task.key)) nodes (all_later node.task.key nodes up.0)
+later_than-place (node ∷ nodes) (suc at) d inside up =
+    let key : Key = (get_or nodes at d).task.key in
+    let first : key_cmp node.task.key key ≡ Less = earlier_at (λ other. key_cmp node.task.key other.key ≡ Less) nodes at d (omega (arith, inside)) up.0 in
+    ap (λ test. cond test (node ∷ later_than key nodes) (later_than key nodes)) (turned node.task.key key first)
+    ∙ later_than-place nodes at d (omega (arith, inside)) up.1
+
+-- ---- the walk over the sources
+
+-- whether the node is a source, by the nodes before its place
+pub source_at : (nodes : List Node) (at : ℕ) (node : Node) → at < length nodes → IsAscending (tasks_of nodes) → node ≡ get_or nodes at node
+    → is_source nodes node ≡ (not node.running && not (list_any (λ other. conflicts_with other.set node.set) (take at nodes)))
+source_at nodes at node inside up here =
+    let before : earlier_than node.task.key nodes ≡ take at nodes = ap (λ (n : Node). earlier_than n.task.key nodes) here ∙ earlier_than-place nodes at node inside up in
+    ap (λ earlier. not node.running && not (list_any (λ other. conflicts_with other.set node.set) earlier)) before
+
+-- the sources from a place on begin with the node there, where it is one
+pub sources_step : (nodes : List Node) (at : ℕ) (node : Node) (test : Bool) → at < length nodes → node ≡ get_or nodes at node → is_source nodes node ≡ test
+    → ids_of (filter (is_source nodes) (drop at nodes)) ≡ cond test (node.id ∷ ids_of (filter (is_source nodes) (drop (at + 1) nodes))) (ids_of (filter (is_source nodes) (drop (at + 1) nodes)))
+sources_step nodes at node test inside here is =
+    let rest = drop (at + 1) nodes in
+    let cut : drop at nodes ≡ get_or nodes at node ∷ rest = rw add-one (drop-cons nodes at node inside) in
+    ap (λ l. ids_of (filter (is_source nodes) l)) (cut ∙ ap (λ n. n ∷ rest) (sym here))
+    ∙ ap (λ b. ids_of (cond b (node ∷ filter (is_source nodes) rest) (filter (is_source nodes) rest))) is
+    ∙ elim test as (λ b. ids_of (cond b (node ∷ filter (is_source nodes) rest) (filter (is_source nodes) rest)) ≡ cond b (node.id ∷ ids_of (filter (is_source nodes) rest)) (ids_of (filter (is_source nodes) rest))) [ true ↦ refl | false ↦ refl ]
+
+-- the first node from a place on is the one there
+pub node_from : (nodes from : List Node) (at : ℕ) (node : Node) → from ≡ drop at nodes → node ≡ get_or from 0 node → node ≡ get_or nodes at node
+node_from nodes from at node back here = here ∙ ap (λ (l : List Node). get_or l 0 node) back ∙ get_or-drop at nodes 0 node ∙ ap (λ n. get_or nodes n node) (add-zero at)
+
+-- one step of that walk
+pub next_source : (nodes current before rest : List Node) (at : ℕ) (node : Node) (test : Bool) → current ≡ nodes → before ≡ take at current → rest ≡ drop at current → node ≡ get_or rest 0 node → at < length current
+    → IsAscending (tasks_of nodes) → test ≡ (not node.running && not (list_any (λ other. conflicts_with other.set node.set) before))
+    → ids_of (filter (is_source nodes) (drop at nodes)) ≡ cond test (node.id ∷ ids_of (filter (is_source nodes) (drop (at + 1) nodes))) (ids_of (filter (is_source nodes) (drop (at + 1) nodes)))
+next_source nodes current before rest at node test same front back here inside up is =
+    let in_nodes : at < length nodes = subst (λ (l : List Node). at < length l) same inside in
+    let found : node ≡ get_or nodes at node = node_from nodes rest at node (back ∙ ap (drop at) same) here in
+    let source : is_source nodes node ≡ test =
+    source_at nodes at node in_nodes up found ∙ sym (is ∙ ap (λ l. not node.running && not (list_any (λ other. conflicts_with other.set node.set) l)) (front ∙ ap (take at) same)) in
+    sources_step nodes at node test in_nodes found source
+
+-- ---- the later nodes in conflict
+
+-- all but the first
+pub rest_whole : (nodes : List Node) → take (length nodes - 1) (drop 1 nodes) ≡ drop 1 nodes
+rest_whole nodes = take_all (length nodes - 1) (drop 1 nodes) (omega (arith, length-drop 1 nodes))
+
+pub laters_at : (nodes from later : List Node) (at : ℕ) (node : Node) → IsAscending (tasks_of nodes) → at < length nodes → from ≡ drop at nodes → later ≡ drop 1 from → node ≡ get_or from 0 node
+    → ids_of (filter (λ other. conflicts_with node.set other.set) later) ≡ laters_of nodes node
+laters_at nodes from later at node up inside back rest here =
+    let found : node ≡ get_or nodes at node = node_from nodes from at node back here in
+    let behind : later ≡ later_than node.task.key nodes =
+    rest ∙ ap (drop 1) (back ∙ drop-cons nodes at node inside) ∙ sym (ap (λ (n : Node). later_than n.task.key nodes) found ∙ later_than-place nodes at node inside up) in
+    ap (λ l. ids_of (filter (λ other. conflicts_with node.set other.set) l)) behind

@@ -1,0 +1,99 @@
+-- The place of a node by its id, and what a change there does.
+use Rattle.std.proofs.Common.{◌≡◌, ◌≢◌, ℕ, zero, suc, ◌+◌, ◌<◌, Bool, true, false, not, cond, List, [], ◌∷◌, length, map, get_or, set, Some, None, refl, sym, ◌∙◌, ap, arith, eqb-true, eq-eqb}
+use Rattle.std.specs.Prelude.{IsSome, position}
+use Rattle.std.specs.List.{AllByRecursion, remove, prefix_len}
+use Rattle.std.proofs.lemmas.Bool.{cond_both}
+use Rattle.std.proofs.lemmas.List.Quantifiers.{position-Some}
+use Rattle.kdg_graph.specs.declared.node_id.NodeId.{NodeId}
+use Rattle.kdg_graph.specs.Node.{Node}
+use Rattle.kdg_graph.specs.Nodes.{HasNode, HaveOwnIds, is_at, node_at}
+use Rattle.kdg_graph.specs.NodeStock.{IsPlaceOf}
+use Rattle.kdg_graph.specs.Rewrite.{without}
+
+-- ---- ids and their test
+
+pub same_id : (id : NodeId) (node : Node) → is_at id node ≡ true → node.id ≡ id
+same_id id node is = ap (λ n. let made : NodeId = record { at = n } in made) (eqb-true node.id.at id.at is)
+
+pub is_at-same : (id : NodeId) (node : Node) → node.id ≡ id → is_at id node ≡ true
+is_at-same id node same = eq-eqb node.id.at id.at (ap (λ (other : NodeId). other.at) same)
+
+not_at_by : (id : NodeId) (node : Node) (test : Bool) → is_at id node ≡ test → node.id ≢ id → test ≡ false
+not_at_by id node true is differ = absurd (differ (same_id id node is))
+not_at_by id node false is differ = refl
+
+pub not_at : (id : NodeId) (node : Node) → node.id ≢ id → is_at id node ≡ false
+not_at id node differ = not_at_by id node _ refl differ
+
+-- ---- finding the place
+
+place_from : (id : NodeId) (nodes : List Node) (place : ℕ) (d : Node) → place < length nodes → is_at id (get_or nodes place d) ≡ true → ((k : ℕ) → k < place → is_at id (get_or nodes k d) ≡ false) → IsPlaceOf id nodes place
+place_from id [] place d inside here before = absurd (omega (arith, inside))
+place_from id (node ∷ nodes) zero d inside here before = here
+place_from id (node ∷ nodes) (suc place) d inside here before =
+    (before 0 (omega arith), place_from id nodes place d (omega (arith, inside)) here (λ k below. before (suc k) (omega (arith, below))))
+
+pub place_from_position : (id : NodeId) (nodes : List Node) (place : ℕ) → position (is_at id) nodes ≡ Some place → IsPlaceOf id nodes place
+place_from_position id [] place is = cc
+place_from_position id (node ∷ nodes) place is =
+    let first = position-Some (is_at id) (node ∷ nodes) place node is in
+    place_from id (node ∷ nodes) place node first.0 first.1 first.2
+
+prefix_below : (id : NodeId) (nodes : List Node) → HasNode nodes id → prefix_len (λ node. not (is_at id node)) nodes < length nodes
+prefix_below id [] has = cc
+prefix_below id (node ∷ nodes) has =
+    let by_case : (test : Bool) → IsSome (cond test (Some node) (node_at nodes id)) → cond (not test) (1 + prefix_len (λ other. not (is_at id other)) nodes) 0 < length (node ∷ nodes) = elim [
+      | true ↦ λ _. omega arith
+      | false ↦ λ rest. omega (arith, prefix_below id nodes rest)
+    ] in
+    by_case (is_at id node) has
+
+pub has_position : (id : NodeId) (nodes : List Node) → HasNode nodes id → IsSome (position (is_at id) nodes)
+has_position id nodes has =
+    let place = prefix_len (λ node. not (is_at id node)) nodes in
+    cond_both _ (Some place) None IsSome (λ _. refl) (λ beyond. absurd (grind (arith, prefix_below id nodes has, beyond)))
+
+pub place_inside : (id : NodeId) (nodes : List Node) (place : ℕ) → IsPlaceOf id nodes place → place < length nodes
+place_inside id [] place at = absurd at
+place_inside id (node ∷ nodes) zero at = omega arith
+place_inside id (node ∷ nodes) (suc place) at = omega (arith, place_inside id nodes place at.1)
+
+pub node_at-place : (id : NodeId) (nodes : List Node) (place : ℕ) (d : Node) → IsPlaceOf id nodes place → node_at nodes id ≡ Some (get_or nodes place d)
+node_at-place id [] place d at = absurd at
+node_at-place id (node ∷ nodes) zero d at = ap (λ test. cond test (Some node) (node_at nodes id)) at
+node_at-place id (node ∷ nodes) (suc place) d at = ap (λ test. cond test (Some node) (node_at nodes id)) at.0 ∙ node_at-place id nodes place d at.1
+
+pub id_at-place : (id : NodeId) (nodes : List Node) (place : ℕ) (d : Node) → IsPlaceOf id nodes place → (get_or nodes place d).id ≡ id
+id_at-place id [] place d at = absurd at
+id_at-place id (node ∷ nodes) zero d at = same_id id node at
+id_at-place id (node ∷ nodes) (suc place) d at = id_at-place id nodes place d at.1
+
+-- ---- taking the node out
+
+none_at : (id other : NodeId) (nodes : List Node) → id ≡ other → AllByRecursion (λ node. node.id ≢ id) nodes → AllByRecursion (λ node. is_at other node ≡ false) nodes
+none_at id other [] same all = tt
+none_at id other (node ∷ nodes) same all = (not_at other node (λ is. all.0 (is ∙ sym same)), none_at id other nodes same all.1)
+
+without_none : (id : NodeId) (nodes : List Node) → AllByRecursion (λ node. is_at id node ≡ false) nodes → without id nodes ≡ nodes
+without_none id [] all = refl
+without_none id (node ∷ nodes) all = ap (λ test. cond (not test) (node ∷ without id nodes) (without id nodes)) all.0 ∙ ap (λ rest. node ∷ rest) (without_none id nodes all.1)
+
+pub without-place : (id : NodeId) (nodes : List Node) (place : ℕ) → HaveOwnIds nodes → IsPlaceOf id nodes place → remove nodes place ≡ without id nodes
+without-place id [] place own at = absurd at
+without-place id (node ∷ nodes) zero own at =
+    sym (ap (λ test. cond (not test) (node ∷ without id nodes) (without id nodes)) at ∙ without_none id nodes (none_at node.id id nodes (same_id id node at) own.0))
+without-place id (node ∷ nodes) (suc place) own at =
+    ap (λ rest. node ∷ rest) (without-place id nodes place own.1 at.1) ∙ sym (ap (λ test. cond (not test) (node ∷ without id nodes) (without id nodes)) at.0)
+
+-- ---- changing the node
+
+map_none : (f : Node → Node) (id : NodeId) (nodes : List Node) → ((node : Node) → is_at id node ≡ false → f node ≡ node) → AllByRecursion (λ node. is_at id node ≡ false) nodes → map f nodes ≡ nodes
+map_none f id [] keeps all = refl
+map_none f id (node ∷ nodes) keeps all = λ i. keeps node all.0 i ∷ map_none f id nodes keeps all.1 i
+
+-- a change of the one node that has an id
+pub map-place : (f : Node → Node) (id : NodeId) (nodes : List Node) (place : ℕ) (d : Node) → ((node : Node) → is_at id node ≡ false → f node ≡ node) → HaveOwnIds nodes → IsPlaceOf id nodes place
+    → map f nodes ≡ set nodes place (f (get_or nodes place d))
+map-place f id [] place d keeps own at = absurd at
+map-place f id (node ∷ nodes) zero d keeps own at = ap (λ rest. f node ∷ rest) (map_none f id nodes keeps (none_at node.id id nodes (same_id id node at) own.0))
+map-place f id (node ∷ nodes) (suc place) d keeps own at = λ i. keeps node at.0 i ∷ map-place f id nodes place d keeps own.1 at.1 i

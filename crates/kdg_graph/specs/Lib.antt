@@ -1,0 +1,5 @@
+pub mod Node
+pub mod Nodes
+pub mod Edges
+pub mod Rewrite
+pub mod NodeStock

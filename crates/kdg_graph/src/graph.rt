@@ -1,0 +1,161 @@
+ghost use Rattle.std.specs.Prelude.{◌≡◌, [], Some, IfOk, IfErr, IfSome, OnOk, OnErr};
+ghost use Rattle.std.specs.Option.{option_map};
+ghost use Rattle.task_order.specs.TaskList.{IsNewKey};
+ghost use Rattle.kdg_graph.specs.Node.{new_node};
+ghost use Rattle.kdg_graph.specs.Nodes.{IsGraph, HasNode, least_of, node_at, node_with_key, put_node, running_at, set_at, started, task_at, tasks_of};
+ghost use Rattle.kdg_graph.specs.Edges.{laters_of, sources_of};
+
+use crate::entry::Entry;
+use crate::node_list::{NodeList, place_of};
+use crate::{Laters, NodeId, Sources};
+use rw_sets::RwSet;
+use std::alloc::Global;
+use std::marker::Model;
+use task_order::{Key, Task, TaskList};
+
+/// Pending tasks in the order of their keys. Each is a node, with an id, a recorded set, and a mark
+/// where the task is running.
+///
+/// This is the definition's plain program: it finds sources and later nodes by comparing sets, pair
+/// by pair.
+#[derive(Drop)]
+pub struct Graph {
+    nodes: NodeList,
+    tasks: TaskList,
+}
+
+impl Model for Graph {
+    ghost use Rattle.std.specs.Prelude.{List};
+    ghost use Rattle.kdg_graph.specs.Node.{Node};
+    ghost use Rattle.kdg_graph.specs.Nodes.{IsListed};
+
+    ghost Value = { List Node };
+
+    ghost view = { λ g. g.nodes.nodes };
+
+    ghost invariant = { λ g. IsListed g.nodes.nodes g.tasks };
+}
+
+impl Graph {
+    /// A graph without nodes, which takes no memory.
+    pub fn new(alloc: Global) -> Graph
+        ensures { result ≡ [] }
+    {
+        Graph {
+            nodes: NodeList::new(alloc),
+            tasks: TaskList::new(alloc),
+        }
+    }
+
+    /// Puts in a node that is not running. Where memory runs out, its task and its set come back
+    /// and the graph is as it was.
+    pub fn insert(&mut self, task: Task, set: RwSet) -> Result<NodeId, (Task, RwSet)>
+        requires { IsNewKey task.key (tasks_of self.old) }
+        ensures ok { IfOk result (λ id. self.new ≡ put_node (new_node id task set) self.old) }
+        ensures graph { IsGraph self.new }
+        ensures returned { IfErr result (λ back. back ≡ (task, set)) }
+        ensures unchanged { OnErr result (self.new ≡ self.old) }
+    {
+        if self.nodes.reserve(1).is_err() {
+            return Err((task, set));
+        }
+        let Ok(copy) = task.copy() else {
+            return Err((task, set));
+        };
+        match self.tasks.insert(copy) {
+            Ok(()) => Ok(self.nodes.put(task, set)),
+            Err(_) => Err((task, set)),
+        }
+    }
+
+    /// Marks a node as running.
+    pub fn mark_running(&mut self, node: NodeId)
+        requires { HasNode self.old node }
+        ensures marked { self.new ≡ started node self.old }
+        ensures graph { IsGraph self.new }
+    {
+        self.nodes.mark_running(node);
+    }
+
+    /// The nodes that are not running and that no earlier node's recorded set conflicts with.
+    pub fn sources(&self) -> Sources<'_>
+        ensures sources { result ≡ sources_of self.now }
+        ensures graph { IsGraph self.now }
+    {
+        Sources::of(self.nodes.entries())
+    }
+
+    /// The later nodes whose recorded sets conflict with that of a node.
+    pub fn later_of(&self, node: NodeId) -> Laters<'_>
+        requires { HasNode self.now node }
+        ensures laters { IfSome (node_at self.now node) (λ of. result ≡ laters_of self.now of) }
+        ensures graph { IsGraph self.now }
+    {
+        let entries = self.nodes.entries();
+        let (_, from) = entries.split_at(place_of(entries, node));
+        Laters::of(&from[0], &from[1..])
+    }
+
+    /// The earliest node.
+    pub fn least(&self) -> Option<NodeId>
+        ensures least { result ≡ least_of self.now }
+        ensures graph { IsGraph self.now }
+    {
+        self.nodes.entries().first().map(|entry| entry.id)
+    }
+
+    /// The node whose task has the key.
+    pub fn find(&self, key: &Key) -> Option<NodeId>
+        ensures found { result ≡ option_map (λ node. node.id) (node_with_key self.now key.now) }
+        ensures graph { IsGraph self.now }
+    {
+        let mut entries = self.nodes.entries().iter();
+        entries
+            .find(|entry| entry.task.key.compare(key).is_eq())
+            .map(|entry| entry.id)
+    }
+
+    /// The task of a node.
+    pub fn task(&self, node: NodeId) -> &Task
+        requires { HasNode self.now node }
+        ensures { task_at self.now node ≡ Some result.now }
+    {
+        let entry = self.entry(node);
+        &entry.task
+    }
+
+    /// The recorded set of a node.
+    pub fn set(&self, node: NodeId) -> &RwSet
+        requires { HasNode self.now node }
+        ensures { set_at self.now node ≡ Some result.now }
+    {
+        let entry = self.entry(node);
+        &entry.set
+    }
+
+    /// Whether a node is running.
+    pub fn running(&self, node: NodeId) -> bool
+        requires { HasNode self.now node }
+        ensures { running_at self.now node ≡ Some result }
+    {
+        let entry = self.entry(node);
+        entry.running
+    }
+
+    /// The tasks of all nodes.
+    pub fn tasks(&self) -> &TaskList
+        ensures tasks { result.now ≡ tasks_of self.now }
+        ensures graph { IsGraph self.now }
+    {
+        &self.tasks
+    }
+
+    // A node as it is kept.
+    fn entry(&self, node: NodeId) -> &Entry
+        requires { HasNode self.now node }
+        ensures { node_at self.now node ≡ Some result.now }
+    {
+        let entries = self.nodes.entries();
+        &entries[place_of(entries, node)]
+    }
+}

@@ -1,0 +1,15 @@
+//! The live graph of an ordered algorithm: the pending tasks with the sets that are recorded for
+//! them, and which of them stand in the way of which.
+#![tactic(auto)]
+
+mod change;
+mod entry;
+mod graph;
+mod node_id;
+mod node_list;
+mod walk;
+
+pub use change::{Fresh, SetChange};
+pub use graph::Graph;
+pub use node_id::NodeId;
+pub use walk::{Laters, Sources};

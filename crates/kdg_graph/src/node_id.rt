@@ -1,0 +1,5 @@
+/// Names a node of a graph until it is removed. Another node may get the same id after that.
+#[derive(Clone, Copy, Debug, PartialEq, Eq)]
+pub struct NodeId {
+    pub at: usize,
+}

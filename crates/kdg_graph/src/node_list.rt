@@ -1,0 +1,149 @@
+ghost use Rattle.std.specs.Prelude.{◌≡◌, ◌+◌, ◌<◌, ◌≤◌, [], ◌∷◌, Some, OnOk, length, position};
+ghost use Rattle.task_order.specs.TaskList.{IsNewKey};
+ghost use Rattle.kdg_graph.specs.Node.{new_node};
+ghost use Rattle.kdg_graph.specs.Nodes.{IsGraph, HasNode, is_at, task_at, tasks_of, put_node, started};
+ghost use Rattle.kdg_graph.specs.NodeStock.{IsPlaceOf};
+ghost use Rattle.kdg_graph.specs.Rewrite.{without, with_sets};
+
+use crate::NodeId;
+use crate::entry::Entry;
+use kdg_text::NoRoom;
+use rw_sets::RwSet;
+use std::alloc::Global;
+use std::marker::Model;
+use task_order::{Task, put_in_laws};
+
+// The nodes of a graph in key order, and the numbers of ids that are free again.
+#[derive(Drop)]
+pub(crate) struct NodeList {
+    entries: Vec<Entry>,
+    free: Vec<usize>,
+}
+
+impl Model for NodeList {
+    ghost use Rattle.std.specs.Prelude.{◌+◌, ◌-◌, vec_len, vec_capacity};
+    ghost use Rattle.kdg_graph.specs.NodeStock.{NodeStock, IsKept};
+
+    ghost Value = { NodeStock };
+
+    ghost view = { λ l. record { nodes = l.entries.items; places = vec_capacity l.entries - vec_len l.entries; numbers = vec_capacity l.free - (vec_len l.entries + vec_len l.free) } };
+
+    ghost invariant = { λ l. IsKept l.entries.items l.free.items (vec_capacity l.free) };
+}
+
+impl NodeList {
+    // No node, which takes no memory.
+    pub(crate) fn new(alloc: Global) -> NodeList
+        ensures { result.nodes ≡ [] }
+    {
+        NodeList {
+            entries: Vec::new(alloc),
+            free: Vec::new(alloc),
+        }
+    }
+
+    // The nodes, in key order.
+    pub(crate) fn entries(&self) -> &[Entry]
+        ensures all { result.now ≡ self.now.nodes }
+        ensures graph { IsGraph self.now.nodes }
+    {
+        &self.entries
+    }
+
+    // Makes room for so many more nodes.
+    pub(crate) fn reserve(&mut self, additional: usize) -> Result<(), NoRoom>
+        ensures places { OnOk result (additional ≤ self.new.places) }
+        ensures numbers { OnOk result (additional ≤ self.new.numbers) }
+        ensures nodes { self.new.nodes ≡ self.old.nodes }
+    {
+        let numbers = additional.checked_add(self.entries.len()).ok_or(NoRoom)?;
+        self.free.reserve(numbers)?;
+        self.entries.reserve(additional)?;
+        Ok(())
+    }
+
+    // Puts a node at its place, where `reserve` made room. It takes no memory.
+    pub(crate) fn put(&mut self, task: Task, set: RwSet) -> NodeId
+        requires places { 0 < self.old.places }
+        requires numbers { 0 < self.old.numbers }
+        requires new { IsNewKey task.key (tasks_of self.old.nodes) }
+        ensures nodes { self.new.nodes ≡ put_node (new_node result task set) self.old.nodes }
+        ensures places { self.old.places ≤ self.new.places + 1 }
+        ensures numbers { self.old.numbers ≤ self.new.numbers + 1 }
+        ensures graph { IsGraph self.new.nodes }
+    {
+        put_in_laws();
+        let at = self.free.pop().unwrap_or(self.entries.len());
+        let id = NodeId { at };
+        let place = self
+            .entries
+            .partition_point(|entry| entry.task.key.compare(&task.key).is_lt());
+        let entry = Entry {
+            id,
+            task,
+            set,
+            running: false,
+        };
+        match self.entries.insert(place, entry) {
+            Ok(()) => id,
+            Err(_) => unreachable!(),
+        }
+    }
+
+    // Takes a node out and gives its task. It takes no memory.
+    pub(crate) fn remove(&mut self, id: NodeId) -> Task
+        requires { HasNode self.old.nodes id }
+        ensures task { task_at self.old.nodes id ≡ Some result }
+        ensures nodes { self.new.nodes ≡ without id self.old.nodes }
+        ensures places { self.old.places ≤ self.new.places }
+        ensures numbers { self.old.numbers ≤ self.new.numbers }
+        ensures graph { IsGraph self.new.nodes }
+    {
+        let place = place_of(&self.entries, id);
+        let entry = self.entries.remove(place);
+        match self.free.push(id.at) {
+            Ok(()) => entry.task,
+            Err(_) => unreachable!(),
+        }
+    }
+
+    // Replaces the set of a node.
+    pub(crate) fn set_set(&mut self, id: NodeId, set: RwSet)
+        requires { HasNode self.old.nodes id }
+        ensures nodes { self.new.nodes ≡ with_sets (record { node = id; set = set } ∷ []) self.old.nodes }
+        ensures places { self.old.places ≤ self.new.places }
+        ensures numbers { self.old.numbers ≤ self.new.numbers }
+        ensures graph { IsGraph self.new.nodes }
+    {
+        let place = place_of(&self.entries, id);
+        let entry = &mut self.entries[place];
+        entry.set = set;
+    }
+
+    // Marks a node as running.
+    pub(crate) fn mark_running(&mut self, id: NodeId)
+        requires { HasNode self.old.nodes id }
+        ensures nodes { self.new.nodes ≡ started id self.old.nodes }
+        ensures graph { IsGraph self.new.nodes }
+    {
+        let place = place_of(&self.entries, id);
+        let entry = &mut self.entries[place];
+        entry.running = true;
+    }
+}
+
+// The place of a node in the list.
+pub(crate) fn place_of(entries: &[Entry], id: NodeId) -> usize
+    requires { HasNode entries.now id }
+    ensures place { IsPlaceOf id entries.now result }
+    ensures inside { result < length entries.now }
+{
+    position_of(entries, id).unwrap()
+}
+
+// The place of the first node with an id.
+fn position_of(entries: &[Entry], id: NodeId) -> Option<usize>
+    ensures { result ≡ position (is_at id) entries.now }
+{
+    entries.iter().position(|entry| entry.id.at == id.at)
+}
