@@ -13,6 +13,7 @@ use Rattle.rw_sets.specs.Accesses.{Accesses, access_at, writes, merged, Conflict
 use Rattle.cell_store.specs.declared.cell.Cell.{Cell}
 use Rattle.cell_store.specs.declared.cell.Cell.TheVariants.{Home, Out}
 use Rattle.cell_store.specs.Home.{IsHome}
+use Rattle.cell_store.specs.Part.{Part}
 use Rattle.cell_store.specs.Cells.{cell_at, part_of}
 use Rattle.app_laws.specs.declared.child.Child.{Child}
 use Rattle.app_laws.specs.declared.app.Effect.{Effect}
@@ -76,6 +77,16 @@ module _ {V : Type 0} (app : Application V) where
     children = map (handed outcome.cells) outcome.children;
     text = outcome.text;
   }
+
+  -- the bundle is what the task takes of cells of the application
+  pub record IsTaken (task : Task) (bundle : Part V) : Type 0 where
+    pub cells : List V
+    pub fit : app.is_fit_cells cells
+    pub is : bundle ≡ part_of (map Home cells) (set_in cells task)
+
+  -- the effect is what the operator makes of all cells of the application of which the task takes this bundle
+  abbrev pub IsEffect : Task → Part V → Effect V → Type 0
+  IsEffect task bundle effect = (cells : List V) → app.is_fit_cells cells → bundle ≡ part_of (map Home cells) (set_in cells task) → effect ≡ effect_of task cells
 
   -- Laws. Each speaks of the application's own cells and tasks alone.
 

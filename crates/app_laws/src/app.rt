@@ -27,12 +27,9 @@ pub enum SetAnswer {
 /// An ordered application: tasks with priorities, each of which declares the cells that it reads
 /// and writes, works on those alone, and may create further tasks that are not earlier.
 pub trait App {
-    ghost use Rattle.std.specs.Prelude.{map};
     ghost use Rattle.task_order.specs.declared.task.Body.{Body};
     ghost use Rattle.task_order.specs.declared.task.Task.{Task};
-    ghost use Rattle.cell_store.specs.declared.cell.Cell.TheVariants.{Home};
-    ghost use Rattle.cell_store.specs.Cells.{part_of};
-    ghost use Rattle.app_laws.specs.Applications.{Application, AgreesWith, AreFitTasks, IsFitTask, set_in, tasks_before, effect_of, CellsAreCounted, SetsAreInRange, ActsAreFit, SetsAreLocal, ActsAreLocal, ChildrenComeNoEarlier, SetsStayWithin, WalksAreTrue, IsSafeAlone, SafeTasksStaySafe};
+    ghost use Rattle.app_laws.specs.Applications.{Application, AgreesWith, AreFitTasks, IsFitTask, IsTaken, IsEffect, tasks_before, CellsAreCounted, SetsAreInRange, ActsAreFit, SetsAreLocal, ActsAreLocal, ChildrenComeNoEarlier, SetsStayWithin, WalksAreTrue, IsSafeAlone, SafeTasksStaySafe};
 
     /// What a cell holds.
     type Val: Held;
@@ -72,11 +69,8 @@ pub trait App {
         bundle: Bundle<Self::Val>,
     ) -> Result<Effect<Self::Val>, Bundle<Self::Val>>
         requires fit { IsFitTask (meaning self.now) task.now }
-        requires cells { (values : List Self.Val) × (meaning self.now).is_fit_cells values
-            × (bundle ≡ part_of (map Home values) (set_in (meaning self.now) values task.now)) }
-        ensures effect { IfOk result (λ effect. (values : List Self.Val) → (meaning self.now).is_fit_cells values →
-            bundle ≡ part_of (map Home values) (set_in (meaning self.now) values task.now) →
-            effect ≡ effect_of (meaning self.now) task.now values) }
+        requires cells { IsTaken (meaning self.now) task.now bundle }
+        ensures effect { IfOk result (IsEffect (meaning self.now) task.now bundle) }
         ensures returned { IfErr result (λ back. back ≡ bundle) };
 
     /// The application's cells have one value for each location.
