@@ -1,5 +1,6 @@
 pub mod Applications
 pub mod Execution
+pub mod Family
 pub mod Laws
 pub mod Order
 pub mod Serial
