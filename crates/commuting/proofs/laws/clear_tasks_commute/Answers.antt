@@ -1,0 +1,5 @@
+use Rattle.commuting.proofs.Clearing.{clear_tasks_commute}
+use Rattle.commuting.proofs.laws.clear_tasks_commute.Goals as goal
+
+pub returns : goal.returns
+returns g c = record { commute = λ app. clear_tasks_commute (g.A.App.meaning app) (c.lawful.ensures app) c.lower_laws.ensures }

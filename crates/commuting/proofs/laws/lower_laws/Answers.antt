@@ -1,0 +1,27 @@
+use Rattle.commuting.proofs.laws.lower_laws.Goals as goal
+
+pub returns : goal.returns
+returns c = record {
+  children_later = c.key_order.ensures.child_later;
+  irreflexive = c.earlier_laws.ensures.irreflexive;
+  transitive = c.earlier_laws.ensures.transitive;
+  connected = c.earlier_laws.ensures.connected;
+  earliest_first = c.put_in_laws.ensures.earliest_first;
+  puts_ascend = c.put_in_laws.ensures.ascending;
+  put_all_commutes = c.put_all_laws.ensures.commutes;
+  before_is_earlier = c.before_laws.ensures.earlier;
+  before_ascends = c.before_laws.ensures.ascending;
+  before_skips = c.before_laws.ensures.skips_later;
+  before_takes = c.before_laws.ensures.takes_earlier;
+  without_put = c.without_laws.ensures.forgets_put;
+  put_without = c.without_laws.ensures.restored;
+  others = c.without_laws.ensures.others;
+  without_is_new = c.without_laws.ensures.makes_new;
+  without_ascends = c.without_laws.ensures.ascending;
+  independent = c.independence_laws.ensures.without_conflict;
+  turned = c.conflict_laws.ensures.«mutual»;
+  grows = c.conflict_laws.ensures.grows;
+  by_parts = c.conflict_laws.ensures.by_parts;
+  children_apart = c.family_laws.ensures.apart;
+  siblings_apart = c.family_laws.ensures.siblings;
+}

@@ -1,0 +1,4 @@
+pub mod Clear
+pub mod Commuting
+pub mod Lower
+pub mod States

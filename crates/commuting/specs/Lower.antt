@@ -1,0 +1,29 @@
+-- What the crates below promise of keys, lists of tasks, sets and children.
+use Rattle.task_order.specs.Key.{ChildrenComeLater}
+use Rattle.task_order.specs.Laws as tasks
+use Rattle.rw_sets.specs.Laws as sets
+use Rattle.app_laws.specs.Family.{ChildrenAreApart, SiblingsAreApart}
+
+pub record LowerLaws : Type 0 where
+  pub children_later : ChildrenComeLater
+  pub irreflexive : tasks.EarlierIsIrreflexive
+  pub transitive : tasks.EarlierIsTransitive
+  pub connected : tasks.EarlierIsConnected
+  pub earliest_first : tasks.EarliestGoesFirst
+  pub puts_ascend : tasks.PutsKeepAscending
+  pub put_all_commutes : tasks.PutAllCommutesWithPut
+  pub before_is_earlier : tasks.BeforeIsEarlier
+  pub before_ascends : tasks.BeforeStaysAscending
+  pub before_skips : tasks.BeforeSkipsLater
+  pub before_takes : tasks.BeforeTakesEarlier
+  pub without_put : tasks.WithoutForgetsPut
+  pub put_without : tasks.PutRestoresWithout
+  pub others : tasks.WithoutKeepsOthers
+  pub without_is_new : tasks.WithoutMakesNew
+  pub without_ascends : tasks.WithoutStaysAscending
+  pub independent : sets.IndependentWithoutConflict
+  pub turned : sets.ConflictsAreMutual
+  pub grows : sets.ConflictsGrow
+  pub by_parts : sets.MergesConflictByParts
+  pub children_apart : ChildrenAreApart
+  pub siblings_apart : SiblingsAreApart

@@ -1,0 +1,6 @@
+//! Clear tasks commute: a pending task that no earlier one touches may act at once.
+#![tactic(auto)]
+
+mod laws;
+
+pub use laws::clear_tasks_commute;
