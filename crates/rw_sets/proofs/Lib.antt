@@ -4,4 +4,5 @@ pub mod Lookups
 pub mod Independence
 pub mod Pairs
 mod Places
+mod Joins
 mod Skips

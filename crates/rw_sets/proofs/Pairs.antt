@@ -4,10 +4,14 @@ use Rattle.std.specs.List.{Contains}
 use Rattle.std.specs.List.Sorted.{IsPermutation}
 use Rattle.std.proofs.lemmas.Bool.{cases_eq, false≢true}
 use Rattle.std.proofs.lemmas.List.Sorted.{Contains-permutation, IsPermutation-sym}
+use Rattle.std.specs.Cmp.Lexicographic.{pointwise_decides}
+use Rattle.std.specs.Bool.{Decides, ◌==◌}
+use Rattle.std.proofs.lemmas.Bool.Decides.{Decides-like, Decides-and, Decides-eqb}
+use mathlib.Core.Bool.{beq}
 use Rattle.rw_sets.specs.declared.access.Access.{Access}
 use Rattle.rw_sets.specs.declared.access.Access.TheVariants.{Read, Write}
-use Rattle.rw_sets.specs.Accesses.{Accesses, AllBeyond, IsAscending, access_at, allows_write, writes, joined, put_access, merged}
-use Rattle.rw_sets.specs.Laws.{LookupsFindPairs, MergesWriteWhatOneDoes, PairsAreNamed, PairsAreWritten, PairsInAnyOrder, PairsByParts}
+use Rattle.rw_sets.specs.Accesses.{Accesses, AllBeyond, IsAscending, access_at, allows_write, writes, joined, put_access, merged, is_write, same_pair}
+use Rattle.rw_sets.specs.Laws.{SameIsEqual, LookupsFindPairs, MergesWriteWhatOneDoes, PairsAreNamed, PairsAreWritten, PairsInAnyOrder, PairsByParts}
 use Rattle.rw_sets.proofs.Accesses.{access_first, access_other, same_from_lookups}
 use Rattle.rw_sets.proofs.Merged.{ascending_put, ascending_merged, access_put_here, access_put_other, access_merged}
 
@@ -174,3 +178,18 @@ allows_joined (Some Write) (Some y) = refl
 
 pub merges_write_what_one_does : MergesWriteWhatOneDoes
 merges_write_what_one_does a b up-a up-b loc = ap allows_write (access_merged a b up-a up-b loc) ∙ allows_joined (access_at a loc) (access_at b loc)
+
+same_pair_decides : (p q : ℕ × Access) → Decides (same_pair p q) (p ≡ q)
+same_pair_decides p q = Decides-like (same_pair p q) (λ both. to p q both.0 both.1) (λ e. (ap (λ (r : ℕ × Access). r.0) e, ap (λ (r : ℕ × Access). r.1) e)) (Decides-and (p.0 == q.0) (beq (is_write p.1) (is_write q.1)) (Decides-eqb p.0 q.0) (same_access_decides p.1 q.1))
+  where
+    to : (p q : ℕ × Access) → p.0 ≡ q.0 → p.1 ≡ q.1 → p ≡ q
+    to p q e f = pair_is p q.0 q.1 e f
+
+    same_access_decides : (x y : Access) → Decides (beq (is_write x) (is_write y)) (x ≡ y)
+    same_access_decides Read Read = (λ h. refl, λ e. refl)
+    same_access_decides Read Write = (λ h. absurd (false≢true h), λ e. absurd cc)
+    same_access_decides Write Read = (λ h. absurd (false≢true h), λ e. absurd cc)
+    same_access_decides Write Write = (λ h. refl, λ e. refl)
+
+pub same_is_equal : SameIsEqual
+same_is_equal a b = pointwise_decides same_pair_decides a b

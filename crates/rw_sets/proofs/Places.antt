@@ -15,7 +15,7 @@ use Rattle.rw_sets.proofs.Accesses.{access_first, access_other}
 use Rattle.rw_sets.proofs.Merged.{put_below, put_at, put_above}
 
 -- the access at place i
-abbrev access_in : Accesses → ℕ → Access
+abbrev pub access_in : Accesses → ℕ → Access
 access_in l i = let pair = get_or l i (0, Read) in pair.1
 
 location_beyond : (n : ℕ) (ps : Accesses) → AllBeyond n ps → (j : ℕ) → j < length ps → n < location_at ps j
@@ -99,7 +99,7 @@ absent_in_gap (q ∷ l) loc (suc i) h =
     access_other q l loc (λ e. omega arith) ∙ absent_in_gap l loc i (gap_tail q l loc i h)
 
 -- the pair at the place is written over
-put_at_place : (l : Accesses) (p : ℕ × Access) (i : ℕ) → IsAscending l → IsAt l p.0 i → put_access l p ≡ set l i (p.0, stronger (access_in l i) p.1)
+pub put_at_place : (l : Accesses) (p : ℕ × Access) (i : ℕ) → IsAscending l → IsAt l p.0 i → put_access l p ≡ set l i (p.0, stronger (access_in l i) p.1)
 put_at_place [] p i up h = absurd (omega (arith, h.in_range))
 put_at_place (q ∷ l) p zero up h = put_at q p l (sym h.here) ∙ ap (λ n. (n, stronger q.1 p.1) ∷ l) h.here
 put_at_place (q ∷ l) p (suc i) up h = put_above q p l (first_below q l p.0 i up h) ∙ ap (λ r. q ∷ r) (put_at_place l p i up.1 (at_tail q l p.0 i h))

@@ -1,6 +1,9 @@
 -- A set of locations, each with the access to it, as a list of pairs.
-use Rattle.std.specs.Prelude.{◌≡◌, ℕ, ◌<◌, Bool, true, false, ◌||◌, List, [], ◌∷◌, Option, Some, None, IsSome, IsTrue, nat_lt, ◌==◌, if◌then◌else◌}
+use Rattle.std.specs.Prelude.{◌≡◌, ℕ, ◌<◌, Bool, true, false, ◌||◌, List, [], ◌∷◌, Option, Some, None, IsSome, IsTrue, nat_eq, nat_lt, ◌==◌, if◌then◌else◌}
 use Rattle.std.specs.List.{list_any}
+use Rattle.std.specs.Cmp.Lexicographic.{pointwise}
+use Rattle.std.specs.Ordering.{on, eq_of_both}
+use mathlib.Core.Bool.{beq}
 use Rattle.rw_sets.specs.declared.access.Access.{Access}
 use Rattle.rw_sets.specs.declared.access.Access.TheVariants.{Read, Write}
 
@@ -100,3 +103,10 @@ put_access (q ∷ qs) p =
 abbrev pub merged : Accesses → Accesses → Accesses
 merged a [] = a
 merged a (p ∷ ps) = merged (put_access a p) ps
+
+-- whether two sets are the same, pair by pair
+abbrev pub same_pair : ℕ × Access → ℕ × Access → Bool
+same_pair = eq_of_both (on (λ p. p.0) nat_eq) (on (λ p. is_write p.1) beq)
+
+abbrev pub same_accesses : Accesses → Accesses → Bool
+same_accesses = pointwise same_pair

@@ -2,11 +2,15 @@
 use Rattle.std.specs.Prelude.{◌≡◌, ℕ, [], ◌++◌, ◌||◌, ◌⊎◌, ◌↔◌, Some, IsSome, IsTrue, IsFalse, Contains, IsPermutation}
 use Rattle.rw_sets.specs.declared.access.Access.{Access}
 use Rattle.rw_sets.specs.declared.access.Access.TheVariants.{Write}
-use Rattle.rw_sets.specs.Accesses.{Accesses, IsAscending, access_at, writes, joined, Conflicts, conflicts_with, AreIndependent, IsWithin, merged}
+use Rattle.rw_sets.specs.Accesses.{Accesses, IsAscending, access_at, writes, joined, Conflicts, conflicts_with, AreIndependent, IsWithin, merged, same_accesses}
 
 -- a set is known by its look-up
 abbrev pub LookupsDetermineSets : Type 0
 LookupsDetermineSets = (a b : Accesses) → IsAscending a → IsAscending b → ((loc : ℕ) → access_at a loc ≡ access_at b loc) → a ≡ b
+
+-- a set is itself alone, by the test
+abbrev pub SameIsEqual : Type 0
+SameIsEqual = (a b : Accesses) → IsTrue (same_accesses a b) ↔ (a ≡ b)
 
 -- a look-up finds the pairs of the set, and no others
 abbrev pub LookupsFindPairs : Type 0

@@ -1,9 +1,11 @@
 ghost use Rattle.std.specs.Prelude.{◌≡◌, ◌↔◌, [], ◌∷◌, IsTrue, IfSome, IfNone, IfOk, IfErr, OnOk, OnErr};
-ghost use Rattle.rw_sets.specs.Accesses.{IsAscending, access_at, Conflicts, conflicts_with, merged};
+ghost use Rattle.rw_sets.specs.Accesses.{IsAscending, access_at, Conflicts, conflicts_with, merged, same_accesses};
+ghost use Rattle.std.proofs.Common.{rules};
+ghost use Rattle.std.specs.Cmp.Rules.{comparing};
 ghost use Rattle.rw_sets.specs.Places.{IsAt, IsGapFor};
 
 use crate::Access;
-use crate::walk::{merge_pairs, pairs_conflict};
+use crate::walk::{join_repeats, merge_pairs, pairs_conflict};
 use kdg_text::NoRoom;
 use std::alloc::Global;
 use std::marker::Model;
@@ -24,6 +26,20 @@ impl Model for RwSet {
     ghost invariant = { λ s. IsAscending s.pairs.items };
 }
 
+impl PartialEq for RwSet {
+    ghost eq = { same_accesses };
+
+    ghost laws = { Prim.search (comparing, rules) };
+
+    fn eq(&self, other: &RwSet) -> bool {
+        self.items() == other.items()
+    }
+}
+
+impl Eq for RwSet {
+    ghost laws = { Prim.search (comparing, rules) };
+}
+
 impl RwSet {
     /// A set with no location, which takes no memory.
     pub fn new(alloc: Global) -> RwSet
@@ -32,6 +48,16 @@ impl RwSet {
         RwSet {
             pairs: Vec::new(alloc),
         }
+    }
+
+    /// The set that these pairs make together, in whatever order and however often a location is
+    /// there. Takes no memory.
+    pub fn from_pairs(mut pairs: Vec<(u32, Access)>) -> RwSet
+        ensures { result ≡ merged [] pairs.items }
+    {
+        pairs.sort_unstable_by_key(|pair| pair.0);
+        join_repeats(&mut pairs);
+        RwSet { pairs }
     }
 
     /// The locations with their access, in ascending order.
@@ -72,10 +98,7 @@ impl RwSet {
         ensures place { IfSome result (IsAt self.now loc) }
         ensures absent { IfNone result (access_at self.now loc ≡ None) }
     {
-        match self.place_of(loc) {
-            Ok(at) => Some(at),
-            Err(_) => None,
-        }
+        self.place_of(loc).ok()
     }
 
     /// Whether the sets share a location that at least one of them writes.

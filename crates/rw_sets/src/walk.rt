@@ -1,4 +1,5 @@
-ghost use Rattle.std.specs.Prelude.{◌≡◌, ◌↔◌, IsTrue, IfOk};
+ghost use Rattle.std.specs.Prelude.{◌≡◌, ◌↔◌, [], IsTrue, IfOk};
+ghost use Rattle.std.specs.List.Sorted.{IsNonDecreasingBy};
 ghost use Rattle.rw_sets.specs.Accesses.{IsAscending, Conflicts, merged};
 
 use crate::Access;
@@ -59,4 +60,23 @@ pub(crate) fn merge_pairs(
     pairs.extend_from_slice(left)?;
     pairs.extend_from_slice(right)?;
     Ok(pairs)
+}
+
+// Joins the accesses to each location, where pairs of one location are neighbours.
+pub(crate) fn join_repeats(pairs: &mut Vec<(u32, Access)>)
+    requires sorted { IsNonDecreasingBy (λ pair. pair.0) pairs.old.items }
+    ensures { pairs.new.items ≡ merged [] pairs.old.items }
+{
+    let mut kept = 0;
+    for i in 0..pairs.len() {
+        let (loc, access) = pairs[i];
+        if kept > 0 && pairs[kept - 1].0 == loc {
+            let held = pairs[kept - 1].1;
+            pairs[kept - 1] = (loc, held.stronger(access));
+        } else {
+            pairs[kept] = (loc, access);
+            kept += 1;
+        }
+    }
+    pairs.truncate(kept);
 }
