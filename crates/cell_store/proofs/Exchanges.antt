@@ -9,13 +9,13 @@ use Rattle.cell_store.specs.declared.cell.Cell.{Cell}
 use Rattle.cell_store.specs.declared.cell.Cell.TheVariants.{Out}
 use Rattle.cell_store.specs.Part.{Part}
 use Rattle.cell_store.specs.Cells.{cell_at, held_at, cell_in, cells_given, with_written}
-use Rattle.cell_store.proofs.Locations.{writes_first, writes_other, unwritten_beyond, held_first, held_other}
+use Rattle.cell_store.proofs.Locations.{ascending_first, ascending_rest, writes_first, writes_other, unwritten_beyond, held_first, held_other}
 use Rattle.cell_store.proofs.Parts.{length-each_from, cell_given, same_cells}
 
 pub ascending_drop : (i : ℕ) (ps : Accesses) → IsAscending ps → IsAscending (drop i ps)
 ascending_drop zero ps up = up
-ascending_drop (suc i) [] up = tt
-ascending_drop (suc i) (p ∷ ps) up = ascending_drop i ps up.1
+ascending_drop (suc i) [] up = up
+ascending_drop (suc i) (p ∷ ps) up = ascending_drop i ps (ascending_rest _ _ up)
 
 reads_pair : (p : ℕ × Access) → is_write p.1 ≡ false → p ≡ (p.0, Read)
 reads_pair (n, Read) h = refl
@@ -98,13 +98,13 @@ module _ {V : Type 0} where
       let pairs : drop i ps ≡ (n, Read) ∷ drop (i + 1) ps = drop_more ps i (0, Read) lt ∙ ap (λ p. p ∷ drop (i + 1) ps) (reads_pair (get_or ps i (0, Read)) read) in
       let cell = get_or held i Out in
       let cells : drop i held ≡ cell ∷ drop (i + 1) held = drop_more held i Out (omega (arith, h.one_each)) in
-      let beyond : IsAscending ((n, Read) ∷ drop (i + 1) ps) = rw pairs at (ascending_drop i ps up) in
+      let up-left : IsAscending ((n, Read) ∷ drop (i + 1) ps) = rw pairs at (ascending_drop i ps up) in
       let left = rw (pairs, cells) at h.home_left in
       let done = rw (pairs, cells) at h.held_left in
       record {
         same_length = h.same_length;
         one_each = h.one_each;
-        home_left = sym (given_read home n (drop (i + 1) ps) cell (drop (i + 1) held) beyond.0) ∙ left;
+        home_left = sym (given_read home n (drop (i + 1) ps) cell (drop (i + 1) held) (ascending_first _ _ up-left)) ∙ left;
         held_left = rw (take_more held i Out (omega (arith, h.one_each)), append_assoc) done;
       }
 
@@ -115,12 +115,12 @@ module _ {V : Type 0} where
       let cell = get_or held i Out in
       let in-held : i < length held = omega (arith, h.one_each) in
       let cells : drop i held ≡ cell ∷ drop (i + 1) held = drop_more held i Out in-held in
-      let beyond : IsAscending ((n, Write) ∷ drop (i + 1) ps) = rw pairs at (ascending_drop i ps up) in
+      let up-left : IsAscending ((n, Write) ∷ drop (i + 1) ps) = rw pairs at (ascending_drop i ps up) in
       let left = rw (pairs, cells) at h.home_left in
       let done = rw (pairs, cells) at h.held_left in
       record {
         same_length = length-set home n cell ∙ h.same_length;
         one_each = length-set held i (cell_at home n) ∙ h.one_each;
-        home_left = rw (drop-set-lt (i + 1) held i (cell_at home n) (omega arith)) (sym (given_write home n (drop (i + 1) ps) cell (drop (i + 1) held) beyond.0 within) ∙ left);
-        held_left = rw (drop-set-lt (i + 1) held i (cell_at home n) (omega arith), take_more_set held i (cell_at home n) in-held, append_assoc, with_written_beyond home n cell (drop (i + 1) ps) (drop (i + 1) held) beyond.0) done;
+        home_left = rw (drop-set-lt (i + 1) held i (cell_at home n) (omega arith)) (sym (given_write home n (drop (i + 1) ps) cell (drop (i + 1) held) (ascending_first _ _ up-left) within) ∙ left);
+        held_left = rw (drop-set-lt (i + 1) held i (cell_at home n) (omega arith), take_more_set held i (cell_at home n) in-held, append_assoc, with_written_beyond home n cell (drop (i + 1) ps) (drop (i + 1) held) (ascending_first _ _ up-left)) done;
       }

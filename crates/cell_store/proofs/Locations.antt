@@ -1,16 +1,33 @@
 -- What a set has at its locations, and the cells that go with them.
 use Rattle.std.proofs.Common.{◌≡◌, ℕ, zero, suc, ◌<◌, true, false, eqb, cond, List, [], ◌∷◌, length, map, get_or, set, Option, Some, None, IsSome, is_some, IsTrue, refl, sym, ap, ◌∙◌, subst, inl, inr, arith}
 use Rattle.std.proofs.lemmas.List.{get_or_default}
+use Rattle.std.specs.List.{AllByRecursion}
+use Rattle.std.specs.List.Sorted.{IsStrictlySortedBy}
+use Rattle.std.specs.declared.cmp.Ordering.TheVariants.{Less}
+use Rattle.std.proofs.lemmas.Cmp.{ranked}
 use Rattle.std.proofs.lemmas.Bool.{cases_eq, false≢true}
 use Rattle.std.proofs.lemmas.Bool.Decides.{nat_tests}
 use Rattle.rw_sets.specs.declared.access.Access.{Access}
 use Rattle.rw_sets.specs.declared.access.Access.TheVariants.{Read, Write}
-use Rattle.rw_sets.specs.Accesses.{Accesses, AllBeyond, IsAscending, access_at, is_write, allows_write, writes, covers, IsWithin}
+use Rattle.rw_sets.specs.Accesses.{Accesses, by_location, AllBeyond, IsAscending, access_at, is_write, allows_write, writes, covers, IsWithin}
 use Rattle.rw_sets.specs.Places.{location_at, IsAt}
 use Rattle.cell_store.specs.declared.cell.Cell.{Cell}
 use Rattle.cell_store.specs.declared.cell.Cell.TheVariants.{Out}
 use Rattle.cell_store.specs.Home.{IsHome}
 use Rattle.cell_store.specs.Cells.{cell_at, held_at, with_written, put_at}
+
+-- an ascending list by its first pair and its rest
+pub ascending_first : (p : ℕ × Access) (ps : Accesses) → IsAscending (p ∷ ps) → AllBeyond p.0 ps
+unfolding IsStrictlySortedBy
+ascending_first p ps up = beyond ps up.0
+  where
+    beyond : (qs : Accesses) → AllByRecursion (λ q. by_location p q ≡ Less) qs → AllBeyond p.0 qs
+    beyond [] h = tt
+    beyond (q ∷ qs) h = (ranked p.0 q.0 Less (sym h.0), beyond qs h.1)
+
+pub ascending_rest : (p : ℕ × Access) (ps : Accesses) → IsAscending (p ∷ ps) → IsAscending ps
+unfolding IsStrictlySortedBy
+ascending_rest p ps up = up.1
 
 pub access_first : (p : ℕ × Access) (ps : Accesses) (loc : ℕ) → p.0 ≡ loc → access_at (p ∷ ps) loc ≡ Some p.1
 access_first p ps loc e = grind (arith, nat_tests)
@@ -42,10 +59,10 @@ pub access_in_place : (ps : Accesses) (i : ℕ) (d : ℕ × Access) → IsAscend
 access_in_place [] i d up lt = absurd (omega arith)
 access_in_place (p ∷ ps) zero d up lt = access_first p ps p.0 refl
 access_in_place (p ∷ ps) (suc i) d up lt =
-    let beyond = location_beyond p.0 ps up.0 i (omega arith) in
+    let beyond = location_beyond p.0 ps (ascending_first _ _ up) i (omega arith) in
     let same : get_or ps i d ≡ get_or ps i (0, Read) = get_or_default ps i d (0, Read) (omega arith) in
     let later : p.0 < (get_or ps i d).0 = subst (λ (q : ℕ × Access). p.0 < q.0) (sym same) beyond in
-    access_other p ps (get_or ps i d).0 (λ e. omega arith) ∙ access_in_place ps i d up.1 (omega arith)
+    access_other p ps (get_or ps i d).0 (λ e. omega arith) ∙ access_in_place ps i d (ascending_rest _ _ up) (omega arith)
 
 pub writes_in_place : (ps : Accesses) (i : ℕ) (d : ℕ × Access) → IsAscending ps → i < length ps → is_write (get_or ps i d).1 ≡ true → IsTrue (writes ps (get_or ps i d).0)
 writes_in_place ps i d up lt e = ap allows_write (access_in_place ps i d up lt) ∙ e
@@ -109,8 +126,8 @@ module _ {V : Type 0} where
   held_in_place (p ∷ ps) [] loc i up e at = absurd (omega arith)
   held_in_place (p ∷ ps) (c ∷ cs) loc zero up e at = held_first p ps c cs loc at.here
   held_in_place (p ∷ ps) (c ∷ cs) loc (suc i) up e at =
-      let beyond = location_beyond p.0 ps up.0 i (omega (arith, at.in_range)) in
-      held_other p ps c cs loc (λ same. omega (arith, at.here)) ∙ held_in_place ps cs loc i up.1 (omega arith) (record { in_range = omega (arith, at.in_range); here = at.here })
+      let beyond = location_beyond p.0 ps (ascending_first _ _ up) i (omega (arith, at.in_range)) in
+      held_other p ps c cs loc (λ same. omega (arith, at.here)) ∙ held_in_place ps cs loc i (ascending_rest _ _ up) (omega arith) (record { in_range = omega (arith, at.in_range); here = at.here })
 
   put_first : (p : ℕ × Access) (ps : Accesses) (c : Cell V) (cs : List (Cell V)) (loc : ℕ) (new : Cell V) → p.0 ≡ loc → put_at (p ∷ ps) (c ∷ cs) loc new ≡ new ∷ cs
   put_first p ps c cs loc new e = grind (arith, nat_tests)
@@ -123,8 +140,8 @@ module _ {V : Type 0} where
   put_in_place (p ∷ ps) [] loc i new up e at = absurd (omega arith)
   put_in_place (p ∷ ps) (c ∷ cs) loc zero new up e at = put_first p ps c cs loc new at.here
   put_in_place (p ∷ ps) (c ∷ cs) loc (suc i) new up e at =
-      let beyond = location_beyond p.0 ps up.0 i (omega (arith, at.in_range)) in
-      put_other p ps c cs loc new (λ same. omega (arith, at.here)) ∙ ap (λ rest. c ∷ rest) (put_in_place ps cs loc i new up.1 (omega arith) (record { in_range = omega (arith, at.in_range); here = at.here }))
+      let beyond = location_beyond p.0 ps (ascending_first _ _ up) i (omega (arith, at.in_range)) in
+      put_other p ps c cs loc new (λ same. omega (arith, at.here)) ∙ ap (λ rest. c ∷ rest) (put_in_place ps cs loc i new (ascending_rest _ _ up) (omega arith) (record { in_range = omega (arith, at.in_range); here = at.here }))
 
   -- another cell at one location, and the others as they were
   pub held-put_same : (ps : Accesses) (cells : List (Cell V)) (loc : ℕ) (new : Cell V) → length cells ≡ length ps → IsSome (access_at ps loc) → held_at ps (put_at ps cells loc new) loc ≡ new
@@ -188,16 +205,16 @@ module _ {V : Type 0} where
   pub with_written_same : (f g : ℕ → Cell V) (ps : Accesses) (cells : List (Cell V)) → IsAscending ps → ((loc : ℕ) → IsTrue (writes ps loc) → f loc ≡ g loc) → with_written f ps cells ≡ with_written g ps cells
   with_written_same f g [] cells up same = refl
   with_written_same f g (p ∷ ps) [] up same = refl
-  with_written_same f g ((n, Read) ∷ ps) (c ∷ cs) up same = ap (λ rest. c ∷ rest) (with_written_same f g ps cs up.1 (written_rest (n, Read) ps up.0 same))
+  with_written_same f g ((n, Read) ∷ ps) (c ∷ cs) up same = ap (λ rest. c ∷ rest) (with_written_same f g ps cs (ascending_rest _ _ up) (written_rest (n, Read) ps (ascending_first _ _ up) same))
   with_written_same f g ((n, Write) ∷ ps) (c ∷ cs) up same =
       let first = same n (writes_first (n, Write) ps n refl) in
-      let rest = with_written_same f g ps cs up.1 (written_rest (n, Write) ps up.0 same) in
+      let rest = with_written_same f g ps cs (ascending_rest _ _ up) (written_rest (n, Write) ps (ascending_first _ _ up) same) in
       cc
 
   -- the cells behind the first are found in the rest
   with_written_behind : (p : ℕ × Access) (ps : Accesses) (c : Cell V) (cs : List (Cell V)) → IsAscending (p ∷ ps) → with_written (held_at (p ∷ ps) (c ∷ cs)) ps cs ≡ with_written (held_at ps cs) ps cs
-  with_written_behind p ps c cs up = with_written_same (held_at (p ∷ ps) (c ∷ cs)) (held_at ps cs) ps cs up.1 (λ loc written. held_other p ps c cs loc (λ e.
-      let unwritten : writes ps loc ≡ false = subst (λ l. writes ps l ≡ false) e (unwritten_beyond p.0 ps up.0) in
+  with_written_behind p ps c cs up = with_written_same (held_at (p ∷ ps) (c ∷ cs)) (held_at ps cs) ps cs (ascending_rest _ _ up) (λ loc written. held_other p ps c cs loc (λ e.
+      let unwritten : writes ps loc ≡ false = subst (λ l. writes ps l ≡ false) e (unwritten_beyond p.0 ps (ascending_first _ _ up)) in
       false≢true (sym unwritten ∙ written)))
 
   -- a second rewrite leaves nothing of the first
@@ -212,10 +229,10 @@ module _ {V : Type 0} where
   with_written_itself [] [] up e = refl
   with_written_itself [] (c ∷ cs) up e = absurd (omega arith)
   with_written_itself (p ∷ ps) [] up e = refl
-  with_written_itself ((n, Read) ∷ ps) (c ∷ cs) up e = ap (λ rest. c ∷ rest) (with_written_behind (n, Read) ps c cs up ∙ with_written_itself ps cs up.1 (omega arith))
+  with_written_itself ((n, Read) ∷ ps) (c ∷ cs) up e = ap (λ rest. c ∷ rest) (with_written_behind (n, Read) ps c cs up ∙ with_written_itself ps cs (ascending_rest _ _ up) (omega arith))
   with_written_itself ((n, Write) ∷ ps) (c ∷ cs) up e =
       let first = held_first (n, Write) ps c cs n refl in
-      let rest = with_written_behind (n, Write) ps c cs up ∙ with_written_itself ps cs up.1 (omega arith) in
+      let rest = with_written_behind (n, Write) ps c cs up ∙ with_written_itself ps cs (ascending_rest _ _ up) (omega arith) in
       cc
 
   -- cells in the order of an ascending set are known by their locations
@@ -227,10 +244,10 @@ module _ {V : Type 0} where
   same_held (p ∷ ps) (c ∷ cs) [] up e f same = absurd (omega arith)
   same_held (p ∷ ps) (c ∷ cs) (d ∷ ds) up e f same =
       let first = sym (held_first p ps c cs p.0 refl) ∙ same p.0 (rw (access_first p ps p.0 refl) refl) ∙ held_first p ps d ds p.0 refl in
-      let rest = same_held ps cs ds up.1 (omega arith) (omega arith) (λ loc has.
+      let rest = same_held ps cs ds (ascending_rest _ _ up) (omega arith) (omega arith) (λ loc has.
       let differs : p.0 ≡ loc → ⊥ = λ same-loc. is_beyond loc same-loc has in
       sym (held_other p ps c cs loc differs) ∙ same loc (rw (access_other p ps loc differs) has) ∙ held_other p ps d ds loc differs) in
       cc
     where
       is_beyond : (loc : ℕ) → p.0 ≡ loc → IsSome (access_at ps loc) → ⊥
-      is_beyond loc same-loc has = false≢true (sym (ap is_some (subst (λ l. access_at ps l ≡ None) same-loc (absent_beyond p.0 ps up.0))) ∙ has)
+      is_beyond loc same-loc has = false≢true (sym (ap is_some (subst (λ l. access_at ps l ≡ None) same-loc (absent_beyond p.0 ps (ascending_first _ _ up)))) ∙ has)

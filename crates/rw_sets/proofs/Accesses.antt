@@ -1,9 +1,42 @@
 -- What a look-up finds in ascending lists, and that it determines them.
 use Rattle.std.proofs.Common.{◌≡◌, ℕ, ◌≤◌, [], ◌∷◌, Some, None, refl, sym, inl, inr, arith, zero, suc, drop}
+use Rattle.std.specs.List.{AllByRecursion}
+use Rattle.std.specs.List.Sorted.{IsStrictlySortedBy}
+use Rattle.std.specs.declared.cmp.Ordering.TheVariants.{Less}
+use Rattle.std.proofs.lemmas.Cmp.{ranked}
 use Rattle.std.proofs.lemmas.Bool.{cases_lt, cases_order}
 use Rattle.std.proofs.lemmas.Bool.Decides.{nat_tests}
 use Rattle.rw_sets.specs.declared.access.Access.{Access}
-use Rattle.rw_sets.specs.Accesses.{Accesses, AllBeyond, IsAscending, access_at}
+use Rattle.rw_sets.specs.Laws.{AscendingByParts}
+use Rattle.rw_sets.specs.Accesses.{Accesses, by_location, AllBeyond, IsAscending, access_at}
+
+-- an ascending list by its first pair and its rest
+pub ascending_first : (p : ℕ × Access) (ps : Accesses) → IsAscending (p ∷ ps) → AllBeyond p.0 ps
+unfolding IsStrictlySortedBy
+ascending_first p ps up = beyond ps up.0
+  where
+    beyond : (qs : Accesses) → AllByRecursion (λ q. by_location p q ≡ Less) qs → AllBeyond p.0 qs
+    beyond [] h = tt
+    beyond (q ∷ qs) h = (ranked p.0 q.0 Less (sym h.0), beyond qs h.1)
+
+pub ascending_rest : (p : ℕ × Access) (ps : Accesses) → IsAscending (p ∷ ps) → IsAscending ps
+unfolding IsStrictlySortedBy
+ascending_rest p ps up = up.1
+
+pub ascending_none : IsAscending []
+unfolding IsStrictlySortedBy
+ascending_none = tt
+
+pub ascending_cons : (p : ℕ × Access) (ps : Accesses) → AllBeyond p.0 ps → IsAscending ps → IsAscending (p ∷ ps)
+unfolding IsStrictlySortedBy
+ascending_cons p ps beyond up = (lower ps beyond, up)
+  where
+    lower : (qs : Accesses) → AllBeyond p.0 qs → AllByRecursion (λ q. by_location p q ≡ Less) qs
+    lower [] h = tt
+    lower (q ∷ qs) h = (grind (arith, nat_tests, h.0), lower qs h.1)
+
+pub ascending_by_parts : AscendingByParts
+ascending_by_parts loc access rest = (λ up. (ascending_first _ _ up, ascending_rest _ _ up), λ parts. ascending_cons _ _ parts.0 parts.1)
 
 -- what is beyond a location is beyond each lower one
 pub beyond_lower : (m n : ℕ) (ps : Accesses) → m ≤ n → AllBeyond n ps → AllBeyond m ps
@@ -27,7 +60,7 @@ access_other p ps loc differs = grind (arith, nat_tests)
 pub beyond_from_absent : (n : ℕ) (ps : Accesses) → ((loc : ℕ) → loc ≤ n → access_at ps loc ≡ None) → IsAscending ps → AllBeyond n ps
 beyond_from_absent n [] h up = tt
 beyond_from_absent n (p ∷ ps) h up = elim (cases_lt n p.0) [
-  | inl beyond ↦ (beyond, beyond_lower n p.0 ps (omega arith) up.0)
+  | inl beyond ↦ (beyond, beyond_lower n p.0 ps (omega arith) (ascending_first _ _ up))
   | inr lower ↦ absurd (cc (access_first p ps p.0 refl, h p.0 lower))
 ]
 
@@ -35,7 +68,7 @@ beyond_from_absent n (p ∷ ps) h up = elim (cases_lt n p.0) [
 same_rests : (p q : ℕ × Access) (ps qs : Accesses) → p.0 ≡ q.0 → IsAscending (p ∷ ps) → IsAscending (q ∷ qs) → ((loc : ℕ) → access_at (p ∷ ps) loc ≡ access_at (q ∷ qs) loc) → (loc : ℕ) → access_at ps loc ≡ access_at qs loc
 same_rests p q ps qs first up-p up-q same loc = elim (cases_lt p.0 loc) [
   | inl beyond ↦ cc (access_other p ps loc (λ e. omega arith), access_other q qs loc (λ e. omega arith), same loc)
-  | inr lower ↦ cc (absent_beyond loc p.0 ps lower up-p.0, absent_beyond loc q.0 qs (omega arith) up-q.0)
+  | inr lower ↦ cc (absent_beyond loc p.0 ps lower (ascending_first _ _ up-p), absent_beyond loc q.0 qs (omega arith) (ascending_first _ _ up-q))
 ]
 
 -- ascending lists with the same look-up are one
@@ -45,17 +78,17 @@ same_from_lookups [] (q ∷ qs) up-a up-b same = absurd (cc (access_first q qs q
 same_from_lookups (p ∷ ps) [] up-a up-b same = absurd (cc (access_first p ps p.0 refl, same p.0))
 same_from_lookups ((m, x) ∷ ps) ((n, y) ∷ qs) up-a up-b same = elim (cases_order m n) [
   | inl e ↦
-      let rest = same_from_lookups ps qs up-a.1 up-b.1 (same_rests (m, x) (n, y) ps qs e up-a up-b same) in
+      let rest = same_from_lookups ps qs (ascending_rest _ _ up-a) (ascending_rest _ _ up-b) (same_rests (m, x) (n, y) ps qs e up-a up-b same) in
       let found-a = access_first (m, x) ps m refl in
       let found-b = access_first (n, y) qs m (sym e) in
       let here = same m in
       cc
-  | inr (inl below) ↦ absurd (cc (access_first (m, x) ps m refl, same m, absent_beyond m n qs (omega arith) up-b.0, access_other (n, y) qs m (λ e. omega arith)))
-  | inr (inr above) ↦ absurd (cc (access_first (n, y) qs n refl, same n, absent_beyond n m ps (omega arith) up-a.0, access_other (m, x) ps n (λ e. omega arith)))
+  | inr (inl below) ↦ absurd (cc (access_first (m, x) ps m refl, same m, absent_beyond m n qs (omega arith) (ascending_first _ _ up-b), access_other (n, y) qs m (λ e. omega arith)))
+  | inr (inr above) ↦ absurd (cc (access_first (n, y) qs n refl, same n, absent_beyond n m ps (omega arith) (ascending_first _ _ up-a), access_other (m, x) ps n (λ e. omega arith)))
 ]
 
 -- the rest of an ascending list
 pub ascending_drop : (i : ℕ) (ps : Accesses) → IsAscending ps → IsAscending (drop i ps)
 ascending_drop zero ps up = up
-ascending_drop (suc i) [] up = tt
-ascending_drop (suc i) (p ∷ ps) up = ascending_drop i ps up.1
+ascending_drop (suc i) [] up = ascending_none
+ascending_drop (suc i) (p ∷ ps) up = ascending_drop i ps (ascending_rest _ _ up)

@@ -8,6 +8,7 @@ use Rattle.rw_sets.specs.declared.access.Access.{Access}
 use Rattle.rw_sets.specs.declared.access.Access.TheVariants.{Read}
 use Rattle.rw_sets.specs.Accesses.{Accesses, IsAscending, stronger, put_access, merged}
 use Rattle.rw_sets.specs.Places.{location_at, IsAt, IsGapFor}
+use Rattle.rw_sets.proofs.Accesses.{ascending_none}
 use Rattle.rw_sets.proofs.Merged.{ascending_merged}
 use Rattle.rw_sets.proofs.Places.{access_in, gap_at_end, put_at_place, put_in_gap}
 use Rattle.rw_sets.proofs.Pairs.{pairs_by_parts}
@@ -46,7 +47,7 @@ module _ (pairs now : Accesses) (kept i : ℕ) (h : IsJoined pairs now kept i) (
   one_more = ap (merged []) (take_more pairs i (0, Read) lt) ∙ pairs_by_parts [] (take i pairs) (get_or pairs i (0, Read) ∷ []) ∙ ap (put_access (merged [] (take i pairs))) (sym next_is) ∙ ap (λ l. put_access l next) (sym h.front)
 
   ascends : IsAscending (take kept now)
-  ascends = rw h.front (ascending_merged [] (take i pairs) tt)
+  ascends = rw h.front (ascending_merged [] (take i pairs) ascending_none)
 
   length_front : length (take kept now) ≡ kept
   length_front = length-take-le kept now (omega (arith, h.few, h.as_many))

@@ -5,7 +5,7 @@ use Rattle.std.proofs.lemmas.Bool.Decides.{nat_tests}
 use Rattle.rw_sets.specs.declared.access.Access.{Access}
 use Rattle.rw_sets.specs.declared.access.Access.TheVariants.{Read, Write}
 use Rattle.rw_sets.specs.Accesses.{Accesses, AllBeyond, IsAscending, access_at, stronger, joined, put_access, merged}
-use Rattle.rw_sets.proofs.Accesses.{beyond_lower, absent_beyond, access_first, access_other}
+use Rattle.rw_sets.proofs.Accesses.{ascending_first, ascending_rest, ascending_none, ascending_cons, beyond_lower, absent_beyond, access_first, access_other}
 
 pub put_below : (q p : ℕ × Access) (qs : Accesses) → p.0 < q.0 → put_access (q ∷ qs) p ≡ p ∷ q ∷ qs
 put_below q p qs lt = grind (arith, nat_tests)
@@ -30,11 +30,11 @@ beyond_put n (q ∷ qs) p lt h = elim (cases_order p.0 q.0) [
 ]
 
 pub ascending_put : (qs : Accesses) (p : ℕ × Access) → IsAscending qs → IsAscending (put_access qs p)
-ascending_put [] p up = (tt, tt)
+ascending_put [] p up = ascending_cons _ _ tt ascending_none
 ascending_put (q ∷ qs) p up = elim (cases_order p.0 q.0) [
-  | inl e ↦ rw (put_at q p qs e) up
-  | inr (inl below) ↦ rw (put_below q p qs below) ((below, beyond_lower p.0 q.0 qs (omega arith) up.0), up)
-  | inr (inr above) ↦ rw (put_above q p qs above) (beyond_put q.0 qs p above up.0, ascending_put qs p up.1)
+  | inl e ↦ rw (put_at q p qs e) (ascending_cons _ _ (ascending_first _ _ up) (ascending_rest _ _ up))
+  | inr (inl below) ↦ rw (put_below q p qs below) (ascending_cons _ _ (below, beyond_lower p.0 q.0 qs (omega arith) (ascending_first _ _ up)) up)
+  | inr (inr above) ↦ rw (put_above q p qs above) (ascending_cons _ _ (beyond_put q.0 qs p above (ascending_first _ _ up)) (ascending_put qs p (ascending_rest _ _ up)))
 ]
 
 pub ascending_merged : (a b : Accesses) → IsAscending a → IsAscending (merged a b)
@@ -60,8 +60,8 @@ pub access_put_here : (qs : Accesses) (p : ℕ × Access) → IsAscending qs →
 access_put_here [] p up = access_first p [] p.0 refl
 access_put_here (q ∷ qs) p up = elim (cases_order p.0 q.0) [
   | inl e ↦ rw (put_at q p qs e, access_first (q.0, stronger q.1 p.1) qs p.0 (sym e), access_first q qs p.0 (sym e)) refl
-  | inr (inl below) ↦ rw (put_below q p qs below, access_first p (q ∷ qs) p.0 refl, access_other q qs p.0 (λ e. omega arith), absent_beyond p.0 q.0 qs (omega arith) up.0) refl
-  | inr (inr above) ↦ rw (put_above q p qs above, access_other q (put_access qs p) p.0 (λ e. omega arith), access_other q qs p.0 (λ e. omega arith)) (access_put_here qs p up.1)
+  | inr (inl below) ↦ rw (put_below q p qs below, access_first p (q ∷ qs) p.0 refl, access_other q qs p.0 (λ e. omega arith), absent_beyond p.0 q.0 qs (omega arith) (ascending_first _ _ up)) refl
+  | inr (inr above) ↦ rw (put_above q p qs above, access_other q (put_access qs p) p.0 (λ e. omega arith), access_other q qs p.0 (λ e. omega arith)) (access_put_here qs p (ascending_rest _ _ up))
 ]
 
 -- at any other nothing changes
@@ -77,11 +77,11 @@ access_put_other (q ∷ qs) p loc differs = elim (cases_order p.0 q.0) [
 pub access_merged : (a b : Accesses) → IsAscending a → IsAscending b → (loc : ℕ) → access_at (merged a b) loc ≡ joined (access_at a loc) (access_at b loc)
 access_merged a [] up-a up-b loc = sym (joined_none (access_at a loc))
 access_merged a (p ∷ ps) up-a up-b loc =
-    let rest = access_merged (put_access a p) ps (ascending_put a p up-a) up-b.1 loc in
+    let rest = access_merged (put_access a p) ps (ascending_put a p up-a) (ascending_rest _ _ up-b) loc in
     elim (cases_eq p.0 loc) [
       | inl e ↦
           let found = access_first p ps loc e in
-          let absent = absent_beyond loc p.0 ps (omega arith) up-b.0 in
+          let absent = absent_beyond loc p.0 ps (omega arith) (ascending_first _ _ up-b) in
           let here : access_at (put_access a p) loc ≡ joined (access_at a loc) (Some p.1) = subst (λ l. access_at (put_access a p) l ≡ joined (access_at a l) (Some p.1)) e (access_put_here a p up-a) in
           cc (joined_none (joined (access_at a loc) (Some p.1)))
       | inr differs ↦ cc (access_put_other a p loc differs, access_other p ps loc differs)
@@ -102,4 +102,4 @@ merged_both p q a b e h = rw (put_at p q a (sym e)) (merged_left (p.0, stronger 
 -- a merge with nothing
 pub merged_none : (b : Accesses) → IsAscending b → merged [] b ≡ b
 merged_none [] up = refl
-merged_none (q ∷ qs) up = merged_right q [] qs tt up.0 ∙ ap (λ r. q ∷ r) (merged_none qs up.1)
+merged_none (q ∷ qs) up = merged_right q [] qs tt (ascending_first _ _ up) ∙ ap (λ r. q ∷ r) (merged_none qs (ascending_rest _ _ up))

@@ -12,7 +12,7 @@ use Rattle.rw_sets.specs.declared.access.Access.{Access}
 use Rattle.rw_sets.specs.declared.access.Access.TheVariants.{Read, Write}
 use Rattle.rw_sets.specs.Accesses.{Accesses, AllBeyond, IsAscending, access_at, allows_write, writes, joined, put_access, merged, is_write, same_pair}
 use Rattle.rw_sets.specs.Laws.{SameIsEqual, LookupsFindPairs, MergesWriteWhatOneDoes, PairsAreNamed, PairsAreWritten, PairsInAnyOrder, PairsByParts}
-use Rattle.rw_sets.proofs.Accesses.{access_first, access_other, same_from_lookups}
+use Rattle.rw_sets.proofs.Accesses.{ascending_first, ascending_rest, access_first, access_other, same_from_lookups}
 use Rattle.rw_sets.proofs.Merged.{ascending_put, ascending_merged, access_put_here, access_put_other, access_merged}
 
 pair_is : (p : ℕ × Access) (loc : ℕ) (access : Access) → p.0 ≡ loc → p.1 ≡ access → p ≡ (loc, access)
@@ -53,7 +53,7 @@ lookups_find_pairs set loc access up = (found set, listed set up)
     listed [] up h = absurd (omega arith)
     listed (p ∷ ps) up h = elim (contains_cases p ps (loc, access) h) [
       | inl here ↦ access_first p ps loc (ap (λ (q : ℕ × Access). q.0) here) ∙ ap (λ (q : ℕ × Access). Some q.1) here
-      | inr later ↦ access_other p ps loc (λ e. not_beyond loc p.0 access ps (sym e) up.0 later) ∙ listed ps up.1 later
+      | inr later ↦ access_other p ps loc (λ e. not_beyond loc p.0 access ps (sym e) (ascending_first _ _ up) later) ∙ listed ps (ascending_rest _ _ up) later
     ]
 
 -- what a location has after one access was put in

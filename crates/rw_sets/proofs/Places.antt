@@ -11,7 +11,7 @@ use Rattle.rw_sets.specs.declared.access.Access.{Access}
 use Rattle.rw_sets.specs.declared.access.Access.TheVariants.{Read}
 use Rattle.rw_sets.specs.Accesses.{Accesses, AllBeyond, IsAscending, access_at, stronger, put_access}
 use Rattle.rw_sets.specs.Places.{location_at, IsAt, IsGapFor}
-use Rattle.rw_sets.proofs.Accesses.{access_first, access_other}
+use Rattle.rw_sets.proofs.Accesses.{ascending_first, ascending_rest, access_first, access_other}
 use Rattle.rw_sets.proofs.Merged.{put_below, put_at, put_above}
 
 -- the access at place i
@@ -27,9 +27,9 @@ location_beyond n (p ∷ ps) h (suc j) lt = location_beyond n ps h.1 j (omega ar
 locations_rise : (l : Accesses) → IsAscending l → (i j : ℕ) → i ≤ j → j < length l → location_at l i ≤ location_at l j
 locations_rise [] up i j le lt = absurd (omega arith)
 locations_rise (p ∷ ps) up zero zero le lt = omega arith
-locations_rise (p ∷ ps) up zero (suc j) le lt = omega (arith, location_beyond p.0 ps up.0 j (omega arith))
+locations_rise (p ∷ ps) up zero (suc j) le lt = omega (arith, location_beyond p.0 ps (ascending_first _ _ up) j (omega arith))
 locations_rise (p ∷ ps) up (suc i) zero le lt = absurd (omega arith)
-locations_rise (p ∷ ps) up (suc i) (suc j) le lt = locations_rise ps up.1 i j (omega arith) (omega arith)
+locations_rise (p ∷ ps) up (suc i) (suc j) le lt = locations_rise ps (ascending_rest _ _ up) i j (omega arith) (omega arith)
 
 -- what is last before a location leaves the gap for it at the end
 pub gap_at_end : (l : Accesses) (loc n : ℕ) → IsAscending l → n ≡ length l → (0 < n → location_at l (n - 1) < loc) → IsGapFor l loc n
@@ -74,7 +74,7 @@ gap_tail q l loc i h = record {
 
 -- the first location is below the one at a later place
 first_below : (q : ℕ × Access) (l : Accesses) (loc i : ℕ) → IsAscending (q ∷ l) → IsAt (q ∷ l) loc (suc i) → q.0 < loc
-first_below q l loc i up h = omega (arith, location_beyond q.0 l up.0 i (omega (arith, h.in_range)), h.here)
+first_below q l loc i up h = omega (arith, location_beyond q.0 l (ascending_first _ _ up) i (omega (arith, h.in_range)), h.here)
 
 -- the look-up finds what is at the place
 access_at_place : (l : Accesses) (loc i : ℕ) → IsAscending l → IsAt l loc i → access_at l loc ≡ Some (access_in l i)
@@ -82,7 +82,7 @@ access_at_place [] loc i up h = absurd (omega (arith, h.in_range))
 access_at_place (q ∷ l) loc zero up h = access_first q l loc h.here
 access_at_place (q ∷ l) loc (suc i) up h =
     let below = first_below q l loc i up h in
-    access_other q l loc (λ e. omega arith) ∙ access_at_place l loc i up.1 (at_tail q l loc i h)
+    access_other q l loc (λ e. omega arith) ∙ access_at_place l loc i (ascending_rest _ _ up) (at_tail q l loc i h)
 
 -- and nothing in a gap
 pub absent_in_gap : (l : Accesses) (loc i : ℕ) → IsGapFor l loc i → access_at l loc ≡ None
@@ -102,7 +102,7 @@ absent_in_gap (q ∷ l) loc (suc i) h =
 pub put_at_place : (l : Accesses) (p : ℕ × Access) (i : ℕ) → IsAscending l → IsAt l p.0 i → put_access l p ≡ set l i (p.0, stronger (access_in l i) p.1)
 put_at_place [] p i up h = absurd (omega (arith, h.in_range))
 put_at_place (q ∷ l) p zero up h = put_at q p l (sym h.here) ∙ ap (λ n. (n, stronger q.1 p.1) ∷ l) h.here
-put_at_place (q ∷ l) p (suc i) up h = put_above q p l (first_below q l p.0 i up h) ∙ ap (λ r. q ∷ r) (put_at_place l p i up.1 (at_tail q l p.0 i h))
+put_at_place (q ∷ l) p (suc i) up h = put_above q p l (first_below q l p.0 i up h) ∙ ap (λ r. q ∷ r) (put_at_place l p i (ascending_rest _ _ up) (at_tail q l p.0 i h))
 
 -- or the pair is inserted in the gap
 pub put_in_gap : (l : Accesses) (p : ℕ × Access) (i : ℕ) → IsGapFor l p.0 i → put_access l p ≡ insert l i p

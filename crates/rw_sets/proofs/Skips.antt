@@ -6,7 +6,7 @@ use Rattle.rw_sets.specs.declared.access.Access.{Access}
 use Rattle.rw_sets.specs.declared.access.Access.TheVariants.{Read}
 use Rattle.rw_sets.specs.Accesses.{Accesses, AllBeyond, IsAscending, access_at, stronger, excludes, clash, Conflicts, merged}
 use Rattle.rw_sets.proofs.Merged.{merged_left, merged_right, merged_both, merged_none}
-use Rattle.rw_sets.proofs.Accesses.{beyond_lower, absent_beyond, access_first, access_other}
+use Rattle.rw_sets.proofs.Accesses.{ascending_first, ascending_rest, beyond_lower, absent_beyond, access_first, access_other}
 
 clash_none : (x : Option Access) → clash x None ≡ false
 clash_none None = refl
@@ -71,9 +71,9 @@ pub pass_left : (l r : Accesses) → IsAscending l → IsAscending r → 0 < len
 pass_left [] r up-l up-r some-l some-r lt = absurd (omega arith)
 pass_left (p ∷ ps) [] up-l up-r some-l some-r lt = absurd (omega arith)
 pass_left (p ∷ ps) (q ∷ qs) up-l up-r some-l some-r lt = rw (rest_is p ps) (record {
-  left_ascends = up-l.1;
+  left_ascends = (ascending_rest _ _ up-l);
   right_ascends = up-r;
-  same_answer = skip_left p ps (q ∷ qs) (lt, beyond_lower p.0 q.0 qs (omega arith) up-r.0) up-l.0;
+  same_answer = skip_left p ps (q ∷ qs) (lt, beyond_lower p.0 q.0 qs (omega arith) (ascending_first _ _ up-r)) (ascending_first _ _ up-l);
 })
 
 pub pass_right : (l r : Accesses) → IsAscending l → IsAscending r → 0 < length l → 0 < length r → (first_of r).0 < (first_of l).0 → Passes l r l (rest_of r)
@@ -81,17 +81,17 @@ pass_right [] r up-l up-r some-l some-r lt = absurd (omega arith)
 pass_right (p ∷ ps) [] up-l up-r some-l some-r lt = absurd (omega arith)
 pass_right (p ∷ ps) (q ∷ qs) up-l up-r some-l some-r lt = rw (rest_is q qs) (record {
   left_ascends = up-l;
-  right_ascends = up-r.1;
-  same_answer = skip_right q (p ∷ ps) qs (lt, beyond_lower q.0 p.0 ps (omega arith) up-l.0) up-r.0;
+  right_ascends = (ascending_rest _ _ up-r);
+  same_answer = skip_right q (p ∷ ps) qs (lt, beyond_lower q.0 p.0 ps (omega arith) (ascending_first _ _ up-l)) (ascending_first _ _ up-r);
 })
 
 pub pass_both : (l r : Accesses) → IsAscending l → IsAscending r → 0 < length l → 0 < length r → (first_of l).0 ≡ (first_of r).0 → excludes (first_of l).1 (first_of r).1 ≡ false → Passes l r (rest_of l) (rest_of r)
 pass_both [] r up-l up-r some-l some-r e apart = absurd (omega arith)
 pass_both (p ∷ ps) [] up-l up-r some-l some-r e apart = absurd (omega arith)
 pass_both (p ∷ ps) (q ∷ qs) up-l up-r some-l some-r e apart = rw (rest_is p ps, rest_is q qs) (record {
-  left_ascends = up-l.1;
-  right_ascends = up-r.1;
-  same_answer = skip_both p q ps qs e apart up-l.0 up-r.0;
+  left_ascends = (ascending_rest _ _ up-l);
+  right_ascends = (ascending_rest _ _ up-r);
+  same_answer = skip_both p q ps qs e apart (ascending_first _ _ up-l) (ascending_first _ _ up-r);
 })
 
 pub first_conflict : (l r : Accesses) → 0 < length l → 0 < length r → (first_of l).0 ≡ (first_of r).0 → excludes (first_of l).1 (first_of r).1 ≡ true → Conflicts l r
@@ -117,9 +117,9 @@ pub merge_left : (l r : Accesses) → IsAscending l → IsAscending r → 0 < le
 merge_left [] r up-l up-r some-l some-r lt = absurd (omega arith)
 merge_left (p ∷ ps) [] up-l up-r some-l some-r lt = absurd (omega arith)
 merge_left (p ∷ ps) (q ∷ qs) up-l up-r some-l some-r lt = rw (rest_is p ps) (record {
-  left_ascends = up-l.1;
+  left_ascends = (ascending_rest _ _ up-l);
   right_ascends = up-r;
-  same_merge = merged_left p ps (q ∷ qs) (lt, beyond_lower p.0 q.0 qs (omega arith) up-r.0);
+  same_merge = merged_left p ps (q ∷ qs) (lt, beyond_lower p.0 q.0 qs (omega arith) (ascending_first _ _ up-r));
 })
 
 pub merge_right : (l r : Accesses) → IsAscending l → IsAscending r → 0 < length l → 0 < length r → (first_of r).0 < (first_of l).0 → Merges l r (first_of r) l (rest_of r)
@@ -127,17 +127,17 @@ merge_right [] r up-l up-r some-l some-r lt = absurd (omega arith)
 merge_right (p ∷ ps) [] up-l up-r some-l some-r lt = absurd (omega arith)
 merge_right (p ∷ ps) (q ∷ qs) up-l up-r some-l some-r lt = rw (rest_is q qs) (record {
   left_ascends = up-l;
-  right_ascends = up-r.1;
-  same_merge = merged_right q (p ∷ ps) qs (lt, beyond_lower q.0 p.0 ps (omega arith) up-l.0) up-r.0;
+  right_ascends = (ascending_rest _ _ up-r);
+  same_merge = merged_right q (p ∷ ps) qs (lt, beyond_lower q.0 p.0 ps (omega arith) (ascending_first _ _ up-l)) (ascending_first _ _ up-r);
 })
 
 pub merge_both : (l r : Accesses) → IsAscending l → IsAscending r → 0 < length l → 0 < length r → (first_of l).0 ≡ (first_of r).0 → Merges l r ((first_of l).0, stronger (first_of l).1 (first_of r).1) (rest_of l) (rest_of r)
 merge_both [] r up-l up-r some-l some-r e = absurd (omega arith)
 merge_both (p ∷ ps) [] up-l up-r some-l some-r e = absurd (omega arith)
 merge_both (p ∷ ps) (q ∷ qs) up-l up-r some-l some-r e = rw (rest_is p ps, rest_is q qs) (record {
-  left_ascends = up-l.1;
-  right_ascends = up-r.1;
-  same_merge = merged_both p q ps qs e up-r.0;
+  left_ascends = (ascending_rest _ _ up-l);
+  right_ascends = (ascending_rest _ _ up-r);
+  same_merge = merged_both p q ps qs e (ascending_first _ _ up-r);
 })
 
 -- where one of the lists is used up, the rest of the merge is what is left of the other

@@ -1,8 +1,10 @@
 -- A set of locations, each with the access to it, as a list of pairs.
 use Rattle.std.specs.Prelude.{◌≡◌, ℕ, ◌<◌, Bool, true, false, ◌||◌, List, [], ◌∷◌, Option, Some, None, IsSome, IsTrue, nat_eq, nat_lt, ◌==◌, if◌then◌else◌}
-use Rattle.std.specs.List.{list_any}
+use Rattle.std.specs.List.{list_any, AllByRecursion}
+use Rattle.std.specs.List.Sorted.{IsStrictlySortedBy}
 use Rattle.std.specs.Cmp.Lexicographic.{pointwise}
-use Rattle.std.specs.Ordering.{on, eq_of_both}
+use Rattle.std.specs.Ordering.{nat_cmp, on, eq_of_both}
+use Rattle.std.specs.declared.cmp.Ordering.{Ordering}
 use mathlib.Core.Bool.{beq}
 use Rattle.rw_sets.specs.declared.access.Access.{Access}
 use Rattle.rw_sets.specs.declared.access.Access.TheVariants.{Read, Write}
@@ -11,15 +13,17 @@ use Rattle.rw_sets.specs.declared.access.Access.TheVariants.{Read, Write}
 abbrev pub Accesses : Type 0
 Accesses = List (ℕ × Access)
 
--- every location of the list is beyond this one
-abbrev pub AllBeyond : ℕ → Accesses → Type 0
-AllBeyond loc [] = Unit {0}
-AllBeyond loc (p ∷ ps) = (loc < p.0) × AllBeyond loc ps
+-- pairs in the order of their locations
+abbrev pub by_location : ℕ × Access → ℕ × Access → Ordering
+by_location = on (λ p. p.0) nat_cmp
 
 -- the locations rise, so each is there once
 abbrev pub IsAscending : Accesses → Type 0
-IsAscending [] = Unit {0}
-IsAscending (p ∷ ps) = AllBeyond p.0 ps × IsAscending ps
+IsAscending = IsStrictlySortedBy by_location
+
+-- every location of the list is beyond this one
+abbrev pub AllBeyond : ℕ → Accesses → Type 0
+AllBeyond loc = AllByRecursion (λ p. loc < p.0)
 
 -- the access to a location, if the list has it
 abbrev pub access_at : Accesses → ℕ → Option Access

@@ -1,12 +1,16 @@
 -- What holds of look-ups, conflict, merge and inclusion, at all sets.
-use Rattle.std.specs.Prelude.{◌≡◌, ℕ, [], ◌++◌, ◌||◌, ◌⊎◌, ◌↔◌, Some, IsSome, IsTrue, IsFalse, Contains, IsPermutation}
+use Rattle.std.specs.Prelude.{◌≡◌, ℕ, [], ◌∷◌, ◌++◌, ◌||◌, ◌⊎◌, ◌↔◌, Some, IsSome, IsTrue, IsFalse, Contains, IsPermutation}
 use Rattle.rw_sets.specs.declared.access.Access.{Access}
 use Rattle.rw_sets.specs.declared.access.Access.TheVariants.{Write}
-use Rattle.rw_sets.specs.Accesses.{Accesses, IsAscending, access_at, writes, joined, Conflicts, conflicts_with, AreIndependent, IsWithin, merged, same_accesses}
+use Rattle.rw_sets.specs.Accesses.{Accesses, IsAscending, AllBeyond, access_at, writes, joined, Conflicts, conflicts_with, AreIndependent, IsWithin, merged, same_accesses}
 
 -- a set is known by its look-up
 abbrev pub LookupsDetermineSets : Type 0
 LookupsDetermineSets = (a b : Accesses) → IsAscending a → IsAscending b → ((loc : ℕ) → access_at a loc ≡ access_at b loc) → a ≡ b
+
+-- a set is ascending where its first location is before all others, and they ascend
+abbrev pub AscendingByParts : Type 0
+AscendingByParts = (loc : ℕ) (access : Access) (rest : Accesses) → IsAscending ((loc, access) ∷ rest) ↔ (AllBeyond loc rest × IsAscending rest)
 
 -- a set is itself alone, by the test
 abbrev pub SameIsEqual : Type 0

@@ -1,9 +1,10 @@
-ghost use Rattle.rw_sets.specs.Laws.{LookupsDetermineSets, SameIsEqual, LookupsFindPairs, MergesAscend, MergesJoinLookups, MergesWriteWhatOneDoes, MergesCommute, MergesAssociate, MergesAreIdempotent, MergesWithNothing, PairsAreNamed, PairsAreWritten, PairsInAnyOrder, PairsByParts, ConflictsAreMutual, ConflictsGrow, MergesConflictByParts, ConflictsAreDecided, NothingConflictsWithEmpty, IndependentWithoutConflict, IndependenceIsDecided, IndependenceIsMutual, WithinIsReflexive, WithinIsTransitive, WithinIsAntisymmetric, WithinByMembers, EmptyIsWithinAll, MergesHoldBoth, MergesAreLeast};
+ghost use Rattle.rw_sets.specs.Laws.{LookupsDetermineSets, AscendingByParts, SameIsEqual, LookupsFindPairs, MergesAscend, MergesJoinLookups, MergesWriteWhatOneDoes, MergesCommute, MergesAssociate, MergesAreIdempotent, MergesWithNothing, PairsAreNamed, PairsAreWritten, PairsInAnyOrder, PairsByParts, ConflictsAreMutual, ConflictsGrow, MergesConflictByParts, ConflictsAreDecided, NothingConflictsWithEmpty, IndependentWithoutConflict, IndependenceIsDecided, IndependenceIsMutual, WithinIsReflexive, WithinIsTransitive, WithinIsAntisymmetric, WithinByMembers, EmptyIsWithinAll, MergesHoldBoth, MergesAreLeast};
 
 /// A set is its look-up, and its look-up finds its pairs.
 pub fn lookup_laws()
     ensures determine_sets { LookupsDetermineSets }
     ensures equality { SameIsEqual }
+    ensures ascending { AscendingByParts }
     ensures find_pairs { LookupsFindPairs }
 {}
 

@@ -1,4 +1,4 @@
-use Rattle.rw_sets.proofs.Accesses.{same_from_lookups}
+use Rattle.rw_sets.proofs.Accesses.{same_from_lookups, ascending_by_parts}
 use Rattle.rw_sets.proofs.Pairs.{lookups_find_pairs, same_is_equal}
 use Rattle.rw_sets.proofs.laws.lookup_laws.Goals as goal
 
@@ -10,3 +10,6 @@ returns-clause-equality c = same_is_equal
 
 pub returns-clause-find_pairs : goal.returns-clause-find_pairs
 returns-clause-find_pairs c = lookups_find_pairs
+
+pub returns-clause-ascending : goal.returns-clause-ascending
+returns-clause-ascending c = ascending_by_parts
