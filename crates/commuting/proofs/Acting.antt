@@ -14,7 +14,7 @@ use Rattle.app_laws.specs.Applications.{Application, IsLawful, set_in}
 use Rattle.app_laws.specs.Execution.{Execution, run_until}
 use Rattle.commuting.specs.States.{State, execution_from, entry_of}
 use Rattle.commuting.specs.Clear.{IsUnblocked}
-use Rattle.commuting.specs.Commuting.{BothEnd, HasEntryMore}
+use Rattle.commuting.specs.Commuting.{BothEnd, IsSameButLogsMore}
 use Rattle.commuting.specs.Lower.{LowerLaws}
 use Rattle.commuting.proofs.Cells.{same_entry, aside_turned}
 use Rattle.commuting.proofs.Ends.{before_earlier, not_before_later, none_before_first, none_before_put_in, none_before_all, entry_behind, both_mapped, beside_rest, first_acts}
@@ -145,8 +145,8 @@ module _ {V : Type 0} (app : Application V) (lawful : IsLawful app) (lower : Low
         subst (λ run. BothEnd R run (run_until app.act zero bound (execution_from (turn app.act task (record { cells = cells; pending = first ∷ others }))))) (sym here)
         (subst (λ run. BothEnd R None run) (sym there) tt)
 
-    entry_goes_behind : (e other : Execution V) → HasEntryMore app next.cells task e other
-        → HasEntryMore app cells task (with_front (entry_of app.act cells first ∷ []) e) (with_front (entry_of app.act cells first ∷ []) other)
+    entry_goes_behind : (e other : Execution V) → IsSameButLogsMore (entry_of app.act next.cells task ∷ []) e other
+        → IsSameButLogsMore (entry_of app.act cells task ∷ []) (with_front (entry_of app.act cells first ∷ []) e) (with_front (entry_of app.act cells first ∷ []) other)
     entry_goes_behind e other more = record {
       cells-are = more.cells-are;
       pending-are = more.pending-are;
@@ -159,7 +159,7 @@ module _ {V : Type 0} (app : Application V) (lawful : IsLawful app) (lower : Low
     -- to a bound that is later than the task, the run is a step shorter
     abbrev StepLess : ℕ → List V → List Task → List Task → Type 0
     StepLess limit cells pending others =
-        BothEnd (HasEntryMore app cells task)
+        BothEnd (IsSameButLogsMore (entry_of app.act cells task ∷ []))
         (run_until app.act (suc limit) bound (execution_from (record { cells = cells; pending = pending })))
         (run_until app.act limit bound (execution_from (turn app.act task (record { cells = cells; pending = others }))))
 
@@ -172,7 +172,7 @@ module _ {V : Type 0} (app : Application V) (lawful : IsLawful app) (lower : Low
           by_case false is-past = first_acts app lawful lower zero bound cells task (first ∷ others) is clear.beside (all_later cells task first others clear.beside is-past)
           by_case true is-past =
               let earlier = less_from_test _ is-past in
-              none_of_both cells first task others clear earlier bound is (HasEntryMore app cells task)
+              none_of_both cells first task others clear earlier bound is (IsSameButLogsMore (entry_of app.act cells task ∷ []))
       to_later_bound (suc limit) cells (first ∷ others) clear =
           by_case (is_lt (key_cmp first.key task.key)) refl
           (λ earlier. let after = turn app.act first (record { cells = cells; pending = others }) in to_later_bound limit after.cells after.pending (next_clear cells first task others clear earlier))
@@ -185,7 +185,7 @@ module _ {V : Type 0} (app : Application V) (lawful : IsLawful app) (lower : Low
               let earlier = less_from_test _ is-past in
               let after = turn app.act first (record { cells = cells; pending = others }) in
               both_take_first cells first task others clear earlier bound (before_earlier first.key task.key bound earlier is)
-              (HasEntryMore app after.cells task) (HasEntryMore app cells task) (entry_goes_behind cells first task others clear earlier)
+              (IsSameButLogsMore (entry_of app.act after.cells task ∷ [])) (IsSameButLogsMore (entry_of app.act cells task ∷ [])) (entry_goes_behind cells first task others clear earlier)
               (suc limit) limit (hypothesis earlier)
 
     -- to any other bound, both runs log the same

@@ -1,5 +1,5 @@
 -- States with a task taken out, and put back.
-use Rattle.std.proofs.Common.{◌≡◌, suc, refl, sym, ap, subst, ◌∙◌}
+use Rattle.std.proofs.Common.{◌≡◌, suc, refl, sym, ap, subst, ◌∙◌, List, [], ◌∷◌}
 use Rattle.std.specs.List.{AllByRecursion, Contains}
 use Rattle.std.proofs.lemmas.List.Elements.{All-from_recursion, All-contains}
 use Rattle.task_order.specs.declared.task.Task.{Task}
@@ -8,9 +8,9 @@ use Rattle.rw_sets.specs.Accesses.{Conflicts}
 use Rattle.app_laws.specs.Applications.{Application, IsLawful, IsFitTask, set_in}
 use Rattle.app_laws.specs.Execution.{run_until}
 use Rattle.app_laws.specs.Order.{Pairwise}
-use Rattle.commuting.specs.States.{State, execution_from, after_task}
+use Rattle.commuting.specs.States.{State, execution_from, after_task, entry_of}
 use Rattle.commuting.specs.Clear.{IsReady, IsClear, IsUnblocked}
-use Rattle.commuting.specs.Commuting.{BothEnd, HasEntryMore, ClearTasksCommute}
+use Rattle.commuting.specs.Commuting.{BothEnd, IsSameButLogsMore, ClearTasksMayActAtOnce}
 use Rattle.commuting.specs.Lower.{LowerLaws}
 use Rattle.commuting.proofs.Acting.{IsClearBeside, to_later_bound, to_other_bound}
 use Rattle.commuting.proofs.Pending.{TasksApart, all-filter, pairwise-filter, apart_from_put_in}
@@ -51,19 +51,27 @@ module _ {V : Type 0} (app : Application V) (lawful : IsLawful app) (lower : Low
         safe = ap (app.is_safe task) (sym same) ∙ unblocked.safe;
       }
 
+  pub unblocked_with : (cells : List V) (task : Task) (others : List Task) → IsUnblocked app (set_in app cells) others task → IsUnblocked app (set_in app cells) (put_in task others) task
+  unblocked_with cells task others unblocked =
+      let same = lower.before_skips task.key task others (λ less. lower.irreflexive task.key task.key less refl) in
+      record {
+        apart = subst (λ tasks. AllByRecursion (λ other. ¬ Conflicts (set_in app cells other) (set_in app cells task)) tasks) (sym same) unblocked.apart;
+        safe = ap (app.is_safe task) same ∙ unblocked.safe;
+      }
+
   clear_lacking : (state : State V) (task : Task) → IsReady app state → IsClear app state task → IsClearBeside app lawful lower task (lacking state task)
   clear_lacking state task ready clear = record {
     beside = beside_lacking state task ready clear.pending;
     unblocked = unblocked_lacking state task ready clear.pending clear.unblocked;
   }
 
-  pub clear_tasks_commute : ClearTasksCommute app
+  pub clear_tasks_commute : ClearTasksMayActAtOnce app
   clear_tasks_commute state task ready clear =
       let beside = clear_lacking state task ready clear in
       let whole = put_back state task ready clear.pending in
       record {
         to_later_bound = λ bound limit is.
-            subst (λ tasks. BothEnd (HasEntryMore app state.cells task) (run_until app.act (suc limit) bound (execution_from (record { cells = state.cells; pending = tasks }))) (run_until app.act limit bound (execution_from (after_task app.act task state)))) whole
+            subst (λ tasks. BothEnd (IsSameButLogsMore (entry_of app.act state.cells task ∷ [])) (run_until app.act (suc limit) bound (execution_from (record { cells = state.cells; pending = tasks }))) (run_until app.act limit bound (execution_from (after_task app.act task state)))) whole
             (to_later_bound app lawful lower bound task is limit state.cells (without task.key state.pending) beside);
         to_other_bound = λ bound limit is.
             subst (λ tasks. BothEnd (λ e other. e.log ≡ other.log) (run_until app.act limit bound (execution_from (record { cells = state.cells; pending = tasks }))) (run_until app.act limit bound (execution_from (after_task app.act task state)))) whole

@@ -15,7 +15,7 @@ use Rattle.app_laws.specs.Applications.{Application, IsLawful}
 use Rattle.app_laws.specs.Execution.{Execution, run_until}
 use Rattle.commuting.specs.States.{State, execution_from, entry_of}
 use Rattle.commuting.specs.Clear.{IsReady}
-use Rattle.commuting.specs.Commuting.{BothEnd, HasEntryMore}
+use Rattle.commuting.specs.Commuting.{BothEnd, IsSameButLogsMore}
 use Rattle.commuting.specs.Lower.{LowerLaws}
 use Rattle.commuting.proofs.Pending.{all-weaker, all-put_all, less_from_test}
 use Rattle.commuting.proofs.Runs.{none_before, with_front, turn, run_clear, run_zero, run_task}
@@ -142,7 +142,7 @@ module _ {V : Type 0} (app : Application V) (lawful : IsLawful app) (lower : Low
           (later_mapped key (entry_of app.act cells task) later.0 (run_until app.act limit bound (execution_from next)) logs)
 
   more_by_first : (cells : List V) (task : Task) (run : Option (Execution V)) → IfSome run (LogsLater task.key)
-      → BothEnd (HasEntryMore app cells task) (option_map (with_front (entry_of app.act cells task ∷ [])) run) run
+      → BothEnd (IsSameButLogsMore (entry_of app.act cells task ∷ [])) (option_map (with_front (entry_of app.act cells task ∷ [])) run) run
   more_by_first cells task None later = tt
   more_by_first cells task (Some e) later = record {
     cells-are = refl;
@@ -153,13 +153,13 @@ module _ {V : Type 0} (app : Application V) (lawful : IsLawful app) (lower : Low
   -- the first pending task acts as it would have
   pub first_acts : (limit : ℕ) (bound : Bound) (cells : List V) (task : Task) (others : List Task) → is_before task.key bound ≡ true
       → IsBeside app lawful lower task (record { cells = cells; pending = others }) → AllByRecursion (λ other. key_cmp task.key other.key ≡ Less) others
-      → BothEnd (HasEntryMore app cells task)
+      → BothEnd (IsSameButLogsMore (entry_of app.act cells task ∷ []))
       (run_until app.act (suc limit) bound (execution_from (record { cells = cells; pending = task ∷ others })))
       (run_until app.act limit bound (execution_from (turn app.act task (record { cells = cells; pending = others }))))
   first_acts limit bound cells task others is beside later =
       let rest : State V = record { cells = cells; pending = others } in
       let next = turn app.act task rest in
-      subst (λ run. BothEnd (HasEntryMore app cells task) run (run_until app.act limit bound (execution_from next)))
+      subst (λ run. BothEnd (IsSameButLogsMore (entry_of app.act cells task ∷ [])) run (run_until app.act limit bound (execution_from next)))
       (sym (run_task app.act limit bound cells task others (none_before_first bound task others is)))
       (more_by_first cells task (run_until app.act limit bound (execution_from next))
       (logs_later limit bound next.cells next.pending task.key (ready_turn app lawful lower task rest beside)

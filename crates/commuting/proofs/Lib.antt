@@ -2,7 +2,9 @@ pub mod Acting
 pub mod Cells
 pub mod Clearing
 pub mod Ends
+pub mod Pairs
 pub mod Pending
 pub mod Runs
+pub mod Several
 pub mod StaysClear
 pub mod Turns

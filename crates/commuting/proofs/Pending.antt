@@ -1,13 +1,13 @@
 -- Pending tasks, as others are put in among them.
 use Rattle.std.proofs.Common.{◌≡◌, ◌≢◌, ℕ, Bool, true, false, nat_eq, cond, List, [], ◌∷◌, ◌++◌, refl, sym, ap, subst, ◌∙◌, eq-eqb}
-use Rattle.std.proofs.lemmas.Bool.{and_from}
+use Rattle.std.proofs.lemmas.Bool.{and_from, true≢false}
 use Rattle.std.specs.List.{AllByRecursion, filter}
 use Rattle.std.specs.declared.cmp.Ordering.{Ordering}
 use Rattle.std.specs.declared.cmp.Ordering.TheVariants.{Less, Equal, Greater}
-use Rattle.std.specs.Ordering.{is_lt}
+use Rattle.std.specs.Ordering.{is_lt, ordering_reverse}
 use Rattle.task_order.specs.declared.key.Key.{Key}
 use Rattle.task_order.specs.declared.task.Task.{Task}
-use Rattle.task_order.specs.Key.{key_cmp}
+use Rattle.task_order.specs.Key.{key_cmp, key_cmp_total}
 use Rattle.task_order.specs.TaskList.{IsAscending, IsNewKey, put_in, put_all, tasks_before}
 use Rattle.app_laws.specs.Order.{is_prefix, AreApart, Pairwise}
 use Rattle.commuting.specs.Lower.{LowerLaws}
@@ -28,6 +28,16 @@ all-filter P test (x ∷ xs) all = elim (test x) as (λ b. AllByRecursion P (con
   | true ↦ (all.0, all-filter P test xs all.1)
   | false ↦ all-filter P test xs all.1
 ]
+
+pub all_from_filter : {X : Type 0} (P : X → Type 0) (test : X → Bool) (xs : List X) → AllByRecursion P (filter test xs) → AllByRecursion (λ x. test x ≡ true → P x) xs
+all_from_filter P test [] all = tt
+all_from_filter P test (x ∷ xs) all =
+    let by_case : (passes : Bool) → AllByRecursion P (cond passes (x ∷ filter test xs) (filter test xs)) → (passes ≡ true → P x) × AllByRecursion P (filter test xs) = elim [
+      | true ↦ λ all. ((λ passes. all.0), all.1)
+      | false ↦ λ all. ((λ passes. absurd (true≢false (sym passes))), all)
+    ] in
+    let parts : (test x ≡ true → P x) × AllByRecursion P (filter test xs) = by_case (test x) all in
+    (parts.0, all_from_filter P test xs parts.1)
 
 pub all-put_in : (P : Task → Type 0) (task : Task) (tasks : List Task) → P task → AllByRecursion P tasks → AllByRecursion P (put_in task tasks)
 all-put_in P task [] one all = (one, tt)
@@ -122,6 +132,12 @@ put_in-between task (other ∷ tasks) =
       | true ↦ (other ∷ rest.0, rest.1, ap (λ l. other ∷ l) rest.2, ap (λ l. other ∷ l) rest.3)
       | false ↦ ([], other ∷ tasks, refl, refl)
     ]
+
+-- no later task is before a key
+pub before-none : (key : Key) (tasks : List Task) → AllByRecursion (λ task. key_cmp key task.key ≡ Less) tasks → tasks_before key tasks ≡ []
+before-none key [] later = refl
+before-none key (task ∷ tasks) later =
+    ap (λ o. cond (is_lt o) (task ∷ tasks_before key tasks) (tasks_before key tasks)) (key_cmp_total.antisymm task.key key ∙ ap ordering_reverse later.0) ∙ before-none key tasks later.1
 
 -- later tasks come behind the first
 pub put_all-behind : (first : Task) (new tasks : List Task) → AllByRecursion (λ task. key_cmp first.key task.key ≡ Less) new → put_all new (first ∷ tasks) ≡ first ∷ put_all new tasks

@@ -1,11 +1,14 @@
 -- That clear tasks may act before their turn.
-use Rattle.std.specs.Prelude.{◌≡◌, ℕ, suc, true, false, List, Option, Some, None}
+use Rattle.std.specs.Prelude.{◌≡◌, ℕ, suc, ◌+◌, true, false, List, [], ◌∷◌, ◌++◌, length, map, Option, Some, None}
+use Rattle.std.specs.List.{AllByRecursion}
+use Rattle.std.specs.List.Sorted.{IsPermutation}
 use Rattle.task_order.specs.declared.task.Task.{Task}
 use Rattle.task_order.specs.Key.{Bound, is_before}
-use Rattle.output_log.specs.Entries.{with_entry}
+use Rattle.task_order.specs.TaskList.{HasDistinctKeys}
+use Rattle.output_log.specs.Entries.{Entry, entries_before, joined_by_key}
 use Rattle.app_laws.specs.Applications.{Application}
-use Rattle.app_laws.specs.Execution.{Execution, run_until}
-use Rattle.commuting.specs.States.{State, execution_from, after_task, entry_of}
+use Rattle.app_laws.specs.Execution.{Operator, Execution, run_until, run_to_end}
+use Rattle.commuting.specs.States.{State, execution_from, after_task, after_tasks, entry_of}
 use Rattle.commuting.specs.Clear.{IsClear, IsReady}
 
 -- both runs are given up, or both come to an end, and the ends are related
@@ -15,18 +18,30 @@ BothEnd R None (Some other) = ⊥
 BothEnd R (Some e) None = ⊥
 BothEnd R (Some e) (Some other) = R e other
 
-module _ {V : Type 0} (app : Application V) where
-  -- the cells and the pending tasks are the same, and the first log has the task's entry more
-  pub record HasEntryMore (cells : List V) (task : Task) (e other : Execution V) : Type 0 where
-    pub cells-are : e.cells ≡ other.cells
-    pub pending-are : e.pending ≡ other.pending
-    pub log-is : e.log ≡ (let entry = entry_of app.act cells task in with_entry entry.0 entry.1 other.log)
+-- the first log is the join by key of the second and the entries
+abbrev pub LogsMore : {V : Type 0} → List Entry → Execution V → Execution V → Type 0
+LogsMore entries e other = e.log ≡ joined_by_key other.log entries
 
-  -- A task that acts before its turn changes no run: to a bound that is later than the task, the run takes one step
-  -- less and lacks the task's entry; to any other bound it logs the same in as many steps.
+-- the same, while the cells and the pending tasks are the same
+pub record IsSameButLogsMore {V : Type 0} (entries : List Entry) (e other : Execution V) : Type 0 where
+  pub cells-are : e.cells ≡ other.cells
+  pub pending-are : e.pending ≡ other.pending
+  pub log-is : LogsMore entries e other
+
+-- what the tasks log where each of them acts on these cells
+abbrev pub entries_of : {V : Type 0} → Operator V → List V → List Task → List Entry
+entries_of act cells tasks = map (entry_of act cells) tasks
+
+-- all the tasks are earlier than the bound
+abbrev pub AreBefore : Bound → List Task → Type 0
+AreBefore bound tasks = AllByRecursion (λ task. is_before task.key bound ≡ true) tasks
+
+module _ {V : Type 0} (app : Application V) where
+  -- A task that acts before its turn changes no run: to a bound that is later than the task, the run is one step
+  -- shorter and lacks the task's entry; to any other bound it logs the same in as many steps.
   pub record MayActAtOnce (state : State V) (task : Task) : Type 0 where
     pub to_later_bound : (bound : Bound) (limit : ℕ) → is_before task.key bound ≡ true →
-        BothEnd (HasEntryMore state.cells task)
+        BothEnd (IsSameButLogsMore (entry_of app.act state.cells task ∷ []))
         (run_until app.act (suc limit) bound (execution_from state))
         (run_until app.act limit bound (execution_from (after_task app.act task state)))
     pub to_other_bound : (bound : Bound) (limit : ℕ) → is_before task.key bound ≡ false →
@@ -34,5 +49,46 @@ module _ {V : Type 0} (app : Application V) where
         (run_until app.act limit bound (execution_from state))
         (run_until app.act limit bound (execution_from (after_task app.act task state)))
 
-  abbrev pub ClearTasksCommute : Type 0
-  ClearTasksCommute = (state : State V) (task : Task) → IsReady app state → IsClear app state task → MayActAtOnce state task
+  abbrev pub ClearTasksMayActAtOnce : Type 0
+  ClearTasksMayActAtOnce = (state : State V) (task : Task) → IsReady app state → IsClear app state task → MayActAtOnce state task
+
+  -- clear tasks of the state, each once
+  pub record AreClear (state : State V) (tasks : List Task) : Type 0 where
+    pub distinct : HasDistinctKeys tasks
+    pub clear : AllByRecursion (IsClear app state) tasks
+
+  -- from one state to another, the tasks stay clear, and each logs the same where it acts
+  pub record StayClear (state now : State V) (tasks : List Task) : Type 0 where
+    pub ready : IsReady app now
+    pub clear : AreClear now tasks
+    pub same_entries : entries_of app.act now.cells tasks ≡ entries_of app.act state.cells tasks
+
+  -- where some clear tasks have acted, the others stay clear
+  abbrev pub ClearTasksStayClearInTurn : Type 0
+  ClearTasksStayClearInTurn = (state : State V) (tasks others : List Task) → IsReady app state → AreClear state (tasks ++ others) →
+      StayClear state (after_tasks app.act tasks state) others
+
+  -- in any order they come to one state
+  abbrev pub ClearTasksActInAnyOrder : Type 0
+  ClearTasksActInAnyOrder = (state : State V) (tasks others : List Task) → IsReady app state → AreClear state tasks → IsPermutation tasks others →
+      after_tasks app.act tasks state ≡ after_tasks app.act others state
+
+  -- Tasks that act before their turn change no run: it is a step shorter for each that is earlier than the bound, and
+  -- lacks the entries of these.
+  pub record MayAllActAtOnce (state : State V) (tasks : List Task) : Type 0 where
+    pub to_end : (limit : ℕ) →
+        BothEnd (IsSameButLogsMore (entries_of app.act state.cells tasks))
+        (run_to_end app.act (length tasks + limit) (execution_from state))
+        (run_to_end app.act limit (execution_from (after_tasks app.act tasks state)))
+    pub to_later_bound : (bound : Bound) (limit : ℕ) → AreBefore bound tasks →
+        BothEnd (IsSameButLogsMore (entries_of app.act state.cells tasks))
+        (run_until app.act (length tasks + limit) bound (execution_from state))
+        (run_until app.act limit bound (execution_from (after_tasks app.act tasks state)))
+    pub to_any_bound : (bound : Bound) (limit : ℕ) →
+        let entries = entries_before bound (entries_of app.act state.cells tasks) in
+        BothEnd (LogsMore entries)
+        (run_until app.act (length entries + limit) bound (execution_from state))
+        (run_until app.act limit bound (execution_from (after_tasks app.act tasks state)))
+
+  abbrev pub ClearTasksMayAllActAtOnce : Type 0
+  ClearTasksMayAllActAtOnce = (state : State V) (tasks : List Task) → IsReady app state → AreClear state tasks → MayAllActAtOnce state tasks

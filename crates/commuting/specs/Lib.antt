@@ -1,4 +1,5 @@
 pub mod Clear
 pub mod Commuting
+pub mod Independent
 pub mod Lower
 pub mod States

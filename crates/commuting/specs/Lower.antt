@@ -10,6 +10,7 @@ pub record LowerLaws : Type 0 where
   pub transitive : tasks.EarlierIsTransitive
   pub connected : tasks.EarlierIsConnected
   pub earliest_first : tasks.EarliestGoesFirst
+  pub puts_keep_tasks : tasks.PutsKeepTasks
   pub puts_ascend : tasks.PutsKeepAscending
   pub put_all_commutes : tasks.PutAllCommutesWithPut
   pub before_is_earlier : tasks.BeforeIsEarlier
@@ -19,8 +20,11 @@ pub record LowerLaws : Type 0 where
   pub without_put : tasks.WithoutForgetsPut
   pub put_without : tasks.PutRestoresWithout
   pub others : tasks.WithoutKeepsOthers
-  pub without_is_new : tasks.WithoutMakesNew
+  pub without_commutes : tasks.WithoutCommutes
   pub without_ascends : tasks.WithoutStaysAscending
+  pub distinct : tasks.AscendingKeysAreDistinct
+  pub determined : tasks.TasksDetermineAscending
+  pub distinct_in_any_order : tasks.DistinctInAnyOrder
   pub independent : sets.IndependentWithoutConflict
   pub turned : sets.ConflictsAreMutual
   pub grows : sets.ConflictsGrow

@@ -1,10 +1,13 @@
 ghost use Rattle.app_laws.specs.Applications.{IsLawful};
-ghost use Rattle.commuting.specs.Commuting.{ClearTasksCommute};
+ghost use Rattle.commuting.specs.Commuting.{ClearTasksMayActAtOnce, ClearTasksStayClearInTurn, ClearTasksActInAnyOrder, ClearTasksMayAllActAtOnce};
+ghost use Rattle.commuting.specs.Independent.{StaysReady, IndependentTasksCommute, IndependentTasksLeaveAlone, ClearTasksStayClear, ClearTasksAreIndependent, EarliestIsClear};
 ghost use Rattle.commuting.specs.Lower.{LowerLaws};
 
 use app_laws::{App, family_laws};
 use rw_sets::{conflict_laws, independence_laws};
-use task_order::{before_laws, earlier_laws, key_order, put_all_laws, put_in_laws, without_laws};
+use task_order::{
+    ascending_laws, before_laws, earlier_laws, key_order, put_all_laws, put_in_laws, without_laws,
+};
 
 /// What the crates below promise of keys, lists of tasks, sets and children, as one.
 fn lower_laws()
@@ -12,6 +15,7 @@ fn lower_laws()
 {
     key_order();
     earlier_laws();
+    ascending_laws();
     put_in_laws();
     put_all_laws();
     before_laws();
@@ -26,10 +30,42 @@ fn lawful<A: App>()
     ensures { (app : A) → IsLawful (A.meaning app) }
 {}
 
+/// Pending tasks whose sets don't conflict may act in either order, and leave one another alone.
+pub fn independent_tasks_commute<A: App>()
+    ensures ready { (app : A) → StaysReady (A.meaning app) }
+    ensures commute { (app : A) → IndependentTasksCommute (A.meaning app) }
+    ensures left_alone { (app : A) → IndependentTasksLeaveAlone (A.meaning app) }
+{
+    lower_laws();
+    lawful::<A>();
+}
+
+/// A clear task stays clear until it acts, and no two clear tasks conflict. The earliest task is
+/// clear.
+pub fn clear_tasks_stay_clear<A: App>()
+    ensures stay { (app : A) → ClearTasksStayClear (A.meaning app) }
+    ensures independent { (app : A) → ClearTasksAreIndependent (A.meaning app) }
+    ensures earliest { (app : A) → EarliestIsClear (A.meaning app) }
+{
+    lower_laws();
+    lawful::<A>();
+}
+
 /// A clear task may act at once: every run comes to the same cells, and its log is the same with
 /// the task's entry at its place.
 pub fn clear_tasks_commute<A: App>()
-    ensures commute { (app : A) → ClearTasksCommute (A.meaning app) }
+    ensures one { (app : A) → ClearTasksMayActAtOnce (A.meaning app) }
+{
+    lower_laws();
+    lawful::<A>();
+}
+
+/// Several clear tasks of one state may act at once, in any order: they come to one state, and
+/// runs from there lack just their entries.
+pub fn clear_tasks_all_commute<A: App>()
+    ensures in_turn { (app : A) → ClearTasksStayClearInTurn (A.meaning app) }
+    ensures any_order { (app : A) → ClearTasksActInAnyOrder (A.meaning app) }
+    ensures runs { (app : A) → ClearTasksMayAllActAtOnce (A.meaning app) }
 {
     lower_laws();
     lawful::<A>();

@@ -3,4 +3,6 @@
 
 mod laws;
 
-pub use laws::clear_tasks_commute;
+pub use laws::{
+    clear_tasks_all_commute, clear_tasks_commute, clear_tasks_stay_clear, independent_tasks_commute,
+};
