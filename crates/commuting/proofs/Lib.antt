@@ -6,5 +6,6 @@ pub mod Pairs
 pub mod Pending
 pub mod Runs
 pub mod Several
+pub mod Standing
 pub mod StaysClear
 pub mod Turns

@@ -1,7 +1,8 @@
--- What the crates below promise of keys, lists of tasks, sets and children.
+-- What the crates below promise of keys, lists of tasks, sets, children and logs.
 use Rattle.task_order.specs.Key.{ChildrenComeLater}
 use Rattle.task_order.specs.Laws as tasks
 use Rattle.rw_sets.specs.Laws as sets
+use Rattle.output_log.specs.Laws as logs
 use Rattle.app_laws.specs.Family.{ChildrenAreApart, SiblingsAreApart}
 
 pub record LowerLaws : Type 0 where
@@ -31,3 +32,9 @@ pub record LowerLaws : Type 0 where
   pub by_parts : sets.MergesConflictByParts
   pub children_apart : ChildrenAreApart
   pub siblings_apart : SiblingsAreApart
+  pub entries_in_one_part : logs.PutsMeetOnePart
+  pub parts_in_order : logs.PartsKeepOrder
+  pub before_end : logs.AllAreBeforeEnd
+  pub joins_with_none : logs.JoinsWithNone
+  pub joins_take_puts : logs.JoinsTakePuts
+  pub joins_add_lengths : logs.JoinsAddLengths

@@ -2,14 +2,16 @@ ghost use Rattle.app_laws.specs.Applications.{IsLawful};
 ghost use Rattle.commuting.specs.Commuting.{ClearTasksMayActAtOnce, ClearTasksStayClearInTurn, ClearTasksActInAnyOrder, ClearTasksMayAllActAtOnce};
 ghost use Rattle.commuting.specs.Independent.{StaysReady, IndependentTasksCommute, IndependentTasksLeaveAlone, ClearTasksStayClear, ClearTasksAreIndependent, EarliestIsClear};
 ghost use Rattle.commuting.specs.Lower.{LowerLaws};
+ghost use Rattle.commuting.specs.Standing.{StartHasSameRest, ClearTasksKeepTheRest, EarlierEntriesAreFirst, NothingPendingIsTheEnd, TooManyTasksNeverEnd};
 
-use app_laws::{App, family_laws};
+use app_laws::{App, execution_laws, family_laws};
+use output_log::{join_laws, part_laws, put_laws};
 use rw_sets::{conflict_laws, independence_laws};
 use task_order::{
     ascending_laws, before_laws, earlier_laws, key_order, put_all_laws, put_in_laws, without_laws,
 };
 
-/// What the crates below promise of keys, lists of tasks, sets and children, as one.
+/// What the crates below promise of keys, lists of tasks, sets, children and logs, as one.
 fn lower_laws()
     ensures { LowerLaws }
 {
@@ -23,6 +25,9 @@ fn lower_laws()
     independence_laws();
     conflict_laws();
     family_laws();
+    put_laws();
+    part_laws();
+    join_laws();
 }
 
 /// The laws of an application, as one.
@@ -69,4 +74,18 @@ pub fn clear_tasks_all_commute<A: App>()
 {
     lower_laws();
     lawful::<A>();
+}
+
+/// A state, with the entries of the clear tasks that have acted so far in any order, stands for
+/// what is left of the execution from its start.
+pub fn same_rest_laws<A: App>()
+    ensures start { (app : A) → StartHasSameRest (A.meaning app) }
+    ensures acts { (app : A) → ClearTasksKeepTheRest (A.meaning app) }
+    ensures first { (app : A) → EarlierEntriesAreFirst (A.meaning app) }
+    ensures end { (app : A) → NothingPendingIsTheEnd (A.meaning app) }
+    ensures too_many { (app : A) → TooManyTasksNeverEnd (A.meaning app) }
+{
+    lower_laws();
+    lawful::<A>();
+    execution_laws::<A::Val>();
 }

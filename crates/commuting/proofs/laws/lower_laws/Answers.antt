@@ -28,4 +28,10 @@ returns c = record {
   by_parts = c.conflict_laws.ensures.by_parts;
   children_apart = c.family_laws.ensures.apart;
   siblings_apart = c.family_laws.ensures.siblings;
+  entries_in_one_part = c.put_laws.ensures.one_part;
+  parts_in_order = c.part_laws.ensures.order;
+  before_end = c.part_laws.ensures.end;
+  joins_with_none = c.join_laws.ensures.none;
+  joins_take_puts = c.join_laws.ensures.puts;
+  joins_add_lengths = c.join_laws.ensures.length;
 }

@@ -1,0 +1,57 @@
+-- When a state, with what was logged on the way to it, stands for what is left of an execution.
+use Rattle.std.specs.Prelude.{◌≡◌, ℕ, ◌+◌, ◌<◌, ◌≤◌, true, List, [], length, None, IsSomeAnd}
+use Rattle.task_order.specs.declared.task.Task.{Task}
+use Rattle.task_order.specs.Key.{Bound, end}
+use Rattle.output_log.specs.Entries.{Entry, IsInKeyOrder, IsNewEntry, entries_before, with_entry}
+use Rattle.app_laws.specs.Applications.{Application}
+use Rattle.app_laws.specs.Execution.{Operator, Execution, after_steps, is_clear_before, run_until, run_to_end}
+use Rattle.commuting.specs.Clear.{IsClear, IsReady}
+use Rattle.commuting.specs.Commuting.{BothEnd, LogsMore}
+use Rattle.commuting.specs.States.{State, execution_from, after_task}
+
+-- the entries are what the first log has more; and at the end, the cells are the same
+pub record IsRestOf {V : Type 0} (bound : Bound) (entries : List Entry) (e rest : Execution V) : Type 0 where
+  pub log-is : LogsMore entries e rest
+  pub cells-are : bound ≡ end → e.cells ≡ rest.cells
+
+-- The runs from the state are what is left of the runs from the start, after tasks that logged these entries: to any
+-- bound, a run from the start takes a step more for each entry that is earlier than the bound.
+abbrev pub HasSameRest : {V : Type 0} → Operator V → State V → List Entry → State V → Type 0
+HasSameRest act start entries now = (bound : Bound) (limit : ℕ) →
+    let done = entries_before bound entries in
+    BothEnd (IsRestOf bound done)
+    (run_until act (length done + limit) bound (execution_from start))
+    (run_until act limit bound (execution_from now))
+
+-- an end with this log and these cells
+pub record IsEndWith {V : Type 0} (entries : List Entry) (cells : List V) (e : Execution V) : Type 0 where
+  pub log-is : e.log ≡ entries
+  pub cells-are : e.cells ≡ cells
+
+module _ {V : Type 0} (app : Application V) where
+  -- a start stands for itself
+  abbrev pub StartHasSameRest : Type 0
+  StartHasSameRest = (start : State V) → HasSameRest app.act start [] start
+
+  -- and so does what a clear task leaves, whichever it is
+  abbrev pub ClearTasksKeepTheRest : Type 0
+  ClearTasksKeepTheRest = (start now : State V) (entries : List Entry) (task : Task) → IsInKeyOrder entries → IsNewEntry task.key entries →
+      IsReady app now → IsClear app now task → HasSameRest app.act start entries now →
+      HasSameRest app.act start (with_entry task.key (app.act task now.cells).text entries) (after_task app.act task now)
+
+  -- the entries before a bound that no pending task is before are the log of the first steps
+  abbrev pub EarlierEntriesAreFirst : Type 0
+  EarlierEntriesAreFirst = (start now : State V) (entries : List Entry) (bound : Bound) → IsInKeyOrder entries → HasSameRest app.act start entries now →
+      is_clear_before bound (execution_from now) ≡ true →
+      let done = entries_before bound entries in
+      (after_steps app.act (length done) (execution_from start)).log ≡ done
+
+  -- where nothing is pending, the run from the start has come to its end
+  abbrev pub NothingPendingIsTheEnd : Type 0
+  NothingPendingIsTheEnd = (start now : State V) (entries : List Entry) → IsInKeyOrder entries → HasSameRest app.act start entries now → now.pending ≡ [] →
+      (limit : ℕ) → length entries ≤ limit → IsSomeAnd (run_to_end app.act limit (execution_from start)) (IsEndWith entries now.cells)
+
+  -- where there are more tasks than the limit, the run from the start doesn't end within it
+  abbrev pub TooManyTasksNeverEnd : Type 0
+  TooManyTasksNeverEnd = (start now : State V) (entries : List Entry) → HasSameRest app.act start entries now →
+      (limit : ℕ) → length entries ≤ limit → limit < length entries + length now.pending → run_to_end app.act limit (execution_from start) ≡ None
