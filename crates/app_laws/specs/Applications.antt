@@ -1,20 +1,20 @@
 -- What an ordered application means to those who execute it, and what is asked of it.
 use Rattle.std.specs.Prelude.{◌≡◌, ◌≢◌, ℕ, ◌<◌, ◌≤◌, ◌^◌, List, [], ◌∷◌, ◌++◌, length, map, slice_get, Bool, true, IsSome, IsFalse}
-use Rattle.std.specs.List.{AllByRecursion, filter}
+use Rattle.std.specs.List.{AllByRecursion}
 use Rattle.std.specs.declared.cmp.Ordering.TheVariants.{Less}
-use Rattle.std.specs.Ordering.{is_lt}
-use Rattle.task_order.specs.declared.key.Key.{Key}
 use Rattle.task_order.specs.declared.start.Start.{Start}
 use Rattle.task_order.specs.declared.task.Body.{Body}
 use Rattle.task_order.specs.declared.task.Task.{Task}
 use Rattle.task_order.specs.Key.{key_cmp}
 use Rattle.task_order.specs.TaskList.{IsAscending, put_all}
+pub use Rattle.task_order.specs.TaskList.{tasks_before}
 use Rattle.rw_sets.specs.Accesses.{Accesses, access_at, writes, merged, Conflicts, IsWithin, IsAscending as IsSet}
 use Rattle.cell_store.specs.declared.cell.Cell.{Cell}
-use Rattle.cell_store.specs.declared.cell.Cell.TheVariants.{Home, Out}
-use Rattle.cell_store.specs.Home.{IsHome}
+use Rattle.cell_store.specs.declared.cell.Cell.TheVariants.{Out}
 use Rattle.cell_store.specs.Part.{Part}
 use Rattle.cell_store.specs.Cells.{cell_at, part_of}
+use Rattle.cell_store.specs.Values.{homes}
+pub use Rattle.cell_store.specs.Values.{AgreesWith}
 use Rattle.app_laws.specs.declared.child.Child.{Child}
 use Rattle.app_laws.specs.declared.app.Effect.{Effect}
 use Rattle.app_laws.specs.declared.app.SetAnswer.{SetAnswer}
@@ -33,18 +33,9 @@ pub record Application (V : Type 0) : Type 1 where
   pub act : Operator V
   pub is_safe : Task → List Task → Bool
 
--- the tasks that are earlier than the key, in order
-abbrev pub tasks_before : Key → List Task → List Task
-tasks_before key tasks = filter (λ task. is_lt (key_cmp task.key key)) tasks
-
 -- both lists have the same values at the locations of the set
 abbrev pub AgreeOn : {V : Type 0} → Accesses → List V → List V → Type 0
 AgreeOn set cells others = (loc : ℕ) → IsSome (access_at set loc) → slice_get cells loc ≡ slice_get others loc
-
--- the cells that are home have these values
-pub record AgreesWith {V : Type 0} (cells : List (Cell V)) (values : List V) : Type 0 where
-  pub as_many : length cells ≡ length values
-  pub each : (loc : ℕ) → IsHome (cell_at cells loc) → cell_at cells loc ≡ cell_at (map Home values) loc
 
 -- whether a text is whole lines, each ended by a line feed
 abbrev pub IsWholeLines : List ℕ → Type 0
@@ -73,7 +64,7 @@ module _ {V : Type 0} (app : Application V) where
   -- what a task's operator makes of the part of the cells that the task's set names
   abbrev pub effect_of : Task → List V → Effect V
   effect_of task cells = let outcome = app.act task cells in record {
-    bundle = part_of (map Home outcome.cells) (set_in cells task);
+    bundle = part_of (homes outcome.cells) (set_in cells task);
     children = map (handed outcome.cells) outcome.children;
     text = outcome.text;
   }
@@ -82,11 +73,11 @@ module _ {V : Type 0} (app : Application V) where
   pub record IsTaken (task : Task) (bundle : Part V) : Type 0 where
     pub cells : List V
     pub fit : app.is_fit_cells cells
-    pub is : bundle ≡ part_of (map Home cells) (set_in cells task)
+    pub is : bundle ≡ part_of (homes cells) (set_in cells task)
 
   -- the effect is what the operator makes of all cells of the application of which the task takes this bundle
   abbrev pub IsEffect : Task → Part V → Effect V → Type 0
-  IsEffect task bundle effect = (cells : List V) → app.is_fit_cells cells → bundle ≡ part_of (map Home cells) (set_in cells task) → effect ≡ effect_of task cells
+  IsEffect task bundle effect = (cells : List V) → app.is_fit_cells cells → bundle ≡ part_of (homes cells) (set_in cells task) → effect ≡ effect_of task cells
 
   -- Laws. Each speaks of the application's own cells and tasks alone.
 
