@@ -11,12 +11,12 @@ use Rattle.task_order.specs.declared.task.Task.{Task}
 use Rattle.task_order.specs.Key.{Bound, at_key, end, is_before, key_cmp, key_cmp_total}
 use Rattle.task_order.specs.TaskList.{put_in}
 use Rattle.output_log.specs.Entries.{Entry, entries_before, entries_from, with_entry}
-use Rattle.app_laws.specs.Applications.{Application, IsLawful}
-use Rattle.app_laws.specs.Execution.{Execution, run_until}
-use Rattle.commuting.specs.States.{State, execution_from, entry_of}
+use Rattle.app_laws.specs.Applications.{Application}
+use Rattle.app_laws.specs.Execution.{Execution}
+use Rattle.commuting.specs.States.{State, state_of, execution_from, run_from, entry_of}
 use Rattle.commuting.specs.Clear.{IsReady}
 use Rattle.commuting.specs.Commuting.{BothEnd, IsSameButLogsMore}
-use Rattle.commuting.specs.Lower.{LowerLaws}
+use Rattle.commuting.specs.Basis.{Basis}
 use Rattle.commuting.proofs.Pending.{all-weaker, all-put_all, less_from_test}
 use Rattle.commuting.proofs.Runs.{none_before, with_front, turn, run_clear, run_zero, run_task}
 use Rattle.commuting.proofs.Turns.{IsBeside, children_of, children_later, ready_turn}
@@ -86,13 +86,13 @@ both_mapped R S f g each None (Some other) both = absurd both
 both_mapped R S f g each (Some e) None both = absurd both
 both_mapped R S f g each (Some e) (Some other) both = each e other both
 
-module _ {V : Type 0} (app : Application V) (lawful : IsLawful app) (lower : LowerLaws) where
+module _ {V : Type 0} {app : Application V} (basis : Basis app) where
   abbrev LogsLater : Key → Execution V → Type 0
   LogsLater key e = AllByRecursion (λ entry. key_cmp key entry.0 ≡ Less) e.log
 
   -- the first of the pending tasks, beside the others
-  pub beside_rest : (cells : List V) (task : Task) (others : List Task) → IsReady app (record { cells = cells; pending = task ∷ others })
-      → IsBeside app lawful lower task (record { cells = cells; pending = others })
+  pub beside_rest : (cells : List V) (task : Task) (others : List Task) → IsReady app (state_of cells (task ∷ others))
+      → IsBeside app task (state_of cells others)
   beside_rest cells task others ready = record {
     ready = record { cells = ready.cells; tasks = ready.tasks.1; ascending = ready.ascending.1; apart = ready.apart.1 };
     fit = ready.tasks.0;
@@ -108,38 +108,38 @@ module _ {V : Type 0} (app : Application V) (lawful : IsLawful app) (lower : Low
   later_mapped key entry later (Some e) logs = (later, logs)
 
   -- a run logs tasks that are later than what all its pending tasks are later than
-  logs_later : (limit : ℕ) (bound : Bound) (cells : List V) (pending : List Task) (key : Key) → IsReady app (record { cells = cells; pending = pending })
+  logs_later : (limit : ℕ) (bound : Bound) (cells : List V) (pending : List Task) (key : Key) → IsReady app (state_of cells pending)
       → AllByRecursion (λ task. key_cmp key task.key ≡ Less) pending
-      → IfSome (run_until app.act limit bound (execution_from (record { cells = cells; pending = pending }))) (LogsLater key)
+      → IfSome (run_from app.act limit bound (state_of cells pending)) (LogsLater key)
   logs_later zero bound cells pending key ready later =
-      let e = execution_from (record { cells = cells; pending = pending }) in
+      let e = execution_from (state_of cells pending) in
       subst (λ run. IfSome run (LogsLater key)) (sym (run_zero app.act bound e)) (later_choice key e tt (none_before bound pending))
   logs_later (suc limit) bound cells [] key ready later =
-      subst (λ run. IfSome run (LogsLater key)) (sym (run_clear app.act (suc limit) bound (execution_from (record { cells = cells; pending = [] })) refl)) tt
+      subst (λ run. IfSome run (LogsLater key)) (sym (run_clear app.act (suc limit) bound (execution_from (state_of cells [])) refl)) tt
   logs_later (suc limit) bound cells (task ∷ others) key ready later =
       by_case (none_before bound (task ∷ others)) refl
-      (logs_later limit bound next.cells next.pending key (ready_turn app lawful lower task rest beside)
-      (all-put_all (λ child. key_cmp key child.key ≡ Less) (children_of app lawful lower cells task) others
+      (logs_later limit bound next.cells next.pending key (ready_turn basis task rest beside)
+      (all-put_all (λ child. key_cmp key child.key ≡ Less) (children_of app cells task) others
       (all-weaker (λ child. key_cmp task.key child.key ≡ Less) (λ child. key_cmp key child.key ≡ Less)
       (λ child after. key_cmp_total.trans key task.key child.key later.0 after)
-      (children_of app lawful lower cells task) (children_later app lawful lower task cells ready.cells beside.fit))
+      (children_of app cells task) (children_later basis task cells ready.cells beside.fit))
       later.1))
     where
       rest : State V
-      rest = record { cells = cells; pending = others }
+      rest = state_of cells others
 
       next : State V
       next = turn app.act task rest
 
-      beside : IsBeside app lawful lower task rest
+      beside : IsBeside app task rest
       beside = beside_rest cells task others ready
 
-      by_case : (clear : Bool) → none_before bound (task ∷ others) ≡ clear → IfSome (run_until app.act limit bound (execution_from next)) (LogsLater key)
-          → IfSome (run_until app.act (suc limit) bound (execution_from (record { cells = cells; pending = task ∷ others }))) (LogsLater key)
-      by_case true clear logs = subst (λ run. IfSome run (LogsLater key)) (sym (run_clear app.act (suc limit) bound (execution_from (record { cells = cells; pending = task ∷ others })) clear)) tt
+      by_case : (clear : Bool) → none_before bound (task ∷ others) ≡ clear → IfSome (run_from app.act limit bound next) (LogsLater key)
+          → IfSome (run_from app.act (suc limit) bound (state_of cells (task ∷ others))) (LogsLater key)
+      by_case true clear logs = subst (λ run. IfSome run (LogsLater key)) (sym (run_clear app.act (suc limit) bound (execution_from (state_of cells (task ∷ others))) clear)) tt
       by_case false busy logs =
           subst (λ run. IfSome run (LogsLater key)) (sym (run_task app.act limit bound cells task others busy))
-          (later_mapped key (entry_of app.act cells task) later.0 (run_until app.act limit bound (execution_from next)) logs)
+          (later_mapped key (entry_of app.act cells task) later.0 (run_from app.act limit bound next) logs)
 
   more_by_first : (cells : List V) (task : Task) (run : Option (Execution V)) → IfSome run (LogsLater task.key)
       → BothEnd (IsSameButLogsMore (entry_of app.act cells task ∷ [])) (option_map (with_front (entry_of app.act cells task ∷ [])) run) run
@@ -152,15 +152,15 @@ module _ {V : Type 0} (app : Application V) (lawful : IsLawful app) (lower : Low
 
   -- the first pending task acts as it would have
   pub first_acts : (limit : ℕ) (bound : Bound) (cells : List V) (task : Task) (others : List Task) → is_before task.key bound ≡ true
-      → IsBeside app lawful lower task (record { cells = cells; pending = others }) → AllByRecursion (λ other. key_cmp task.key other.key ≡ Less) others
+      → IsBeside app task (state_of cells others) → AllByRecursion (λ other. key_cmp task.key other.key ≡ Less) others
       → BothEnd (IsSameButLogsMore (entry_of app.act cells task ∷ []))
-      (run_until app.act (suc limit) bound (execution_from (record { cells = cells; pending = task ∷ others })))
-      (run_until app.act limit bound (execution_from (turn app.act task (record { cells = cells; pending = others }))))
+      (run_from app.act (suc limit) bound (state_of cells (task ∷ others)))
+      (run_from app.act limit bound (turn app.act task (state_of cells others)))
   first_acts limit bound cells task others is beside later =
-      let rest : State V = record { cells = cells; pending = others } in
+      let rest : State V = state_of cells others in
       let next = turn app.act task rest in
-      subst (λ run. BothEnd (IsSameButLogsMore (entry_of app.act cells task ∷ [])) run (run_until app.act limit bound (execution_from next)))
+      subst (λ run. BothEnd (IsSameButLogsMore (entry_of app.act cells task ∷ [])) run (run_from app.act limit bound next))
       (sym (run_task app.act limit bound cells task others (none_before_first bound task others is)))
-      (more_by_first cells task (run_until app.act limit bound (execution_from next))
-      (logs_later limit bound next.cells next.pending task.key (ready_turn app lawful lower task rest beside)
-      (all-put_all (λ child. key_cmp task.key child.key ≡ Less) (children_of app lawful lower cells task) others (children_later app lawful lower task cells beside.ready.cells beside.fit) later)))
+      (more_by_first cells task (run_from app.act limit bound next)
+      (logs_later limit bound next.cells next.pending task.key (ready_turn basis task rest beside)
+      (all-put_all (λ child. key_cmp task.key child.key ≡ Less) (children_of app cells task) others (children_later basis task cells beside.ready.cells beside.fit) later)))

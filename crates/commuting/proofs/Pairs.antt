@@ -9,11 +9,11 @@ use Rattle.task_order.specs.declared.task.Task.{Task}
 use Rattle.task_order.specs.Key.{key_cmp}
 use Rattle.task_order.specs.TaskList.{put_in, without}
 use Rattle.rw_sets.specs.Accesses.{Conflicts}
-use Rattle.app_laws.specs.Applications.{Application, IsLawful, set_in}
+use Rattle.app_laws.specs.Applications.{Application, set_in}
 use Rattle.commuting.specs.Clear.{IsReady, IsClear, IsUnblocked}
 use Rattle.commuting.specs.Independent.{AreIndependent, IsLeftAlone, StaysReady, IndependentTasksCommute, IndependentTasksLeaveAlone, ClearTasksStayClear, ClearTasksAreIndependent, EarliestIsClear}
-use Rattle.commuting.specs.Lower.{LowerLaws}
-use Rattle.commuting.specs.States.{State, after_task}
+use Rattle.commuting.specs.Basis.{Basis}
+use Rattle.commuting.specs.States.{State, state_of, after_task}
 use Rattle.commuting.proofs.Cells.{same_set, same_outcome}
 use Rattle.commuting.proofs.Clearing.{lacking, put_back, beside_lacking, unblocked_lacking, unblocked_with}
 use Rattle.commuting.proofs.Pending.{TasksApart, all-filter, all_from_filter, before-none, new_where_apart}
@@ -21,27 +21,27 @@ use Rattle.commuting.proofs.Runs.{turn}
 use Rattle.commuting.proofs.StaysClear.{stays_unblocked}
 use Rattle.commuting.proofs.Turns.{IsBeside, AreIndependentBeside, aside_here, children_of, children_new, ready_turn, beside_turn, turns_commute}
 
-module _ {V : Type 0} (app : Application V) (lawful : IsLawful app) (lower : LowerLaws) where
+module _ {V : Type 0} {app : Application V} (basis : Basis app) where
   pub stays_ready : StaysReady app
-  stays_ready state task ready pending = ready_turn app lawful lower task (lacking app lawful lower state task) (beside_lacking app lawful lower state task ready pending)
+  stays_ready state task ready pending = ready_turn basis task (lacking basis state task) (beside_lacking basis state task ready pending)
 
   has_put_in : (task : Task) (tasks : List Task) → Contains (put_in task tasks) task
-  has_put_in task tasks = Contains-permutation (task ∷ tasks) (put_in task tasks) task (lower.puts_keep_tasks task tasks) (0, omega arith, refl)
+  has_put_in task tasks = Contains-permutation (task ∷ tasks) (put_in task tasks) task (basis.lower.puts_keep_tasks task tasks) (0, omega arith, refl)
 
   module _ (state : State V) (task other : Task) (ready : IsReady app state) (both : AreIndependent app state task other) where
     -- the state without either
     abbrev base : State V
-    base = lacking app lawful lower (lacking app lawful lower state task) other
+    base = lacking basis (lacking basis state task) other
 
     other_left : Contains (without task.key state.pending) other
-    other_left = (lower.others task.key state.pending other).1 (both.other_pending, (λ same. both.differ (sym same)))
+    other_left = (basis.lower.others task.key state.pending other).1 (both.other_pending, (λ same. both.differ (sym same)))
 
-    first_beside : IsBeside app lawful lower task (lacking app lawful lower state task)
-    first_beside = beside_lacking app lawful lower state task ready both.task_pending
+    first_beside : IsBeside app task (lacking basis state task)
+    first_beside = beside_lacking basis state task ready both.task_pending
 
-    independent : AreIndependentBeside app lawful lower task other base
+    independent : AreIndependentBeside app task other base
     independent =
-        let second = beside_lacking app lawful lower (lacking app lawful lower state task) other first_beside.ready other_left in
+        let second = beside_lacking basis (lacking basis state task) other first_beside.ready other_left in
         record {
           task_beside = record {
             ready = second.ready;
@@ -54,45 +54,45 @@ module _ {V : Type 0} (app : Application V) (lawful : IsLawful app) (lower : Low
         }
 
     other_put_back : put_in other base.pending ≡ without task.key state.pending
-    other_put_back = put_back app lawful lower (lacking app lawful lower state task) other first_beside.ready other_left
+    other_put_back = put_back basis (lacking basis state task) other first_beside.ready other_left
 
     -- the task acts, and the other is pending still
-    after_one : after_task app.act task state ≡ record { cells = (turn app.act task base).cells; pending = put_in other (turn app.act task base).pending }
+    after_one : after_task app.act task state ≡ state_of (turn app.act task base).cells (put_in other (turn app.act task base).pending)
     after_one =
-        ap (λ tasks. turn app.act task (record { cells = state.cells; pending = tasks })) (sym other_put_back)
-        ∙ ap (λ tasks. record { cells = (app.act task state.cells).cells; pending = tasks })
-        (lower.put_all_commutes other (children_of app lawful lower state.cells task) base.pending (children_new app lawful lower task state.cells other independent.paths_apart))
+        ap (λ tasks. turn app.act task (state_of state.cells tasks)) (sym other_put_back)
+        ∙ ap (λ tasks. state_of (app.act task state.cells).cells tasks)
+        (basis.lower.put_all_commutes other (children_of app state.cells task) base.pending (children_new basis task state.cells other independent.paths_apart))
 
-    next_beside : IsBeside app lawful lower other (turn app.act task base)
-    next_beside = beside_turn app lawful lower task other base independent.task_beside independent.other_beside independent.paths_apart
+    next_beside : IsBeside app other (turn app.act task base)
+    next_beside = beside_turn basis task other base independent.task_beside independent.other_beside independent.paths_apart
 
     pub after_both : after_task app.act other (after_task app.act task state) ≡ turn app.act other (turn app.act task base)
     after_both =
         ap (after_task app.act other) after_one
-        ∙ ap (λ tasks. turn app.act other (record { cells = (turn app.act task base).cells; pending = tasks }))
-        (lower.without_put other (turn app.act task base).pending (new_where_apart other (turn app.act task base).pending next_beside.apart))
+        ∙ ap (λ tasks. turn app.act other (state_of (turn app.act task base).cells tasks))
+        (basis.lower.without_put other (turn app.act task base).pending (new_where_apart other (turn app.act task base).pending next_beside.apart))
 
     pub left_alone : IsLeftAlone app state (after_task app.act task state) other
     left_alone =
-        let aside = aside_here app lawful lower task other base independent in
+        let aside = aside_here basis task other base independent in
         record {
           pending = subst (λ s. Contains s.pending other) (sym after_one) (has_put_in other (turn app.act task base).pending);
-          same_set = same_set app lawful lower state.cells task other aside;
-          same_outcome = same_outcome app lawful lower state.cells task other aside;
+          same_set = same_set basis state.cells task other aside;
+          same_outcome = same_outcome basis state.cells task other aside;
         }
 
     -- the state without the other has the task
     without_other : without other.key state.pending ≡ put_in task base.pending
     without_other =
-        let second = beside_lacking app lawful lower state other ready both.other_pending in
-        let left = (lower.others other.key state.pending task).1 (both.task_pending, both.differ) in
-        sym (put_back app lawful lower (lacking app lawful lower state other) task second.ready left)
-        ∙ ap (put_in task) (lower.without_commutes task.key other.key state.pending)
+        let second = beside_lacking basis state other ready both.other_pending in
+        let left = (basis.lower.others other.key state.pending task).1 (both.task_pending, both.differ) in
+        sym (put_back basis (lacking basis state other) task second.ready left)
+        ∙ ap (put_in task) (basis.lower.without_commutes task.key other.key state.pending)
 
     pub stays_clear : IsClear app state other → IsClear app (after_task app.act task state) other
     stays_clear clear =
-        let was = subst (λ tasks. IsUnblocked app (set_in app state.cells) tasks other) without_other (unblocked_lacking app lawful lower state other ready clear.pending clear.unblocked) in
-        let now = unblocked_with app lawful lower (turn app.act task base).cells other (turn app.act task base).pending (stays_unblocked app lawful lower task other base independent was) in
+        let was = subst (λ tasks. IsUnblocked app (set_in app state.cells) tasks other) without_other (unblocked_lacking basis state other ready clear.pending clear.unblocked) in
+        let now = unblocked_with basis (turn app.act task base).cells other (turn app.act task base).pending (stays_unblocked basis task other base independent was) in
         record {
           pending = left_alone.pending;
           unblocked = subst (λ s. IsUnblocked app (set_in app s.cells) s.pending other) (sym after_one) now;
@@ -103,14 +103,14 @@ module _ {V : Type 0} (app : Application V) (lawful : IsLawful app) (lower : Low
     task_pending = both.other_pending;
     other_pending = both.task_pending;
     differ = λ same. both.differ (sym same);
-    apart = λ conflict. both.apart (lower.turned (set_in app state.cells other) (set_in app state.cells task) conflict);
+    apart = λ conflict. both.apart (basis.lower.turned (set_in app state.cells other) (set_in app state.cells task) conflict);
   }
 
   pub independent_tasks_commute : IndependentTasksCommute app
   independent_tasks_commute state task other ready both =
       after_both state task other ready both
-      ∙ turns_commute app lawful lower task other (base state task other ready both) (independent state task other ready both)
-      ∙ ap (λ tasks. turn app.act task (turn app.act other (record { cells = state.cells; pending = tasks }))) (lower.without_commutes other.key task.key state.pending)
+      ∙ turns_commute basis task other (base state task other ready both) (independent state task other ready both)
+      ∙ ap (λ tasks. turn app.act task (turn app.act other (state_of state.cells tasks))) (basis.lower.without_commutes other.key task.key state.pending)
       ∙ sym (after_both state other task ready (independent_turned state task other both))
 
   pub independent_tasks_leave_alone : IndependentTasksLeaveAlone app
@@ -136,8 +136,8 @@ module _ {V : Type 0} (app : Application V) (lawful : IsLawful app) (lower : Low
     apart =
         ⊎_elim
         (λ earlier. apart_from_earlier state task other clear.pending earlier other_clear)
-        (λ later conflict. apart_from_earlier state other task other_clear.pending later clear (lower.turned (set_in app state.cells task) (set_in app state.cells other) conflict))
-        (lower.connected task.key other.key differ);
+        (λ later conflict. apart_from_earlier state other task other_clear.pending later clear (basis.lower.turned (set_in app state.cells task) (set_in app state.cells other) conflict))
+        (basis.lower.connected task.key other.key differ);
   }
 
   pub earliest_is_clear : EarliestIsClear app
@@ -145,11 +145,11 @@ module _ {V : Type 0} (app : Application V) (lawful : IsLawful app) (lower : Low
       let none = before-none task.key others ready.ascending.0 in
       let unblocked : IsUnblocked app (set_in app cells) others task = record {
         apart = subst (λ tasks. AllByRecursion (λ other. ¬ Conflicts (set_in app cells other) (set_in app cells task)) tasks) (sym none) tt;
-        safe = ap (app.is_safe task) none ∙ lawful.safe_alone task ready.tasks.0;
+        safe = ap (app.is_safe task) none ∙ basis.lawful.safe_alone task ready.tasks.0;
       } in
       record {
         pending = (0, omega arith, refl);
         unblocked =
-            subst (λ tasks. IsUnblocked app (set_in app cells) tasks task) (lower.earliest_first task others ready.ascending.0)
-            (unblocked_with app lawful lower cells task others unblocked);
+            subst (λ tasks. IsUnblocked app (set_in app cells) tasks task) (basis.lower.earliest_first task others ready.ascending.0)
+            (unblocked_with basis cells task others unblocked);
       }

@@ -10,7 +10,7 @@ use Rattle.task_order.specs.declared.task.Task.{Task}
 use Rattle.task_order.specs.Key.{key_cmp, key_cmp_total}
 use Rattle.task_order.specs.TaskList.{IsAscending, IsNewKey, put_in, put_all, tasks_before}
 use Rattle.app_laws.specs.Order.{is_prefix, AreApart, Pairwise}
-use Rattle.commuting.specs.Lower.{LowerLaws}
+use Rattle.commuting.specs.Basis.{LowerLaws}
 
 -- ---- what holds of all tasks
 

@@ -7,7 +7,7 @@ use Rattle.task_order.specs.declared.task.Task.{Task}
 use Rattle.task_order.specs.Key.{Bound, is_before}
 use Rattle.task_order.specs.TaskList.{put_all}
 use Rattle.app_laws.specs.Execution.{Operator, Execution, children_from, acts, step, after_steps, is_clear_before, steps_until, run_until}
-use Rattle.commuting.specs.States.{State, execution_from, entry_of}
+use Rattle.commuting.specs.States.{State, state_of, execution_from, run_from, entry_of}
 
 -- no task of the list is earlier than the bound
 abbrev pub none_before : Bound → List Task → Bool
@@ -100,13 +100,13 @@ run_with_front act entries (suc limit) bound e =
 
 -- the first pending task acts, and its entry is logged in front
 pub run_task : {V : Type 0} (act : Operator V) (limit : ℕ) (bound : Bound) (cells : List V) (task : Task) (others : List Task) → none_before bound (task ∷ others) ≡ false
-    → run_until act (suc limit) bound (execution_from (record { cells = cells; pending = task ∷ others }))
-    ≡ option_map (with_front (entry_of act cells task ∷ [])) (run_until act limit bound (execution_from (turn act task (record { cells = cells; pending = others }))))
+    → run_from act (suc limit) bound (state_of cells (task ∷ others))
+    ≡ option_map (with_front (entry_of act cells task ∷ [])) (run_from act limit bound (turn act task (state_of cells others)))
 run_task act limit bound cells task others busy =
-    let e = execution_from (record { cells = cells; pending = task ∷ others }) in
+    let e = execution_from (state_of cells (task ∷ others)) in
     run_first act limit bound e
     ∙ ap (λ b. cond b (Some e) (run_until act limit bound (step act e))) busy
-    ∙ run_with_front act (entry_of act cells task ∷ []) limit bound (execution_from (turn act task (record { cells = cells; pending = others })))
+    ∙ run_with_front act (entry_of act cells task ∷ []) limit bound (execution_from (turn act task (state_of cells others)))
 
 -- and where a run may take no step, it is given up
 pub run_refused : {V : Type 0} (act : Operator V) (bound : Bound) (e : Execution V) → is_clear_before bound e ≡ false → run_until act zero bound e ≡ None

@@ -3,12 +3,12 @@ use Rattle.std.specs.Prelude.{◌≡◌, ℕ, suc, ◌+◌, true, false, List, [
 use Rattle.std.specs.List.{AllByRecursion}
 use Rattle.std.specs.List.Sorted.{IsPermutation}
 use Rattle.task_order.specs.declared.task.Task.{Task}
-use Rattle.task_order.specs.Key.{Bound, is_before}
+use Rattle.task_order.specs.Key.{Bound, end, is_before}
 use Rattle.task_order.specs.TaskList.{HasDistinctKeys}
 use Rattle.output_log.specs.Entries.{Entry, entries_before, joined_by_key}
 use Rattle.app_laws.specs.Applications.{Application}
-use Rattle.app_laws.specs.Execution.{Operator, Execution, run_until, run_to_end}
-use Rattle.commuting.specs.States.{State, execution_from, after_task, after_tasks, entry_of}
+use Rattle.app_laws.specs.Execution.{Operator, Execution}
+use Rattle.commuting.specs.States.{State, run_from, after_task, after_tasks, entry_of}
 use Rattle.commuting.specs.Clear.{IsClear, IsReady}
 
 -- both runs are given up, or both come to an end, and the ends are related
@@ -42,12 +42,12 @@ module _ {V : Type 0} (app : Application V) where
   pub record MayActAtOnce (state : State V) (task : Task) : Type 0 where
     pub to_later_bound : (bound : Bound) (limit : ℕ) → is_before task.key bound ≡ true →
         BothEnd (IsSameButLogsMore (entry_of app.act state.cells task ∷ []))
-        (run_until app.act (suc limit) bound (execution_from state))
-        (run_until app.act limit bound (execution_from (after_task app.act task state)))
+        (run_from app.act (suc limit) bound state)
+        (run_from app.act limit bound (after_task app.act task state))
     pub to_other_bound : (bound : Bound) (limit : ℕ) → is_before task.key bound ≡ false →
         BothEnd (λ e other. e.log ≡ other.log)
-        (run_until app.act limit bound (execution_from state))
-        (run_until app.act limit bound (execution_from (after_task app.act task state)))
+        (run_from app.act limit bound state)
+        (run_from app.act limit bound (after_task app.act task state))
 
   abbrev pub ClearTasksMayActAtOnce : Type 0
   ClearTasksMayActAtOnce = (state : State V) (task : Task) → IsReady app state → IsClear app state task → MayActAtOnce state task
@@ -78,17 +78,17 @@ module _ {V : Type 0} (app : Application V) where
   pub record MayAllActAtOnce (state : State V) (tasks : List Task) : Type 0 where
     pub to_end : (limit : ℕ) →
         BothEnd (IsSameButLogsMore (entries_of app.act state.cells tasks))
-        (run_to_end app.act (length tasks + limit) (execution_from state))
-        (run_to_end app.act limit (execution_from (after_tasks app.act tasks state)))
+        (run_from app.act (length tasks + limit) end state)
+        (run_from app.act limit end (after_tasks app.act tasks state))
     pub to_later_bound : (bound : Bound) (limit : ℕ) → AreBefore bound tasks →
         BothEnd (IsSameButLogsMore (entries_of app.act state.cells tasks))
-        (run_until app.act (length tasks + limit) bound (execution_from state))
-        (run_until app.act limit bound (execution_from (after_tasks app.act tasks state)))
+        (run_from app.act (length tasks + limit) bound state)
+        (run_from app.act limit bound (after_tasks app.act tasks state))
     pub to_any_bound : (bound : Bound) (limit : ℕ) →
         let entries = entries_before bound (entries_of app.act state.cells tasks) in
         BothEnd (LogsMore entries)
-        (run_until app.act (length entries + limit) bound (execution_from state))
-        (run_until app.act limit bound (execution_from (after_tasks app.act tasks state)))
+        (run_from app.act (length entries + limit) bound state)
+        (run_from app.act limit bound (after_tasks app.act tasks state))
 
   abbrev pub ClearTasksMayAllActAtOnce : Type 0
   ClearTasksMayAllActAtOnce = (state : State V) (tasks : List Task) → IsReady app state → AreClear state tasks → MayAllActAtOnce state tasks

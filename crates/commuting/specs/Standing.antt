@@ -4,10 +4,10 @@ use Rattle.task_order.specs.declared.task.Task.{Task}
 use Rattle.task_order.specs.Key.{Bound, end}
 use Rattle.output_log.specs.Entries.{Entry, IsInKeyOrder, IsNewEntry, entries_before, with_entry}
 use Rattle.app_laws.specs.Applications.{Application}
-use Rattle.app_laws.specs.Execution.{Operator, Execution, after_steps, is_clear_before, run_until, run_to_end}
+use Rattle.app_laws.specs.Execution.{Operator, Execution, after_steps, is_clear_before}
 use Rattle.commuting.specs.Clear.{IsClear, IsReady}
 use Rattle.commuting.specs.Commuting.{BothEnd, LogsMore}
-use Rattle.commuting.specs.States.{State, execution_from, after_task}
+use Rattle.commuting.specs.States.{State, execution_from, run_from, after_task}
 
 -- the entries are what the first log has more; and at the end, the cells are the same
 pub record IsRestOf {V : Type 0} (bound : Bound) (entries : List Entry) (e rest : Execution V) : Type 0 where
@@ -20,8 +20,8 @@ abbrev pub HasSameRest : {V : Type 0} → Operator V → State V → List Entry 
 HasSameRest act start entries now = (bound : Bound) (limit : ℕ) →
     let done = entries_before bound entries in
     BothEnd (IsRestOf bound done)
-    (run_until act (length done + limit) bound (execution_from start))
-    (run_until act limit bound (execution_from now))
+    (run_from act (length done + limit) bound start)
+    (run_from act limit bound now)
 
 -- an end with this log and these cells
 pub record IsEndWith {V : Type 0} (entries : List Entry) (cells : List V) (e : Execution V) : Type 0 where
@@ -49,9 +49,9 @@ module _ {V : Type 0} (app : Application V) where
   -- where nothing is pending, the run from the start has come to its end
   abbrev pub NothingPendingIsTheEnd : Type 0
   NothingPendingIsTheEnd = (start now : State V) (entries : List Entry) → IsInKeyOrder entries → HasSameRest app.act start entries now → now.pending ≡ [] →
-      (limit : ℕ) → length entries ≤ limit → IsSomeAnd (run_to_end app.act limit (execution_from start)) (IsEndWith entries now.cells)
+      (limit : ℕ) → length entries ≤ limit → IsSomeAnd (run_from app.act limit end start) (IsEndWith entries now.cells)
 
   -- where there are more tasks than the limit, the run from the start doesn't end within it
   abbrev pub TooManyTasksNeverEnd : Type 0
   TooManyTasksNeverEnd = (start now : State V) (entries : List Entry) → HasSameRest app.act start entries now →
-      (limit : ℕ) → length entries ≤ limit → limit < length entries + length now.pending → run_to_end app.act limit (execution_from start) ≡ None
+      (limit : ℕ) → length entries ≤ limit → limit < length entries + length now.pending → run_from app.act limit end start ≡ None

@@ -1,7 +1,6 @@
-ghost use Rattle.app_laws.specs.Applications.{IsLawful};
 ghost use Rattle.commuting.specs.Commuting.{ClearTasksMayActAtOnce, ClearTasksStayClearInTurn, ClearTasksActInAnyOrder, ClearTasksMayAllActAtOnce};
 ghost use Rattle.commuting.specs.Independent.{StaysReady, IndependentTasksCommute, IndependentTasksLeaveAlone, ClearTasksStayClear, ClearTasksAreIndependent, EarliestIsClear};
-ghost use Rattle.commuting.specs.Lower.{LowerLaws};
+ghost use Rattle.commuting.specs.Basis.{LowerLaws, Basis};
 ghost use Rattle.commuting.specs.Standing.{StartHasSameRest, ClearTasksKeepTheRest, EarlierEntriesAreFirst, NothingPendingIsTheEnd, TooManyTasksNeverEnd};
 
 use app_laws::{App, execution_laws, family_laws};
@@ -30,10 +29,12 @@ fn lower_laws()
     join_laws();
 }
 
-/// The laws of an application, as one.
-fn lawful<A: App>()
-    ensures { (app : A) → IsLawful (A.meaning app) }
-{}
+/// That, and the laws of an application.
+fn basis<A: App>()
+    ensures { (app : A) → Basis (A.meaning app) }
+{
+    lower_laws();
+}
 
 /// Pending tasks whose sets don't conflict may act in either order, and leave one another alone.
 pub fn independent_tasks_commute<A: App>()
@@ -41,8 +42,7 @@ pub fn independent_tasks_commute<A: App>()
     ensures commute { (app : A) → IndependentTasksCommute (A.meaning app) }
     ensures left_alone { (app : A) → IndependentTasksLeaveAlone (A.meaning app) }
 {
-    lower_laws();
-    lawful::<A>();
+    basis::<A>();
 }
 
 /// A clear task stays clear until it acts, and no two clear tasks conflict. The earliest task is
@@ -52,8 +52,7 @@ pub fn clear_tasks_stay_clear<A: App>()
     ensures independent { (app : A) → ClearTasksAreIndependent (A.meaning app) }
     ensures earliest { (app : A) → EarliestIsClear (A.meaning app) }
 {
-    lower_laws();
-    lawful::<A>();
+    basis::<A>();
 }
 
 /// A clear task may act at once: every run comes to the same cells, and its log is the same with
@@ -61,8 +60,7 @@ pub fn clear_tasks_stay_clear<A: App>()
 pub fn clear_tasks_commute<A: App>()
     ensures one { (app : A) → ClearTasksMayActAtOnce (A.meaning app) }
 {
-    lower_laws();
-    lawful::<A>();
+    basis::<A>();
 }
 
 /// Several clear tasks of one state may act at once, in any order: they come to one state, and
@@ -72,8 +70,7 @@ pub fn clear_tasks_all_commute<A: App>()
     ensures any_order { (app : A) → ClearTasksActInAnyOrder (A.meaning app) }
     ensures runs { (app : A) → ClearTasksMayAllActAtOnce (A.meaning app) }
 {
-    lower_laws();
-    lawful::<A>();
+    basis::<A>();
 }
 
 /// A state, with the entries of the clear tasks that have acted so far in any order, stands for
@@ -85,7 +82,6 @@ pub fn same_rest_laws<A: App>()
     ensures end { (app : A) → NothingPendingIsTheEnd (A.meaning app) }
     ensures too_many { (app : A) → TooManyTasksNeverEnd (A.meaning app) }
 {
-    lower_laws();
-    lawful::<A>();
+    basis::<A>();
     execution_laws::<A::Val>();
 }

@@ -2,10 +2,10 @@ use Rattle.commuting.proofs.Several.{clear_tasks_stay_clear_in_turn, clear_tasks
 use Rattle.commuting.proofs.laws.clear_tasks_all_commute.Goals as goal
 
 pub returns-clause-in_turn : goal.returns-clause-in_turn
-returns-clause-in_turn g c = λ app. clear_tasks_stay_clear_in_turn (g.A.App.meaning app) (c.lawful.ensures app) c.lower_laws.ensures
+returns-clause-in_turn g c = λ app. clear_tasks_stay_clear_in_turn (c.basis.ensures app)
 
 pub returns-clause-any_order : goal.returns-clause-any_order
-returns-clause-any_order g c = λ app. clear_tasks_act_in_any_order (g.A.App.meaning app) (c.lawful.ensures app) c.lower_laws.ensures
+returns-clause-any_order g c = λ app. clear_tasks_act_in_any_order (c.basis.ensures app)
 
 pub returns-clause-runs : goal.returns-clause-runs
-returns-clause-runs g c = λ app. clear_tasks_may_all_act_at_once (g.A.App.meaning app) (c.lawful.ensures app) c.lower_laws.ensures
+returns-clause-runs g c = λ app. clear_tasks_may_all_act_at_once (c.basis.ensures app)

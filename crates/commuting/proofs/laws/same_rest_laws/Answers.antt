@@ -2,16 +2,16 @@ use Rattle.commuting.proofs.Standing.{start_has_same_rest, clear_tasks_keep_the_
 use Rattle.commuting.proofs.laws.same_rest_laws.Goals as goal
 
 pub returns-clause-start : goal.returns-clause-start
-returns-clause-start g c = λ app. start_has_same_rest (g.A.App.meaning app) (c.lawful.ensures app) c.lower_laws.ensures
+returns-clause-start g c = λ app. start_has_same_rest (c.basis.ensures app)
 
 pub returns-clause-acts : goal.returns-clause-acts
-returns-clause-acts g c = λ app. clear_tasks_keep_the_rest (g.A.App.meaning app) (c.lawful.ensures app) c.lower_laws.ensures
+returns-clause-acts g c = λ app. clear_tasks_keep_the_rest (c.basis.ensures app)
 
 pub returns-clause-first : goal.returns-clause-first
-returns-clause-first g c = λ app. earlier_entries_are_first (g.A.App.meaning app) (c.lawful.ensures app) c.lower_laws.ensures c.execution_laws.ensures.logs
+returns-clause-first g c = λ app. earlier_entries_are_first (c.basis.ensures app) c.execution_laws.ensures.logs
 
 pub returns-clause-end : goal.returns-clause-end
-returns-clause-end g c = λ app. nothing_pending_is_the_end (g.A.App.meaning app) (c.lawful.ensures app) c.lower_laws.ensures
+returns-clause-end g c = λ app. nothing_pending_is_the_end (c.basis.ensures app)
 
 pub returns-clause-too_many : goal.returns-clause-too_many
-returns-clause-too_many g c = λ app. too_many_tasks_never_end (g.A.App.meaning app) (c.lawful.ensures app) c.lower_laws.ensures c.execution_laws.ensures.ends
+returns-clause-too_many g c = λ app. too_many_tasks_never_end (c.basis.ensures app) c.execution_laws.ensures.ends

@@ -1,10 +1,12 @@
--- What the crates below promise of keys, lists of tasks, sets, children and logs.
+-- What the laws of this crate stand on.
 use Rattle.task_order.specs.Key.{ChildrenComeLater}
 use Rattle.task_order.specs.Laws as tasks
 use Rattle.rw_sets.specs.Laws as sets
 use Rattle.output_log.specs.Laws as logs
+use Rattle.app_laws.specs.Applications.{Application, IsLawful}
 use Rattle.app_laws.specs.Family.{ChildrenAreApart, SiblingsAreApart}
 
+-- what the crates below promise of keys, lists of tasks, sets, children and logs
 pub record LowerLaws : Type 0 where
   pub children_later : ChildrenComeLater
   pub irreflexive : tasks.EarlierIsIrreflexive
@@ -38,3 +40,8 @@ pub record LowerLaws : Type 0 where
   pub joins_with_none : logs.JoinsWithNone
   pub joins_take_puts : logs.JoinsTakePuts
   pub joins_add_lengths : logs.JoinsAddLengths
+
+-- that, and the laws of an application
+pub record Basis {V : Type 0} (app : Application V) : Type 0 where
+  pub lawful : IsLawful app
+  pub lower : LowerLaws
