@@ -1,20 +1,29 @@
-use Rattle.std.proofs.Common.{ℕ, suc, List, [], ◌∷◌}
+use Rattle.std.proofs.Common.{◌≡◌, ℕ, suc, false, List, [], ◌∷◌, ◌++◌}
 use Rattle.std.specs.List.{AllByRecursion}
 use Rattle.task_order.specs.declared.key.Key.{Key}
 use Rattle.task_order.specs.declared.start.Start.{Start}
 use Rattle.app_laws.specs.Execution.{children_from}
-use Rattle.app_laws.specs.Order.{AreApart}
-use Rattle.app_laws.proofs.Apart.{apart_longer, children_apart}
+use Rattle.app_laws.specs.Order.{is_prefix, AreApart}
+use Rattle.app_laws.proofs.Apart.{apart_longer, children_apart, first_apart, is_prefix-longer, is_prefix-longer_self}
 use Rattle.app_laws.proofs.family.family_laws.Goals as goal
 
-children_apart_from_path : (parent : Key) (number : ℕ) (children : List Start) (path : List ℕ) → AreApart parent.path path
-    → AllByRecursion (λ child. AreApart child.key.path path) (children_from parent number children)
-children_apart_from_path parent number [] path apart = tt
-children_apart_from_path parent number (child ∷ children) path apart =
-    (apart_longer parent.path path number apart, children_apart_from_path parent (suc number) children path apart)
+-- what holds of each path that goes on from the parent's holds of the children's
+all_children : (P : List ℕ → Type 0) (parent : Key) → ((number : ℕ) → P (parent.path ++ number ∷ [])) → (number : ℕ) (children : List Start)
+    → AllByRecursion (λ child. P child.key.path) (children_from parent number children)
+all_children P parent each number [] = tt
+all_children P parent each number (child ∷ children) = (each number, all_children P parent each (suc number) children)
 
 pub returns-clause-apart : goal.returns-clause-apart
-returns-clause-apart c = λ parent children path apart. children_apart_from_path parent 0 children path apart
+returns-clause-apart c = λ parent children path apart. all_children (λ longer. AreApart longer path) parent (λ number. apart_longer parent.path path number apart) 0 children
 
 pub returns-clause-siblings : goal.returns-clause-siblings
 returns-clause-siblings c = λ parent children. children_apart parent 0 children
+
+pub returns-clause-new : goal.returns-clause-new
+returns-clause-new c = λ parent children path new. all_children (λ longer. is_prefix longer path ≡ false) parent (λ number. is_prefix-longer parent.path path number new) 0 children
+
+pub returns-clause-go_on : goal.returns-clause-go_on
+returns-clause-go_on c = λ parent children. all_children (λ longer. is_prefix longer parent.path ≡ false) parent (λ number. is_prefix-longer_self parent.path number) 0 children
+
+pub returns-clause-first : goal.returns-clause-first
+returns-clause-first c = λ first. first_apart 0 first
