@@ -4,6 +4,7 @@ pub mod Clearing
 pub mod Ends
 pub mod Pairs
 pub mod Pending
+pub mod Rest
 pub mod Runs
 pub mod Several
 pub mod Standing

@@ -22,6 +22,19 @@ pub all-joined : {X : Type 0} (P Q R : X → Type 0) → ((x : X) → P x → Q 
 all-joined P Q R join [] p q = tt
 all-joined P Q R join (x ∷ xs) p q = (join x p.0 q.0, all-joined P Q R join xs p.1 q.1)
 
+pub all-swapped : {X Y : Type 0} (R : X → Y → Type 0) (xs : List X) (ys : List Y) → AllByRecursion (λ y. AllByRecursion (λ x. R x y) xs) ys → AllByRecursion (λ x. AllByRecursion (R x) ys) xs
+all-swapped R xs [] all = none xs
+  where
+    none : (xs : List _) → AllByRecursion (λ x. AllByRecursion (R x) []) xs
+    none [] = tt
+    none (x ∷ xs) = (tt, none xs)
+all-swapped R xs (y ∷ ys) all =
+    all-joined (λ x. R x y) (λ x. AllByRecursion (R x) ys) (λ x. AllByRecursion (R x) (y ∷ ys)) (λ x first rest. (first, rest)) xs all.0 (all-swapped R xs ys all.1)
+
+pub all-append : {X : Type 0} (P : X → Type 0) (xs ys : List X) → AllByRecursion P xs → AllByRecursion P ys → AllByRecursion P (xs ++ ys)
+all-append P [] ys all rest = rest
+all-append P (x ∷ xs) ys all rest = (all.0, all-append P xs ys all.1 rest)
+
 pub all-filter : {X : Type 0} (P : X → Type 0) (test : X → Bool) (xs : List X) → AllByRecursion P xs → AllByRecursion P (filter test xs)
 all-filter P test [] all = tt
 all-filter P test (x ∷ xs) all = elim (test x) as (λ b. AllByRecursion P (cond b (x ∷ filter test xs) (filter test xs))) [
@@ -91,7 +104,7 @@ apart_from_put_in task (other ∷ tasks) pairs =
     by_case (is_lt (key_cmp other.key task.key)) pairs
 
 -- a path is a prefix of itself
-prefix_of_itself : (path : List ℕ) → is_prefix path path ≡ true
+pub prefix_of_itself : (path : List ℕ) → is_prefix path path ≡ true
 prefix_of_itself [] = refl
 prefix_of_itself (n ∷ path) = and_from (nat_eq n n) (is_prefix path path) (eq-eqb n n refl) (prefix_of_itself path)
 

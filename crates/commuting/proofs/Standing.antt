@@ -1,24 +1,32 @@
--- A state with the entries so far, and what is left of the execution.
-use Rattle.std.proofs.Common.{◌≡◌, ◌≢◌, ℕ, suc, ◌+◌, ◌-◌, ◌<◌, Bool, true, false, List, [], ◌∷◌, length, Option, Some, None, refl, sym, ap, subst, ◌∙◌, arith}
+-- States that stand for what is left of an execution.
+use Rattle.std.proofs.Common.{◌≡◌, ◌≢◌, ℕ, suc, ◌+◌, ◌-◌, ◌<◌, false, List, [], ◌∷◌, length, Option, Some, None, refl, sym, ap, subst, ◌∙◌, arith}
 use Rattle.std.specs.Prelude.{IfSome, IsSomeAnd}
+use Rattle.std.specs.List.{AllByRecursion, Contains}
+use Rattle.std.specs.List.Sorted.{IsStrictlySortedBy}
 use Rattle.std.specs.Option.{option_map}
+use Rattle.std.proofs.lemmas.List.Elements.{All-from_recursion, All-contains}
 use Rattle.std.proofs.lemmas.Bool.{true≢false}
 use Rattle.task_order.specs.declared.key.Key.{Key}
+use Rattle.task_order.specs.declared.start.Start.{Start}
 use Rattle.task_order.specs.declared.task.Task.{Task}
-use Rattle.task_order.specs.Key.{Bound, end, is_before}
-use Rattle.output_log.specs.Entries.{Entry, IsInKeyOrder, IsNewEntry, entries_before, with_entry, joined_by_key}
-use Rattle.app_laws.specs.Applications.{Application}
-use Rattle.app_laws.specs.Execution.{Operator, Execution, after_steps, is_clear_before, steps_until, created_after}
+use Rattle.task_order.specs.Key.{Bound, at_key, end, is_before}
+use Rattle.task_order.specs.TaskList.{without}
+use Rattle.output_log.specs.Entries.{Entry, IsInKeyOrder, IsNewEntry, entries_before, entries_from, with_entry}
+use Rattle.app_laws.specs.Applications.{Application, IsFitTask, AreFitTasks, AreFitStarts}
+use Rattle.app_laws.specs.Execution.{Operator, Execution, after_steps, is_clear_before, steps_until, created_after, first_from}
+use Rattle.app_laws.specs.Order.{is_prefix}
 use Rattle.app_laws.specs.Laws.{LogsEachStep, EndsWithinLimit}
-use Rattle.commuting.specs.Clear.{IsReady, IsClear}
-use Rattle.commuting.specs.Commuting.{BothEnd, IsSameButLogsMore}
+use Rattle.commuting.specs.Clear.{IsReady}
+use Rattle.commuting.specs.Commuting.{BothEnd}
 use Rattle.commuting.specs.Basis.{Basis}
-use Rattle.commuting.specs.Standing.{IsRestOf, HasSameRest, IsEndWith, StartHasSameRest, ClearTasksKeepTheRest, EarlierEntriesAreFirst, NothingPendingIsTheEnd, TooManyTasksNeverEnd}
-use Rattle.commuting.specs.States.{State, state_of, execution_from, run_from, after_task, entry_of}
-use Rattle.commuting.proofs.Clearing.{clear_tasks_commute}
-use Rattle.commuting.proofs.Pending.{all-filter}
+use Rattle.commuting.specs.Standing.{IsRestOf, HasSameRest, IsEndWith, StartsAreReady, StartsStandForThemselves, ClearTasksKeepStanding, EarlierEntriesAreFirst, NothingPendingIsTheEnd, TooManyTasksNeverEnd}
+use Rattle.commuting.specs.States.{State, state_of, execution_from, run_from, after_task}
+use Rattle.commuting.proofs.Clearing.{beside_lacking}
+use Rattle.commuting.proofs.Pending.{TasksApart, all-weaker, all-joined, all-filter, all-append, all-swapped, all-put_all, prefix_of_itself, spread-put_all}
+use Rattle.commuting.proofs.Pairs.{stays_ready}
+use Rattle.commuting.proofs.Turns.{children_of}
 use Rattle.commuting.proofs.Runs.{run_clear}
-use Rattle.commuting.proofs.Several.{both_same, both_follow}
+use Rattle.commuting.proofs.Rest.{start_has_same_rest, kept_by}
 
 given_up_both : {V : Type 0} (R : Execution V → Execution V → Type 0) (run : Option (Execution V)) → BothEnd R run None → run ≡ None
 given_up_both R None both = refl
@@ -34,67 +42,92 @@ unfolding after_steps
 after_none act e = refl
 
 module _ {V : Type 0} {app : Application V} (basis : Basis app) where
-  pub start_has_same_rest : StartHasSameRest app
-  start_has_same_rest start bound limit =
-      let none : 0 + limit ≡ limit = omega arith in
-      subst (λ n. BothEnd (IsRestOf bound []) (run_from app.act n bound start) (run_from app.act limit bound start)) (sym none)
-      (both_same (IsRestOf bound []) (λ e. record { log-is = refl; cells-are = λ is-end. refl }) (run_from app.act limit bound start))
+  -- ---- paths
 
-  -- an entry may be joined to either log
-  entry_joins : (key : Key) (text : List ℕ) (entries log first rest : List Entry) → IsInKeyOrder entries → IsNewEntry key entries
-      → log ≡ joined_by_key first entries → first ≡ with_entry key text rest → log ≡ joined_by_key rest (with_entry key text entries)
-  entry_joins key text entries log first rest ordered new is first-is =
-      let both = basis.lower.joins_take_puts key text rest entries in
-      is ∙ ap (λ l. joined_by_key l entries) first-is ∙ both.0 new ∙ sym (both.1 ordered)
+  -- the paths of the pending tasks are no prefix of those of the entries
+  abbrev AreUnlogged : List Entry → List Task → Type 0
+  AreUnlogged entries tasks = AllByRecursion (λ task. AllByRecursion (λ entry. is_prefix task.key.path entry.0.path ≡ false) entries) tasks
 
-  module _ (start now : State V) (entries : List Entry) (task : Task) (ordered : IsInKeyOrder entries) (new : IsNewEntry task.key entries)
-      (ready : IsReady app now) (clear : IsClear app now task) (same : HasSameRest app.act start entries now) (bound : Bound) (limit : ℕ) where
-    -- the run to the bound, with these entries
-    abbrev RestFrom : List Entry → Type 0
-    RestFrom done =
-        BothEnd (IsRestOf bound done) (run_from app.act (length done + limit) bound start)
-        (run_from app.act limit bound (after_task app.act task now))
+  new_where_unlogged : (task : Task) (entries : List Entry) → AllByRecursion (λ entry. is_prefix task.key.path entry.0.path ≡ false) entries → IsNewEntry task.key entries
+  new_where_unlogged task =
+      all-weaker (λ entry. is_prefix task.key.path entry.0.path ≡ false) (λ entry. entry.0 ≢ task.key)
+      (λ entry none same. let path = prefix_of_itself task.key.path in absurd (true≢false (sym path ∙ ap (λ (key : Key). is_prefix task.key.path key.path) (sym same) ∙ none)))
 
-    kept_by_later_bound : is_before task.key bound ≡ true → RestFrom (with_entry task.key (app.act task now.cells).text (entries_before bound entries))
-    kept_by_later_bound is =
-        let done = entries_before bound entries in
-        let more = with_entry task.key (app.act task now.cells).text done in
-        let steps : length done + suc limit ≡ length more + limit = omega (arith, basis.lower.joins_add_lengths done ((task.key, (app.act task now.cells).text) ∷ [])) in
-        subst (λ n. BothEnd (IsRestOf bound more) (run_from app.act n bound start) (run_from app.act limit bound (after_task app.act task now))) steps
-        (both_follow (IsRestOf bound done) (IsSameButLogsMore (entry_of app.act now.cells task ∷ [])) (IsRestOf bound more)
-        (λ e other last one two. record {
-          log-is =
-              entry_joins task.key (app.act task now.cells).text done e.log other.log last.log (basis.lower.parts_in_order bound entries ordered).0
-              (all-filter (λ entry. entry.0 ≢ task.key) _ entries new) one.log-is two.log-is;
-          cells-are = λ is-end. one.cells-are is-end ∙ two.cells-are;
-        })
-        (run_from app.act (length done + suc limit) bound start)
-        (run_from app.act (suc limit) bound now)
-        (run_from app.act limit bound (after_task app.act task now))
-        (same bound (suc limit))
-        ((clear_tasks_commute basis now task ready clear).to_later_bound bound limit is))
+  -- what holds of one more entry and of the others holds of all
+  all-with_entry : (P : Entry → Type 0) (key : Key) (text : List ℕ) (entries : List Entry) → P (key, text) → AllByRecursion P entries → AllByRecursion P (with_entry key text entries)
+  all-with_entry P key text entries one all = all-append P (entries_before (at_key key) entries) ((key, text) ∷ entries_from (at_key key) entries) (all-filter P _ entries all) (one, all-filter P _ entries all)
 
-    kept_by_other_bound : is_before task.key bound ≡ false → RestFrom (entries_before bound entries)
-    kept_by_other_bound is =
-        let done = entries_before bound entries in
-        both_follow (IsRestOf bound done) (λ e other. e.log ≡ other.log) (IsRestOf bound done)
-        (λ e other last one logs. record {
-          log-is = one.log-is ∙ ap (λ log. joined_by_key log done) logs;
-          cells-are = λ is-end. absurd (true≢false (sym (ap (is_before task.key) is-end) ∙ is));
-        })
-        (run_from app.act (length done + limit) bound start)
-        (run_from app.act limit bound now)
-        (run_from app.act limit bound (after_task app.act task now))
-        (same bound limit)
-        ((clear_tasks_commute basis now task ready clear).to_other_bound bound limit is)
+  children_unlogged : (task : Task) (cells : List V) (entries : List Entry) → AllByRecursion (λ entry. is_prefix task.key.path entry.0.path ≡ false) entries → AreUnlogged entries (children_of app cells task)
+  children_unlogged task cells entries unlogged =
+      all-swapped (λ child entry. is_prefix child.key.path entry.0.path ≡ false) (children_of app cells task) entries
+      (all-weaker (λ entry. is_prefix task.key.path entry.0.path ≡ false) (λ entry. AllByRecursion (λ child. is_prefix child.key.path entry.0.path ≡ false) (children_of app cells task))
+      (λ entry. basis.lower.children_new task.key (app.act task cells).children entry.0.path) entries unlogged)
 
-    kept_by : (before : Bool) → is_before task.key bound ≡ before → RestFrom (entries_before bound (with_entry task.key (app.act task now.cells).text entries))
-    kept_by true is = subst RestFrom (sym ((basis.lower.entries_in_one_part bound task.key (app.act task now.cells).text entries).0 is).0) (kept_by_later_bound is)
-    kept_by false is = subst RestFrom (sym ((basis.lower.entries_in_one_part bound task.key (app.act task now.cells).text entries).1 is).0) (kept_by_other_bound is)
+  -- where a task has acted, its path is logged
+  still_unlogged : (now : State V) (task : Task) (entries : List Entry) → IsReady app now → Contains now.pending task → AreUnlogged entries now.pending
+      → AreUnlogged (with_entry task.key (app.act task now.cells).text entries) (after_task app.act task now).pending
+  still_unlogged now task entries ready pending unlogged =
+      let text = (app.act task now.cells).text in
+      let Before = λ (other : Task). AllByRecursion (λ (entry : Entry). is_prefix other.key.path entry.0.path ≡ false) entries in
+      let After = λ (other : Task). AllByRecursion (λ (entry : Entry). is_prefix other.key.path entry.0.path ≡ false) (with_entry task.key text entries) in
+      let more = λ (other : Task). all-with_entry (λ entry. is_prefix other.key.path entry.0.path ≡ false) task.key text entries in
+      let here = All-contains Before now.pending task (All-from_recursion Before now.pending unlogged) pending in
+      all-put_all After (children_of app now.cells task) (without task.key now.pending)
+      (all-joined (λ child. is_prefix child.key.path task.key.path ≡ false) Before After more (children_of app now.cells task)
+      (basis.lower.children_go_on task.key (app.act task now.cells).children)
+      (children_unlogged task now.cells entries here))
+      (all-joined (TasksApart task) Before After (λ other apart. more other apart.not_after) (without task.key now.pending)
+      (beside_lacking basis now task ready pending).apart
+      (all-filter Before _ now.pending unlogged))
 
-  pub clear_tasks_keep_the_rest : ClearTasksKeepTheRest app
-  clear_tasks_keep_the_rest start now entries task ordered new ready clear same bound limit =
-      kept_by start now entries task ordered new ready clear same bound limit (is_before task.key bound) refl
+  -- ---- standing
+
+  pub starts_are_ready : StartsAreReady app
+  starts_are_ready cells first fit_cells fit =
+      let tasks = first_from 0 first in
+      let spread = spread-put_all basis.lower tasks [] (record { spread = record { ascending = tt; apart = tt }; siblings = basis.lower.first_apart first; apart = all_apart_from_none tasks }) in
+      record {
+        cells = fit_cells;
+        tasks = all-put_all (IsFitTask app) tasks [] (first_fit 0 first fit) tt;
+        ascending = spread.ascending;
+        apart = spread.apart;
+      }
+    where
+      all_apart_from_none : (tasks : List Task) → AllByRecursion (λ task. AllByRecursion (TasksApart task) []) tasks
+      all_apart_from_none [] = tt
+      all_apart_from_none (task ∷ tasks) = (tt, all_apart_from_none tasks)
+
+      first_fit : (number : ℕ) (first : List Start) → AreFitStarts app first → AreFitTasks app (first_from number first)
+      first_fit number [] fit = tt
+      first_fit number (start ∷ first) fit = (fit.0, first_fit (suc number) first fit.1)
+
+  no_entries_in_order : IsInKeyOrder []
+  unfolding IsStrictlySortedBy
+  no_entries_in_order = tt
+
+  pub starts_stand_for_themselves : StartsStandForThemselves app
+  starts_stand_for_themselves start ready = record {
+    ready = ready;
+    ordered = no_entries_in_order;
+    unlogged = all_unlogged start.pending;
+    same_rest = start_has_same_rest basis start;
+  }
+    where
+      all_unlogged : (tasks : List Task) → AreUnlogged [] tasks
+      all_unlogged [] = tt
+      all_unlogged (task ∷ tasks) = (tt, all_unlogged tasks)
+
+  pub clear_tasks_keep_standing : ClearTasksKeepStanding app
+  clear_tasks_keep_standing start now entries task stands clear =
+      let Before = λ (other : Task). AllByRecursion (λ (entry : Entry). is_prefix other.key.path entry.0.path ≡ false) entries in
+      let here = All-contains Before now.pending task (All-from_recursion Before now.pending stands.unlogged) clear.pending in
+      let new = new_where_unlogged task entries here in
+      record {
+        ready = stays_ready basis now task stands.ready clear.pending;
+        ordered = basis.lower.entries_in_order task.key (app.act task now.cells).text entries new stands.ordered;
+        unlogged = still_unlogged now task entries stands.ready clear.pending stands.unlogged;
+        same_rest = λ bound limit. kept_by basis start now entries task stands.ordered new stands.ready clear stands.same_rest bound limit (is_before task.key bound) refl;
+      }
 
   -- a run that has come to its end has taken a step for each entry
   first_answered : (start now : State V) (done : List Entry) (bound : Bound) → IsInKeyOrder done → (answer : Option ℕ)
@@ -108,12 +141,12 @@ module _ {V : Type 0} {app : Application V} (basis : Basis app) where
       ap (λ n. (after_steps app.act n (execution_from start)).log) count ∙ is
 
   pub earlier_entries_are_first : ((act : Operator V) (e : Execution V) → LogsEachStep act e) → EarlierEntriesAreFirst app
-  earlier_entries_are_first logs start now entries bound ordered same clear =
+  earlier_entries_are_first logs start now entries bound stands clear =
       let done = entries_before bound entries in
-      first_answered start now done bound (basis.lower.parts_in_order bound entries ordered).0
+      first_answered start now done bound (basis.lower.parts_in_order bound entries stands.ordered).0
       (steps_until app.act (length done + 0) bound (execution_from start))
       (logs app.act (execution_from start) (length done + 0) bound)
-      (subst (λ run. BothEnd (IsRestOf bound done) (run_from app.act (length done + 0) bound start) run) (run_clear app.act 0 bound (execution_from now) clear) (same bound 0))
+      (subst (λ run. BothEnd (IsRestOf bound done) (run_from app.act (length done + 0) bound start) run) (run_clear app.act 0 bound (execution_from now) clear) (stands.same_rest bound 0))
 
   -- to the end, the entries are all of them
   to_end : (start now : State V) (entries : List Entry) → HasSameRest app.act start entries now → (limit rest : ℕ) → limit ≡ length entries + rest
@@ -123,18 +156,18 @@ module _ {V : Type 0} {app : Application V} (basis : Basis app) where
       (subst (λ done. BothEnd (IsRestOf end done) (run_from app.act (length done + rest) end start) (run_from app.act rest end now)) (basis.lower.before_end entries) (same end rest))
 
   pub nothing_pending_is_the_end : NothingPendingIsTheEnd app
-  nothing_pending_is_the_end start now entries ordered same none limit up_to =
+  nothing_pending_is_the_end start now entries stands none limit up_to =
       let rest = limit - length entries in
       let ended = run_clear app.act rest end (execution_from now) (ap (λ pending. is_clear_before end (execution_from (state_of now.cells pending))) none) in
       ended_both (IsRestOf end entries) (IsEndWith entries now.cells) (execution_from now)
-      (λ e is. record { log-is = is.log-is ∙ (basis.lower.joins_with_none entries ordered).1; cells-are = is.cells-are refl })
+      (λ e is. record { log-is = is.log-is ∙ (basis.lower.joins_with_none entries stands.ordered).1; cells-are = is.cells-are refl })
       (run_from app.act limit end start)
-      (subst (λ run. BothEnd (IsRestOf end entries) (run_from app.act limit end start) run) ended (to_end start now entries same limit rest (omega arith)))
+      (subst (λ run. BothEnd (IsRestOf end entries) (run_from app.act limit end start) run) ended (to_end start now entries stands.same_rest limit rest (omega arith)))
 
   pub too_many_tasks_never_end : ((act : Operator V) (e : Execution V) → EndsWithinLimit act e) → TooManyTasksNeverEnd app
-  too_many_tasks_never_end ends start now entries same limit up_to many =
+  too_many_tasks_never_end ends start now entries stands limit up_to many =
       let rest = limit - length entries in
       let created : 0 + rest < created_after app.act 0 (execution_from now) = rw after_none (omega arith) in
       let never = (ends app.act (execution_from now) rest).1 (0, created) in
       given_up_both (IsRestOf end entries) (run_from app.act limit end start)
-      (subst (λ run. BothEnd (IsRestOf end entries) (run_from app.act limit end start) run) never (to_end start now entries same limit rest (omega arith)))
+      (subst (λ run. BothEnd (IsRestOf end entries) (run_from app.act limit end start) run) never (to_end start now entries stands.same_rest limit rest (omega arith)))

@@ -14,17 +14,8 @@ use Rattle.commuting.specs.States.{State, state_of}
 use Rattle.commuting.specs.Clear.{IsReady}
 use Rattle.commuting.specs.Basis.{Basis, LowerLaws}
 use Rattle.commuting.proofs.Cells.{IsAside, same_cells, same_outcome, aside_turned}
-use Rattle.commuting.proofs.Pending.{TasksApart, apart_turned, differ_where_apart, all-weaker, all-joined, all-put_all, FitIn, spread-put_all, put_all-put_all}
+use Rattle.commuting.proofs.Pending.{TasksApart, apart_turned, differ_where_apart, all-weaker, all-swapped, all-put_all, FitIn, spread-put_all, put_all-put_all}
 use Rattle.commuting.proofs.Runs.{turn}
-
-all-swapped : {X Y : Type 0} (R : X → Y → Type 0) (xs : List X) (ys : List Y) → AllByRecursion (λ y. AllByRecursion (λ x. R x y) xs) ys → AllByRecursion (λ x. AllByRecursion (R x) ys) xs
-all-swapped R xs [] all = none xs
-  where
-    none : (xs : List _) → AllByRecursion (λ x. AllByRecursion (R x) []) xs
-    none [] = tt
-    none (x ∷ xs) = (tt, none xs)
-all-swapped R xs (y ∷ ys) all =
-    all-joined (λ x. R x y) (λ x. AllByRecursion (R x) ys) (λ x. AllByRecursion (R x) (y ∷ ys)) (λ x first rest. (first, rest)) xs all.0 (all-swapped R xs ys all.1)
 
 later_from : LowerLaws → (parent : Key) (number : ℕ) (children : List Start) → AllByRecursion (λ child. parent.prio ≤ child.prio) children
     → AllByRecursion (λ child. key_cmp parent child.key ≡ Less) (children_from parent number children)

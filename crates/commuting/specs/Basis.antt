@@ -4,7 +4,7 @@ use Rattle.task_order.specs.Laws as tasks
 use Rattle.rw_sets.specs.Laws as sets
 use Rattle.output_log.specs.Laws as logs
 use Rattle.app_laws.specs.Applications.{Application, IsLawful}
-use Rattle.app_laws.specs.Family.{ChildrenAreApart, SiblingsAreApart}
+use Rattle.app_laws.specs.Family.{ChildrenAreApart, SiblingsAreApart, ChildrenAreNew, ChildrenGoOn, FirstTasksAreApart}
 
 -- what the crates below promise of keys, lists of tasks, sets, children and logs
 pub record LowerLaws : Type 0 where
@@ -34,6 +34,10 @@ pub record LowerLaws : Type 0 where
   pub by_parts : sets.MergesConflictByParts
   pub children_apart : ChildrenAreApart
   pub siblings_apart : SiblingsAreApart
+  pub children_new : ChildrenAreNew
+  pub children_go_on : ChildrenGoOn
+  pub first_apart : FirstTasksAreApart
+  pub entries_in_order : logs.PutsKeepOrder
   pub entries_in_one_part : logs.PutsMeetOnePart
   pub parts_in_order : logs.PartsKeepOrder
   pub before_end : logs.AllAreBeforeEnd

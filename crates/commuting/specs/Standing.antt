@@ -1,13 +1,17 @@
 -- When a state, with what was logged on the way to it, stands for what is left of an execution.
-use Rattle.std.specs.Prelude.{◌≡◌, ℕ, ◌+◌, ◌<◌, ◌≤◌, true, List, [], length, None, IsSomeAnd}
+use Rattle.std.specs.Prelude.{◌≡◌, ℕ, ◌+◌, ◌<◌, ◌≤◌, true, false, List, [], length, None, IsSomeAnd}
+use Rattle.std.specs.List.{AllByRecursion}
+use Rattle.task_order.specs.declared.start.Start.{Start}
 use Rattle.task_order.specs.declared.task.Task.{Task}
 use Rattle.task_order.specs.Key.{Bound, end}
-use Rattle.output_log.specs.Entries.{Entry, IsInKeyOrder, IsNewEntry, entries_before, with_entry}
-use Rattle.app_laws.specs.Applications.{Application}
-use Rattle.app_laws.specs.Execution.{Operator, Execution, after_steps, is_clear_before}
+use Rattle.task_order.specs.TaskList.{put_all}
+use Rattle.output_log.specs.Entries.{Entry, IsInKeyOrder, entries_before, with_entry}
+use Rattle.app_laws.specs.Applications.{Application, AreFitStarts}
+use Rattle.app_laws.specs.Execution.{Operator, Execution, after_steps, first_from, is_clear_before}
+use Rattle.app_laws.specs.Order.{is_prefix}
 use Rattle.commuting.specs.Clear.{IsClear, IsReady}
 use Rattle.commuting.specs.Commuting.{BothEnd, LogsMore}
-use Rattle.commuting.specs.States.{State, execution_from, run_from, after_task}
+use Rattle.commuting.specs.States.{State, state_of, execution_from, run_from, after_task}
 
 -- the entries are what the first log has more; and at the end, the cells are the same
 pub record IsRestOf {V : Type 0} (bound : Bound) (entries : List Entry) (e rest : Execution V) : Type 0 where
@@ -29,29 +33,39 @@ pub record IsEndWith {V : Type 0} (entries : List Entry) (cells : List V) (e : E
   pub cells-are : e.cells ≡ cells
 
 module _ {V : Type 0} (app : Application V) where
-  -- a start stands for itself
-  abbrev pub StartHasSameRest : Type 0
-  StartHasSameRest = (start : State V) → HasSameRest app.act start [] start
+  -- the state, with the entries on the way to it, stands for what is left of the execution from the start
+  pub record StandsFor (start : State V) (entries : List Entry) (now : State V) : Type 0 where
+    pub ready : IsReady app now
+    pub ordered : IsInKeyOrder entries
+    pub unlogged : AllByRecursion (λ task. AllByRecursion (λ entry. is_prefix task.key.path entry.0.path ≡ false) entries) now.pending
+    pub same_rest : HasSameRest app.act start entries now
 
-  -- and so does what a clear task leaves, whichever it is
-  abbrev pub ClearTasksKeepTheRest : Type 0
-  ClearTasksKeepTheRest = (start now : State V) (entries : List Entry) (task : Task) → IsInKeyOrder entries → IsNewEntry task.key entries →
-      IsReady app now → IsClear app now task → HasSameRest app.act start entries now →
-      HasSameRest app.act start (with_entry task.key (app.act task now.cells).text entries) (after_task app.act task now)
+  -- the first tasks make a state that is ready
+  abbrev pub StartsAreReady : Type 0
+  StartsAreReady = (cells : List V) (first : List Start) → app.is_fit_cells cells → AreFitStarts app first → IsReady app (state_of cells (put_all (first_from 0 first) []))
+
+  -- such a state stands for itself
+  abbrev pub StartsStandForThemselves : Type 0
+  StartsStandForThemselves = (start : State V) → IsReady app start → StandsFor start [] start
+
+  -- and where a clear task acts, whichever it is, what it leaves still stands for the rest
+  abbrev pub ClearTasksKeepStanding : Type 0
+  ClearTasksKeepStanding = (start now : State V) (entries : List Entry) (task : Task) → StandsFor start entries now → IsClear app now task →
+      StandsFor start (with_entry task.key (app.act task now.cells).text entries) (after_task app.act task now)
 
   -- the entries before a bound that no pending task is before are the log of the first steps
   abbrev pub EarlierEntriesAreFirst : Type 0
-  EarlierEntriesAreFirst = (start now : State V) (entries : List Entry) (bound : Bound) → IsInKeyOrder entries → HasSameRest app.act start entries now →
+  EarlierEntriesAreFirst = (start now : State V) (entries : List Entry) (bound : Bound) → StandsFor start entries now →
       is_clear_before bound (execution_from now) ≡ true →
       let done = entries_before bound entries in
       (after_steps app.act (length done) (execution_from start)).log ≡ done
 
   -- where nothing is pending, the run from the start has come to its end
   abbrev pub NothingPendingIsTheEnd : Type 0
-  NothingPendingIsTheEnd = (start now : State V) (entries : List Entry) → IsInKeyOrder entries → HasSameRest app.act start entries now → now.pending ≡ [] →
+  NothingPendingIsTheEnd = (start now : State V) (entries : List Entry) → StandsFor start entries now → now.pending ≡ [] →
       (limit : ℕ) → length entries ≤ limit → IsSomeAnd (run_from app.act limit end start) (IsEndWith entries now.cells)
 
   -- where there are more tasks than the limit, the run from the start doesn't end within it
   abbrev pub TooManyTasksNeverEnd : Type 0
-  TooManyTasksNeverEnd = (start now : State V) (entries : List Entry) → HasSameRest app.act start entries now →
+  TooManyTasksNeverEnd = (start now : State V) (entries : List Entry) → StandsFor start entries now →
       (limit : ℕ) → length entries ≤ limit → limit < length entries + length now.pending → run_from app.act limit end start ≡ None

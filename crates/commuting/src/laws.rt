@@ -1,7 +1,7 @@
 ghost use Rattle.commuting.specs.Commuting.{ClearTasksMayActAtOnce, ClearTasksStayClearInTurn, ClearTasksActInAnyOrder, ClearTasksMayAllActAtOnce};
 ghost use Rattle.commuting.specs.Independent.{StaysReady, IndependentTasksCommute, IndependentTasksLeaveAlone, ClearTasksStayClear, ClearTasksAreIndependent, EarliestIsClear};
 ghost use Rattle.commuting.specs.Basis.{LowerLaws, Basis};
-ghost use Rattle.commuting.specs.Standing.{StartHasSameRest, ClearTasksKeepTheRest, EarlierEntriesAreFirst, NothingPendingIsTheEnd, TooManyTasksNeverEnd};
+ghost use Rattle.commuting.specs.Standing.{StartsAreReady, StartsStandForThemselves, ClearTasksKeepStanding, EarlierEntriesAreFirst, NothingPendingIsTheEnd, TooManyTasksNeverEnd};
 
 use app_laws::{App, execution_laws, family_laws};
 use output_log::{join_laws, part_laws, put_laws};
@@ -75,9 +75,10 @@ pub fn clear_tasks_all_commute<A: App>()
 
 /// A state, with the entries of the clear tasks that have acted so far in any order, stands for
 /// what is left of the execution from its start.
-pub fn same_rest_laws<A: App>()
-    ensures start { (app : A) → StartHasSameRest (A.meaning app) }
-    ensures acts { (app : A) → ClearTasksKeepTheRest (A.meaning app) }
+pub fn standing_laws<A: App>()
+    ensures starts_ready { (app : A) → StartsAreReady (A.meaning app) }
+    ensures starts { (app : A) → StartsStandForThemselves (A.meaning app) }
+    ensures acts { (app : A) → ClearTasksKeepStanding (A.meaning app) }
     ensures first { (app : A) → EarlierEntriesAreFirst (A.meaning app) }
     ensures end { (app : A) → NothingPendingIsTheEnd (A.meaning app) }
     ensures too_many { (app : A) → TooManyTasksNeverEnd (A.meaning app) }
