@@ -5,6 +5,7 @@ pub mod Ends
 pub mod Pairs
 pub mod Pending
 pub mod Rest
+pub mod Rounds
 pub mod Runs
 pub mod Several
 pub mod Standing

@@ -47,7 +47,7 @@ module _ {V : Type 0} {app : Application V} (basis : Basis app) where
       (λ other differ other_clear. clear_tasks_are_independent basis state task other ready clear.clear.0 other_clear (λ same. differ (sym same)))
       others clear.distinct.0 clear.clear.1
 
-  rest_clear : (state : State V) (task : Task) (others : List Task) → IsReady app state → AreClear app state (task ∷ others) → AreClear app (now task state) others
+  pub rest_clear : (state : State V) (task : Task) (others : List Task) → IsReady app state → AreClear app state (task ∷ others) → AreClear app (now task state) others
   rest_clear state task others ready clear = record {
     distinct = clear.distinct.1;
     clear =
@@ -61,7 +61,7 @@ module _ {V : Type 0} {app : Application V} (basis : Basis app) where
   same_entries_from cells others-cells [] same = refl
   same_entries_from cells others-cells (task ∷ tasks) same = (λ i. same.0 i ∷ same_entries_from cells others-cells tasks same.1 i)
 
-  same_entries : (state : State V) (task : Task) (others : List Task) → IsReady app state → AreClear app state (task ∷ others)
+  pub same_entries : (state : State V) (task : Task) (others : List Task) → IsReady app state → AreClear app state (task ∷ others)
       → entries_of app.act (now task state).cells others ≡ entries_of app.act state.cells others
   same_entries state task others ready clear =
       same_entries_from (now task state).cells state.cells others
@@ -69,7 +69,7 @@ module _ {V : Type 0} {app : Application V} (basis : Basis app) where
       (λ other both. ap (λ text. (other.key, text)) (sym (left_alone basis state task other ready both).same_outcome.text))
       others (pairs_independent state task others ready clear))
 
-  ready_next : (state : State V) (task : Task) (others : List Task) → IsReady app state → AreClear app state (task ∷ others) → IsReady app (now task state)
+  pub ready_next : (state : State V) (task : Task) (others : List Task) → IsReady app state → AreClear app state (task ∷ others) → IsReady app (now task state)
   ready_next state task others ready clear = stays_ready basis state task ready clear.clear.0.pending
 
   entries_behind : (cells others-cells : List V) (tasks others : List Task) → entries_of app.act cells (tasks ++ others) ≡ entries_of app.act others-cells (tasks ++ others)

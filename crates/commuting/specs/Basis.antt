@@ -31,6 +31,7 @@ pub record LowerLaws : Type 0 where
   pub independent : sets.IndependentWithoutConflict
   pub turned : sets.ConflictsAreMutual
   pub grows : sets.ConflictsGrow
+  pub decided : sets.ConflictsAreDecided
   pub by_parts : sets.MergesConflictByParts
   pub children_apart : ChildrenAreApart
   pub siblings_apart : SiblingsAreApart

@@ -2,5 +2,6 @@ pub mod Basis
 pub mod Clear
 pub mod Commuting
 pub mod Independent
+pub mod Rounds
 pub mod Standing
 pub mod States

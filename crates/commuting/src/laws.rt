@@ -1,6 +1,7 @@
 ghost use Rattle.commuting.specs.Commuting.{ClearTasksMayActAtOnce, ClearTasksStayClearInTurn, ClearTasksActInAnyOrder, ClearTasksMayAllActAtOnce};
 ghost use Rattle.commuting.specs.Independent.{StaysReady, IndependentTasksCommute, IndependentTasksLeaveAlone, ClearTasksStayClear, ClearTasksAreIndependent, EarliestIsClear};
 ghost use Rattle.commuting.specs.Basis.{LowerLaws, Basis};
+ghost use Rattle.commuting.specs.Rounds.{ClearTasksAreListed, RoundsKeepReady, RoundsKeepStanding, EndsTakeRounds, RoundsEnd, RoundsAreOneNumber};
 ghost use Rattle.commuting.specs.Standing.{StartsAreReady, StartsStandForThemselves, ClearTasksKeepStanding, EarlierEntriesAreFirst, NothingPendingIsTheEnd, TooManyTasksNeverEnd};
 
 use app_laws::{App, execution_laws, family_laws};
@@ -85,4 +86,17 @@ pub fn standing_laws<A: App>()
 {
     basis::<A>();
     execution_laws::<A::Val>();
+}
+
+/// Rounds, in each of which all clear tasks act, lead to the end of an execution wherever it has
+/// one.
+pub fn round_laws<A: App>()
+    ensures listed { (app : A) → ClearTasksAreListed (A.meaning app) }
+    ensures ready { (app : A) → RoundsKeepReady (A.meaning app) }
+    ensures standing { (app : A) → RoundsKeepStanding (A.meaning app) }
+    ensures take_rounds { (app : A) → EndsTakeRounds (A.meaning app) }
+    ensures end { (app : A) → RoundsEnd (A.meaning app) }
+    ensures one_number { (app : A) → RoundsAreOneNumber (A.meaning app) }
+{
+    basis::<A>();
 }

@@ -25,6 +25,7 @@ returns c = record {
   independent = c.independence_laws.ensures.without_conflict;
   turned = c.conflict_laws.ensures.«mutual»;
   grows = c.conflict_laws.ensures.grows;
+  decided = c.conflict_laws.ensures.decided;
   by_parts = c.conflict_laws.ensures.by_parts;
   children_apart = c.family_laws.ensures.apart;
   siblings_apart = c.family_laws.ensures.siblings;
