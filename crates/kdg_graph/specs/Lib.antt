@@ -2,4 +2,5 @@ pub mod Node
 pub mod Nodes
 pub mod Edges
 pub mod Rewrite
+pub mod Listing
 pub mod NodeStock

@@ -2,13 +2,14 @@
 use Rattle.std.specs.Prelude.{◌≡◌, ◌≢◌, not, List, [], ◌∷◌, length, map, filter, unwrap_or}
 use Rattle.std.specs.List.{AllByRecursion, find}
 use Rattle.std.specs.Option.{option_map}
-use Rattle.task_order.specs.TaskList.{IsNewKey}
+use Rattle.task_order.specs.declared.task.Task.{Task}
+use Rattle.task_order.specs.TaskList.{HasDistinctKeys, IsNewKey}
 use Rattle.rw_sets.specs.Accesses.{Accesses}
 use Rattle.kdg_graph.specs.declared.node_id.NodeId.{NodeId}
 use Rattle.kdg_graph.specs.declared.change.SetChange.{SetChange}
 use Rattle.kdg_graph.specs.declared.change.Fresh.{Fresh}
 use Rattle.kdg_graph.specs.Node.{Node, new_node}
-use Rattle.kdg_graph.specs.Nodes.{is_at, tasks_of, put_node, HasNode}
+use Rattle.kdg_graph.specs.Nodes.{is_at, put_node, HasNode}
 
 -- the nodes without the one that has the id
 abbrev pub without : NodeId → List Node → List Node
@@ -27,21 +28,24 @@ abbrev pub put_nodes : List Node → List Node → List Node
 put_nodes [] nodes = nodes
 put_nodes (node ∷ new) nodes = put_nodes new (put_node node nodes)
 
+abbrev pub fresh_tasks : List Fresh → List Task
+fresh_tasks fresh = map (λ item. item.task) fresh
+
 -- the fresh tasks as nodes, under these ids
 abbrev pub fresh_nodes : List NodeId → List Fresh → List Node
 fresh_nodes [] fresh = []
 fresh_nodes (id ∷ ids) [] = []
 fresh_nodes (id ∷ ids) (item ∷ fresh) = new_node id item.task item.set ∷ fresh_nodes ids fresh
 
--- the nodes after a rewrite: the ended one is gone, the named sets are replaced, and the fresh nodes are put in
-abbrev pub rewritten : NodeId → List SetChange → List Node → List Node → List Node
-rewritten ended changes new nodes = put_nodes new (with_sets changes (without ended nodes))
-
--- a rewrite, where the graph picks the ids of the fresh nodes
-pub record IsRewritten (old : List Node) (ended : NodeId) (changes : List SetChange) (fresh : List Fresh) (now : List Node) : Type 0 where
+-- several fresh nodes are put in, where the graph picks their ids
+pub record AreAdded (old : List Node) (fresh : List Fresh) (now : List Node) : Type 0 where
   pub ids : List NodeId
   pub one_each : length ids ≡ length fresh
-  pub nodes : now ≡ rewritten ended changes (fresh_nodes ids fresh) old
+  pub nodes : now ≡ put_nodes (fresh_nodes ids fresh) old
+
+-- a rewrite: the ended node is gone, the named sets are replaced, the fresh nodes are put in, and all else is as it was
+abbrev pub IsRewritten : List Node → NodeId → List SetChange → List Fresh → List Node → Type 0
+IsRewritten old ended changes fresh now = AreAdded (with_sets changes (without ended old)) fresh now
 
 -- no two changes are of one node
 abbrev pub AreOfOwnNodes : List SetChange → Type 0
@@ -54,12 +58,7 @@ pub record AreChangesOf (nodes : List Node) (ended : NodeId) (changes : List Set
   pub stay : AllByRecursion (λ change. change.node ≢ ended) changes
   pub own : AreOfOwnNodes changes
 
--- no two fresh tasks have one key
-abbrev pub HaveOwnKeys : List Fresh → Type 0
-HaveOwnKeys [] = Unit {0}
-HaveOwnKeys (item ∷ fresh) = AllByRecursion (λ other. other.task.key ≢ item.task.key) fresh × HaveOwnKeys fresh
-
--- the fresh tasks have keys of their own, and no node has one of these
-pub record AreNewTo (nodes : List Node) (fresh : List Fresh) : Type 0 where
-  pub new : AllByRecursion (λ item. IsNewKey item.task.key (tasks_of nodes)) fresh
-  pub own : HaveOwnKeys fresh
+-- the fresh tasks have keys of their own, and no task of the list has one of these
+pub record HaveNewKeys (tasks : List Task) (fresh : List Fresh) : Type 0 where
+  pub new : AllByRecursion (λ item. IsNewKey item.task.key tasks) fresh
+  pub own : HasDistinctKeys (fresh_tasks fresh)

@@ -4,14 +4,16 @@ ghost use Rattle.task_order.specs.TaskList.{IsNewKey};
 ghost use Rattle.kdg_graph.specs.Node.{new_node};
 ghost use Rattle.kdg_graph.specs.Nodes.{IsGraph, HasNode, least_of, node_at, node_with_key, put_node, running_at, set_at, started, task_at, tasks_of};
 ghost use Rattle.kdg_graph.specs.Edges.{laters_of, sources_of};
+ghost use Rattle.kdg_graph.specs.Rewrite.{AreChangesOf, HaveNewKeys, IsRewritten};
 
 use crate::entry::Entry;
+use crate::listing::list_all;
 use crate::node_list::{NodeList, place_of};
-use crate::{Laters, NodeId, Sources};
+use crate::{Fresh, Laters, NodeId, SetChange, Sources};
 use rw_sets::RwSet;
 use std::alloc::Global;
 use std::marker::Model;
-use task_order::{Key, Task, TaskList};
+use task_order::{Key, Task, TaskList, put_in_laws, without_laws};
 
 /// Pending tasks in the order of their keys. Each is a node, with an id, a recorded set, and a mark
 /// where the task is running.
@@ -66,6 +68,38 @@ impl Graph {
             Ok(()) => Ok(self.nodes.put(task, set)),
             Err(_) => Err((task, set)),
         }
+    }
+
+    /// Takes the node of a task that has ended out, replaces the sets that are named, and puts the
+    /// fresh tasks in, each as a node that is not running. Nothing else changes.
+    ///
+    /// All memory is taken first. Where it runs out, both lists come back and the graph is as it
+    /// was.
+    pub fn rewrite(
+        &mut self,
+        ended: NodeId,
+        changed: Vec<SetChange>,
+        fresh: Vec<Fresh>,
+    ) -> Result<(), (Vec<SetChange>, Vec<Fresh>)>
+        requires there { HasNode self.old ended }
+        requires changes { AreChangesOf self.old ended changed.items }
+        requires new { HaveNewKeys (tasks_of self.old) fresh.items }
+        ensures ok { OnOk result (IsRewritten self.old ended changed.items fresh.items self.new) }
+        ensures graph { IsGraph self.new }
+        ensures returned { IfErr result (λ back. back ≡ (changed, fresh)) }
+        ensures unchanged { OnErr result (self.new ≡ self.old) }
+    {
+        put_in_laws();
+        without_laws();
+        let reserved = self.nodes.reserve(fresh.len());
+        if reserved.is_err() || list_all(&mut self.tasks, &fresh).is_err() {
+            return Err((changed, fresh));
+        }
+        let task = self.nodes.remove(ended);
+        let _ = self.tasks.remove(&task.key);
+        self.nodes.set_sets(changed);
+        self.nodes.put_all(fresh);
+        Ok(())
     }
 
     /// Marks a node as running.

@@ -5,6 +5,7 @@
 mod change;
 mod entry;
 mod graph;
+mod listing;
 mod node_id;
 mod node_list;
 mod walk;

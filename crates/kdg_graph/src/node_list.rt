@@ -1,12 +1,13 @@
 ghost use Rattle.std.specs.Prelude.{◌≡◌, ◌+◌, ◌<◌, ◌≤◌, [], ◌∷◌, Some, OnOk, length, position};
+ghost use Rattle.std.specs.List.{AllByRecursion};
 ghost use Rattle.task_order.specs.TaskList.{IsNewKey};
 ghost use Rattle.kdg_graph.specs.Node.{new_node};
 ghost use Rattle.kdg_graph.specs.Nodes.{IsGraph, HasNode, is_at, task_at, tasks_of, put_node, started};
 ghost use Rattle.kdg_graph.specs.NodeStock.{IsPlaceOf};
-ghost use Rattle.kdg_graph.specs.Rewrite.{without, with_sets};
+ghost use Rattle.kdg_graph.specs.Rewrite.{AreAdded, AreOfOwnNodes, HaveNewKeys, without, with_sets};
 
-use crate::NodeId;
 use crate::entry::Entry;
+use crate::{Fresh, NodeId, SetChange};
 use kdg_text::NoRoom;
 use rw_sets::RwSet;
 use std::alloc::Global;
@@ -118,6 +119,35 @@ impl NodeList {
         let place = place_of(&self.entries, id);
         let entry = &mut self.entries[place];
         entry.set = set;
+    }
+
+    // Replaces the sets that are named.
+    pub(crate) fn set_sets(&mut self, changes: Vec<SetChange>)
+        requires there { AllByRecursion (λ change. HasNode self.old.nodes change.node) changes.items }
+        requires own { AreOfOwnNodes changes.items }
+        requires graph { IsGraph self.old.nodes }
+        ensures nodes { self.new.nodes ≡ with_sets changes.items self.old.nodes }
+        ensures places { self.old.places ≤ self.new.places }
+        ensures numbers { self.old.numbers ≤ self.new.numbers }
+        ensures graph { IsGraph self.new.nodes }
+    {
+        for change in changes {
+            self.set_set(change.node, change.set);
+        }
+    }
+
+    // Puts the fresh nodes in, where `reserve` made room. It takes no memory.
+    pub(crate) fn put_all(&mut self, fresh: Vec<Fresh>)
+        requires places { length fresh.items ≤ self.old.places }
+        requires numbers { length fresh.items ≤ self.old.numbers }
+        requires new { HaveNewKeys (tasks_of self.old.nodes) fresh.items }
+        requires graph { IsGraph self.old.nodes }
+        ensures added { AreAdded self.old.nodes fresh.items self.new.nodes }
+        ensures graph { IsGraph self.new.nodes }
+    {
+        for item in fresh {
+            self.put(item.task, item.set);
+        }
     }
 
     // Marks a node as running.

@@ -1,0 +1,37 @@
+use Rattle.std.proofs.Common.{◌≡◌, ◌∷◌, [], ◌∙◌, List, ap, subst, sym, length, arith}
+use Rattle.std.specs.List.{AllByRecursion}
+use Rattle.std.specs.Vec.Iter.{into_iter_items}
+use Rattle.kdg_graph.specs.declared.change.SetChange.{SetChange}
+use Rattle.kdg_graph.specs.Node.{Node}
+use Rattle.kdg_graph.specs.Nodes.{HasNode}
+use Rattle.kdg_graph.specs.Rewrite.{AreOfOwnNodes, with_sets}
+use Rattle.kdg_graph.proofs.Rewriting.{all_have_with_sets, nothing_left, with_no_sets, with_sets-cons}
+use Rattle.kdg_graph.proofs.node_list.NodeList.set_sets.Goals as goal
+
+pub loop-change-preserved : goal.loop-change-preserved
+loop-change-preserved c =
+    let at = c.loop-change in
+    let change : SetChange = c.in-Some.change in
+    let rest : List SetChange = into_iter_items c.next.new.self in
+    let steps : into_iter_items at.change-iterator ≡ change ∷ rest = c.in-Some.ensures.steps.0 in
+    let there : AllByRecursion (λ (other : SetChange). HasNode at.self.nodes other.node) (change ∷ rest) = subst (AllByRecursion (λ (other : SetChange). HasNode at.self.nodes other.node)) steps at.invariant.there in
+    let own : AreOfOwnNodes (change ∷ rest) = subst AreOfOwnNodes steps at.invariant.own in
+    let was = at.invariant.len in
+    let gone = c.in-Some.ensures.steps.1 in
+    let short = ap length steps in
+    record {
+      len = omega arith;
+      there = subst (λ (l : List Node). AllByRecursion (λ (other : SetChange). HasNode l other.node) rest) (sym c.set_set.ensures.nodes) (all_have_with_sets (change ∷ []) rest at.self.nodes there.1);
+      own = own.1;
+      nodes = at.invariant.nodes ∙ ap (λ l. with_sets l at.self.nodes) steps ∙ with_sets-cons change rest at.self.nodes own.0 ∙ ap (with_sets rest) (sym c.set_set.ensures.nodes);
+      places = omega arith;
+      graph = c.set_set.ensures.graph;
+      numbers = omega arith;
+    }
+
+pub returns-clause-nodes : goal.returns-clause-nodes
+returns-clause-nodes c =
+    let at = c.loop-change in
+    let none = c.in-None.ensures.steps in
+    let empty : into_iter_items at.change-iterator ≡ [] = nothing_left _ (sym at.invariant.len ∙ none.0) in
+    sym (ap (λ l. with_sets l c.args.self.now.nodes) (sym c.into_iter-change-iterator.ensures.into_iter_gives.0) ∙ at.invariant.nodes ∙ ap (λ l. with_sets l at.self.nodes) empty ∙ with_no_sets at.self.nodes)

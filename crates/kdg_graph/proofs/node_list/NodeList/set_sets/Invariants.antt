@@ -1,0 +1,18 @@
+use Rattle.std.proofs.Common.{◌≡◌, ◌≤◌, length}
+use Rattle.std.specs.List.{AllByRecursion}
+use Rattle.std.specs.Vec.Iter.{into_iter_items, into_iter_len}
+use Rattle.kdg_graph.specs.Nodes.{HasNode, IsGraph}
+use Rattle.kdg_graph.specs.Rewrite.{AreOfOwnNodes, with_sets}
+use Rattle.kdg_graph.proofs.node_list.NodeList.set_sets.Given as goal
+
+-- what is left makes the whole change
+abbrev pub invariant-loop-change : goal.invariant-loop-change
+invariant-loop-change l = record {
+  len : into_iter_len l.change-iterator ≡ length (into_iter_items l.change-iterator);
+  there : AllByRecursion (λ change. HasNode l.self.nodes change.node) (into_iter_items l.change-iterator);
+  own : AreOfOwnNodes (into_iter_items l.change-iterator);
+  nodes : with_sets (into_iter_items l.initial.change-iterator) l.initial.self.nodes ≡ with_sets (into_iter_items l.change-iterator) l.self.nodes;
+  places : l.initial.self.places ≤ l.self.places;
+  graph : IsGraph l.self.nodes;
+  numbers : l.initial.self.numbers ≤ l.self.numbers;
+}
