@@ -3,7 +3,7 @@ use Rattle.std.specs.Prelude.{◌≡◌, ℕ, zero, suc, ◌+◌, ◌≤◌, ◌
 use Rattle.task_order.specs.TaskList.{IsAscending}
 use Rattle.kdg_graph.specs.Node.{Node}
 use Rattle.kdg_graph.specs.declared.node_id.NodeId.{NodeId}
-use Rattle.kdg_graph.specs.Nodes.{tasks_of, is_at}
+use Rattle.kdg_graph.specs.Nodes.{HaveSets, tasks_of, is_at}
 
 -- for so many more nodes there is a place, and for so many an id
 pub record NodeStock : Type 0 where
@@ -25,6 +25,7 @@ numbers_of nodes = map (λ node. node.id.at) nodes
 -- the nodes ascend, and their ids and the free numbers are dealt, where a place is kept for each number that may become free
 pub record IsKept (nodes : List Node) (free : List ℕ) (capacity : ℕ) : Type 0 where
   pub ascending : IsAscending (tasks_of nodes)
+  pub sets : HaveSets nodes
   pub dealt : AreDealt (numbers_of nodes ++ free)
   pub returnable : length nodes + length free ≤ capacity
 

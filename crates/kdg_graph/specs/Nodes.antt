@@ -7,7 +7,7 @@ use Rattle.task_order.specs.declared.key.Key.{Key}
 use Rattle.task_order.specs.declared.task.Task.{Task}
 use Rattle.task_order.specs.Key.{key_cmp}
 use Rattle.task_order.specs.TaskList.{IsAscending}
-use Rattle.rw_sets.specs.Accesses.{Accesses}
+use Rattle.rw_sets.specs.Accesses.{Accesses, IsAscending as IsAscendingSet}
 use Rattle.kdg_graph.specs.declared.node_id.NodeId.{NodeId}
 use Rattle.kdg_graph.specs.Node.{Node}
 
@@ -22,10 +22,15 @@ abbrev pub HaveOwnIds : List Node → Type 0
 HaveOwnIds [] = Unit {0}
 HaveOwnIds (node ∷ nodes) = AllByRecursion (λ other. other.id ≢ node.id) nodes × HaveOwnIds nodes
 
+-- the locations of each recorded set ascend
+abbrev pub HaveSets : List Node → Type 0
+HaveSets nodes = AllByRecursion (λ node. IsAscendingSet node.set) nodes
+
 -- what holds of the nodes of every graph: each is earlier than those after it, and has an id of its own
 pub record IsGraph (nodes : List Node) : Type 0 where
   pub ascending : IsAscending (tasks_of nodes)
   pub own_ids : HaveOwnIds nodes
+  pub sets : HaveSets nodes
 
 -- the same, beside a list of the nodes' tasks
 pub record IsListed (nodes : List Node) (tasks : List Task) : Type 0 where

@@ -74,6 +74,7 @@ impl NodeList {
         ensures graph { IsGraph self.new.nodes }
     {
         put_in_laws();
+        let _ascending = set.items();
         let at = self.free.pop().unwrap_or(self.entries.len());
         let id = NodeId { at };
         let place = self
@@ -116,6 +117,7 @@ impl NodeList {
         ensures numbers { self.old.numbers ≤ self.new.numbers }
         ensures graph { IsGraph self.new.nodes }
     {
+        let _ascending = set.items();
         let place = place_of(&self.entries, id);
         let entry = &mut self.entries[place];
         entry.set = set;

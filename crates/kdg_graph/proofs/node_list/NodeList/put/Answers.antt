@@ -42,7 +42,7 @@ invariant_of-self c =
     let room : length nodes + length (free ++ option_to_list c.pop.result) < vec_capacity c.pop.new.self =
     subst (λ (l : List ℕ). length nodes + length l < vec_capacity c.pop.new.self) c.pop.ensures.items (search rules) in
     let none = none_left _ _ _ free c.pop.ensures.cases (search rules) in
-    subst (λ (l : List Node). IsKept l free (vec_capacity c.pop.new.self)) (sym placed) (kept_put c.put_in_laws.ensures.ascending node nodes free c.pop.result (vec_capacity c.pop.new.self) new at none room kept)
+    subst (λ (l : List Node). IsKept l free (vec_capacity c.pop.new.self)) (sym placed) (kept_put c.put_in_laws.ensures.ascending node nodes free c.pop.result (vec_capacity c.pop.new.self) new c.items-ascending.ensures.ascending at none room kept)
 
 pub returns-clause-graph : goal.returns-clause-graph
 returns-clause-graph c = graph_from_kept _ _ _ (invariant_of-self c)

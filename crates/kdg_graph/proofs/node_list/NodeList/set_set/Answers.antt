@@ -5,7 +5,7 @@ use Rattle.kdg_graph.specs.Nodes.{HaveOwnIds}
 use Rattle.kdg_graph.specs.Rewrite.{with_sets}
 use Rattle.kdg_graph.specs.NodeStock.{NodeStock, IsKept, IsPlaceOf}
 use Rattle.kdg_graph.proofs.Dealing.{own_ids}
-use Rattle.kdg_graph.proofs.Keeping.{graph_from_kept, kept_with_sets, with_sets-place}
+use Rattle.kdg_graph.proofs.Keeping.{graph_from_kept, kept_with_set, with_sets-place}
 use Rattle.kdg_graph.proofs.node_list.NodeList.set_set.Goals as goal
 
 pub invariant_of-self : goal.invariant_of-self
@@ -16,7 +16,7 @@ invariant_of-self c =
     let own : HaveOwnIds nodes = own_ids nodes c.self.inside.free.items c.self.invariant.dealt in
     let at : IsPlaceOf c.args.id nodes place = subst (λ l. IsPlaceOf c.args.id l place) c.deref.ensures.value c.place_of-place.ensures.place in
     let here : get_or nodes place node ≡ node = subst (λ (n : Node). get_or nodes place n ≡ n) (sym c.entry.view_is) (sym c.index_mut-entry.ensures.value) in
-    subst (λ (l : List Node). IsKept l c.self.inside.free.items (vec_capacity c.self.inside.free)) (sym (with_sets-place c.args.id c.args.set nodes place node own at here)) (kept_with_sets (record { node = c.args.id; set = c.args.set } ∷ []) nodes _ _ c.self.invariant)
+    subst (λ (l : List Node). IsKept l c.self.inside.free.items (vec_capacity c.self.inside.free)) (sym (with_sets-place c.args.id c.args.set nodes place node own at here)) (kept_with_set c.args.id c.args.set c.items-ascending.ensures.ascending nodes _ _ c.self.invariant)
 
 pub returns-clause-nodes : goal.returns-clause-nodes
 returns-clause-nodes c =
