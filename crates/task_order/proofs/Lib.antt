@@ -4,3 +4,6 @@ pub mod Fronts
 pub mod Distinct
 pub mod Without
 pub mod Pairs
+pub mod Comparing
+pub mod PathCode
+pub mod SharedBytes

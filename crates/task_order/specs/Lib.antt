@@ -3,3 +3,5 @@ pub mod TaskList
 pub mod Laws
 pub mod Pairs
 pub mod Lent
+pub mod SharedBytes
+pub mod PathCode

@@ -2,11 +2,22 @@ ghost use Rattle.std.specs.Prelude.{◌≡◌, [], ◌∷◌, ◌++◌, Some, If
 ghost use Rattle.std.specs.Ordering.{nat_cmp};
 ghost use Rattle.std.specs.Cmp.{partial_equiv_from_equiv};
 ghost use Rattle.std.specs.Cmp.Lexicographic.{pointwise, slice_cmp, nat_list_eq_equiv, nat_list_cmp_total, texts_ties, texts_po};
+ghost use Rattle.task_order.specs.PathCode.{numbers_of, IsCode};
 
+mod item;
+mod joined;
+mod node;
+mod reader;
+mod shared_bytes;
+
+use item::push_item;
 use kdg_text::NoRoom;
+use reader::ItemReader;
+use shared_bytes::SharedBytes;
 use std::alloc::Global;
 use std::cmp::Ordering;
 use std::fmt;
+use std::iter::repeat_n;
 use std::marker::Model;
 
 /// The births that lead to a task: the number of the first task that it descends from, and then
@@ -15,17 +26,19 @@ use std::marker::Model;
 /// Paths compare number by number, and a proper prefix comes first.
 #[derive(Drop)]
 pub struct Path {
-    numbers: Vec<u32>,
+    bytes: SharedBytes,
+    zeros: u64,
 }
 
 impl Model for Path {
-    ghost use Rattle.std.specs.Prelude.{ℕ, ◌<◌, List, length};
+    ghost use Rattle.std.specs.Prelude.{ℕ, List};
+    ghost use Rattle.task_order.specs.PathCode.{numbers_of, IsPath};
 
     ghost Value = { List ℕ };
 
-    ghost view = { λ p. p.numbers.items };
+    ghost view = { λ p. numbers_of p.bytes p.zeros };
 
-    ghost invariant = { λ p. 0 < length p.numbers.items };
+    ghost invariant = { λ p. IsPath p.bytes p.zeros };
 }
 
 impl Path {
@@ -33,18 +46,16 @@ impl Path {
     pub fn root(alloc: Global, number: u32) -> Result<Path, NoRoom>
         ensures { IfOk result (λ path. path ≡ number ∷ []) }
     {
-        let mut numbers = Vec::new(alloc);
-        numbers.push(number)?;
-        Ok(Path { numbers })
+        grown(SharedBytes::new(alloc), 0, number)
     }
 
-    /// The path of the child with this number, counted from 0, of the task with this path.
+    /// The path of the child with this number, counted from 0, of the task with this path. It takes
+    /// time and memory that don't grow with the depth, and a child with number 0 takes none but its
+    /// own place.
     pub fn child(&self, number: u32) -> Result<Path, NoRoom>
         ensures { IfOk result (λ path. path ≡ self.now ++ number ∷ []) }
     {
-        let mut numbers = self.numbers.clone()?;
-        numbers.push(number)?;
-        Ok(Path { numbers })
+        grown(self.bytes.copy()?, self.zeros, number)
     }
 
     /// The same path.
@@ -52,9 +63,23 @@ impl Path {
         ensures { IfOk result (λ path. path ≡ self.now) }
     {
         Ok(Path {
-            numbers: self.numbers.clone()?,
+            bytes: self.bytes.copy()?,
+            zeros: self.zeros,
         })
     }
+}
+
+/// The path that is kept as these bytes and zeros, with one more number.
+fn grown(mut bytes: SharedBytes, zeros: u64, number: u32) -> Result<Path, NoRoom>
+    requires { IsCode bytes zeros }
+    ensures { IfOk result (λ path. path ≡ numbers_of bytes zeros ++ number ∷ []) }
+{
+    if number == 0 {
+        let zeros = zeros.checked_add(1).ok_or(NoRoom)?;
+        return Ok(Path { bytes, zeros });
+    }
+    push_item(&mut bytes, zeros, number)?;
+    Ok(Path { bytes, zeros: 0 })
 }
 
 impl PartialEq for Path {
@@ -63,7 +88,7 @@ impl PartialEq for Path {
     ghost laws = { partial_equiv_from_equiv nat_list_eq_equiv };
 
     fn eq(&self, other: &Path) -> bool {
-        self.numbers.as_slice() == other.numbers.as_slice()
+        self.cmp(other).is_eq()
     }
 }
 
@@ -91,12 +116,30 @@ impl Ord for Path {
     ghost matches_eq = { texts_ties };
 
     fn cmp(&self, other: &Path) -> Ordering {
-        self.numbers.as_slice().cmp(other.numbers.as_slice())
+        match self.bytes.compare(&other.bytes) {
+            Ordering::Equal => self.zeros.cmp(&other.zeros),
+            order => order,
+        }
     }
 }
 
 impl fmt::Debug for Path {
     fn fmt<W: fmt::Write>(&self, f: &mut fmt::Formatter<W>) -> fmt::Result {
-        f.debug_list().entries(self.numbers.as_slice()).finish()
+        let mut list = f.debug_list();
+        let mut reader = ItemReader::new();
+        for at in 0..usize::MAX {
+            let Some(byte) = self.bytes.get(at) else {
+                break;
+            };
+            if let Some(item) = reader.read(byte) {
+                list.entries(repeat_n(0, item.zeros as usize));
+                list.entry(&item.number);
+            }
+        }
+        list.entries(repeat_n(0, self.zeros as usize));
+        list.finish()
     }
 }
+
+#[cfg(test)]
+mod tests;
