@@ -5,3 +5,7 @@ pub mod Keeping
 pub mod FreshTasks
 pub mod Rewriting
 pub mod Ending
+pub mod Members
+pub mod LookUps
+pub mod Neighbours
+pub mod Rewritten

@@ -3,4 +3,5 @@ pub mod Nodes
 pub mod Edges
 pub mod Rewrite
 pub mod Listing
+pub mod Laws
 pub mod NodeStock

@@ -5,6 +5,7 @@
 mod change;
 mod entry;
 mod graph;
+mod laws;
 mod listing;
 mod node_id;
 mod node_list;
@@ -12,5 +13,6 @@ mod walk;
 
 pub use change::{Fresh, SetChange};
 pub use graph::Graph;
+pub use laws::{later_laws, node_laws, put_laws, rewrite_laws, source_laws};
 pub use node_id::NodeId;
 pub use walk::{Laters, Sources};
