@@ -54,7 +54,7 @@ module _ {V : Type 0} {app : Application V} (basis : Basis app) where
 
   module _ (cells : List V) (task other : Task) (aside : IsAside app cells task other) where
     -- the other finds the cells of its set as they were
-    agree_after : AgreeOn (set_in app cells other) cells (app.act task cells).cells
+    pub agree_after : AgreeOn (set_in app cells other) cells (app.act task cells).cells
     agree_after loc named =
         sym (basis.lawful.acts_are_local.unchanged task cells aside.fit_cells aside.fit_task loc
         (unwritten (set_in app cells task) (set_in app cells other) aside.apart loc named))

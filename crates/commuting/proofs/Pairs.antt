@@ -11,10 +11,10 @@ use Rattle.task_order.specs.TaskList.{put_in, without}
 use Rattle.rw_sets.specs.Accesses.{Conflicts}
 use Rattle.app_laws.specs.Applications.{Application, set_in}
 use Rattle.commuting.specs.Clear.{IsReady, IsClear, IsUnblocked}
-use Rattle.commuting.specs.Independent.{AreIndependent, IsLeftAlone, StaysReady, IndependentTasksCommute, IndependentTasksLeaveAlone, ClearTasksStayClear, ClearTasksAreIndependent, EarliestIsClear}
+use Rattle.commuting.specs.Independent.{AreIndependentTasks, IsLeftAlone, StaysReady, IndependentTasksCommute, IndependentTasksLeaveAlone, ClearTasksStayClear, ClearTasksAreIndependent, EarliestIsClear}
 use Rattle.commuting.specs.Basis.{Basis}
 use Rattle.commuting.specs.States.{State, state_of, after_task}
-use Rattle.commuting.proofs.Cells.{same_set, same_outcome}
+use Rattle.commuting.proofs.Cells.{agree_after, same_set, same_outcome}
 use Rattle.commuting.proofs.Clearing.{lacking, put_back, beside_lacking, unblocked_lacking, unblocked_with}
 use Rattle.commuting.proofs.Pending.{TasksApart, all-filter, all_from_filter, before-none, new_where_apart}
 use Rattle.commuting.proofs.Runs.{turn}
@@ -28,7 +28,7 @@ module _ {V : Type 0} {app : Application V} (basis : Basis app) where
   has_put_in : (task : Task) (tasks : List Task) → Contains (put_in task tasks) task
   has_put_in task tasks = Contains-permutation (task ∷ tasks) (put_in task tasks) task (basis.lower.puts_keep_tasks task tasks) (0, omega arith, refl)
 
-  module _ (state : State V) (task other : Task) (ready : IsReady app state) (both : AreIndependent app state task other) where
+  module _ (state : State V) (task other : Task) (ready : IsReady app state) (both : AreIndependentTasks app state task other) where
     -- the state without either
     abbrev base : State V
     base = lacking basis (lacking basis state task) other
@@ -77,6 +77,7 @@ module _ {V : Type 0} {app : Application V} (basis : Basis app) where
         let aside = aside_here basis task other base independent in
         record {
           pending = subst (λ s. Contains s.pending other) (sym after_one) (has_put_in other (turn app.act task base).pending);
+          same_cells = agree_after basis state.cells task other aside;
           same_set = same_set basis state.cells task other aside;
           same_outcome = same_outcome basis state.cells task other aside;
         }
@@ -98,7 +99,7 @@ module _ {V : Type 0} {app : Application V} (basis : Basis app) where
           unblocked = subst (λ s. IsUnblocked app (set_in app s.cells) s.pending other) (sym after_one) now;
         }
 
-  independent_turned : (state : State V) (task other : Task) → AreIndependent app state task other → AreIndependent app state other task
+  independent_turned : (state : State V) (task other : Task) → AreIndependentTasks app state task other → AreIndependentTasks app state other task
   independent_turned state task other both = record {
     task_pending = both.other_pending;
     other_pending = both.task_pending;

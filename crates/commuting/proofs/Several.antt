@@ -13,7 +13,7 @@ use Rattle.app_laws.specs.Applications.{Application}
 use Rattle.app_laws.specs.Execution.{Execution}
 use Rattle.commuting.specs.Clear.{IsReady, IsClear}
 use Rattle.commuting.specs.Commuting.{BothEnd, LogsMore, IsSameButLogsMore, AreBefore, AreClear, ClearTasksStayClearInTurn, ClearTasksActInAnyOrder, ClearTasksMayAllActAtOnce, entries_of}
-use Rattle.commuting.specs.Independent.{AreIndependent}
+use Rattle.commuting.specs.Independent.{AreIndependentTasks}
 use Rattle.commuting.specs.Basis.{Basis}
 use Rattle.commuting.specs.States.{State, run_from, after_task, after_tasks, entry_of}
 use Rattle.commuting.proofs.Clearing.{clear_tasks_commute}
@@ -41,9 +41,9 @@ module _ {V : Type 0} {app : Application V} (basis : Basis app) where
   abbrev now : Task → State V → State V
   now task state = after_task app.act task state
 
-  pairs_independent : (state : State V) (task : Task) (others : List Task) → IsReady app state → AreClear app state (task ∷ others) → AllByRecursion (AreIndependent app state task) others
+  pairs_independent : (state : State V) (task : Task) (others : List Task) → IsReady app state → AreClear app state (task ∷ others) → AllByRecursion (AreIndependentTasks app state task) others
   pairs_independent state task others ready clear =
-      all-joined (λ other. other.key ≢ task.key) (IsClear app state) (AreIndependent app state task)
+      all-joined (λ other. other.key ≢ task.key) (IsClear app state) (AreIndependentTasks app state task)
       (λ other differ other_clear. clear_tasks_are_independent basis state task other ready clear.clear.0 other_clear (λ same. differ (sym same)))
       others clear.distinct.0 clear.clear.1
 
@@ -51,7 +51,7 @@ module _ {V : Type 0} {app : Application V} (basis : Basis app) where
   rest_clear state task others ready clear = record {
     distinct = clear.distinct.1;
     clear =
-        all-joined (AreIndependent app state task) (IsClear app state) (IsClear app (now task state))
+        all-joined (AreIndependentTasks app state task) (IsClear app state) (IsClear app (now task state))
         (λ other both other_clear. clear_tasks_stay_clear basis state task other ready both other_clear)
         others (pairs_independent state task others ready clear) clear.clear.1;
   }
@@ -65,7 +65,7 @@ module _ {V : Type 0} {app : Application V} (basis : Basis app) where
       → entries_of app.act (now task state).cells others ≡ entries_of app.act state.cells others
   same_entries state task others ready clear =
       same_entries_from (now task state).cells state.cells others
-      (all-weaker (AreIndependent app state task) (λ other. entry_of app.act (now task state).cells other ≡ entry_of app.act state.cells other)
+      (all-weaker (AreIndependentTasks app state task) (λ other. entry_of app.act (now task state).cells other ≡ entry_of app.act state.cells other)
       (λ other both. ap (λ text. (other.key, text)) (sym (left_alone basis state task other ready both).same_outcome.text))
       others (pairs_independent state task others ready clear))
 
