@@ -2,7 +2,8 @@ pub mod Accesses
 pub mod Merged
 pub mod Lookups
 pub mod Independence
-pub mod Pairs
+pub mod Unordered
 mod Places
 mod Joins
+mod InPlace
 mod Skips

@@ -1,10 +1,9 @@
 -- What a search finds in an ascending list, and what an access that is put in there leaves.
-use Rattle.std.proofs.Common.{◌≡◌, ℕ, zero, suc, ◌-◌, ◌<◌, ◌≤◌, [], ◌∷◌, length, get_or, set, Some, None, Result, Ok, Err, IfOk, IfErr, refl, sym, ap, ◌∙◌, arith}
+use Rattle.std.proofs.Common.{◌≡◌, ℕ, zero, suc, ◌-◌, ◌<◌, ◌≤◌, [], ◌∷◌, length, get_or, set, Some, None, Result, Ok, Err, IfOk, IfErr, OnOk, OnErr, refl, sym, ap, ◌∙◌, arith}
 use Rattle.std.specs.List.{insert}
 use Rattle.std.specs.List.Sorted.{IsSearchInRange, IsBinarySearchResult, IsNonDecreasingBy}
 use Rattle.std.specs.Ordering.{nat_cmp, ordering_index}
 use Rattle.std.proofs.lemmas.Cmp.{ranked}
-use Rattle.std.proofs.lemmas.List.{get_or_default}
 use Rattle.std.proofs.lemmas.List.Sorted.{IsNonDecreasingBy-from_default}
 use Rattle.std.proofs.lemmas.Bool.Decides.{nat_tests}
 use Rattle.rw_sets.specs.declared.access.Access.{Access}
@@ -12,7 +11,7 @@ use Rattle.rw_sets.specs.declared.access.Access.TheVariants.{Read}
 use Rattle.rw_sets.specs.Accesses.{Accesses, AllBeyond, IsAscending, access_at, stronger, put_access}
 use Rattle.rw_sets.specs.Places.{location_at, IsAt, IsGapFor}
 use Rattle.rw_sets.proofs.Accesses.{ascending_first, ascending_rest, access_first, access_other}
-use Rattle.rw_sets.proofs.Merged.{put_below, put_at, put_above}
+use Rattle.rw_sets.proofs.Merged.{ascending_put, put_below, put_at, put_above}
 
 -- the access at place i
 abbrev pub access_in : Accesses → ℕ → Access
@@ -77,7 +76,7 @@ first_below : (q : ℕ × Access) (l : Accesses) (loc i : ℕ) → IsAscending (
 first_below q l loc i up h = omega (arith, location_beyond q.0 l (ascending_first _ _ up) i (omega (arith, h.in_range)), h.here)
 
 -- the look-up finds what is at the place
-access_at_place : (l : Accesses) (loc i : ℕ) → IsAscending l → IsAt l loc i → access_at l loc ≡ Some (access_in l i)
+pub access_at_place : (l : Accesses) (loc i : ℕ) → IsAscending l → IsAt l loc i → access_at l loc ≡ Some (access_in l i)
 access_at_place [] loc i up h = absurd (omega (arith, h.in_range))
 access_at_place (q ∷ l) loc zero up h = access_first q l loc h.here
 access_at_place (q ∷ l) loc (suc i) up h =
@@ -111,13 +110,13 @@ put_in_gap [] p (suc i) h = absurd (omega (arith, h.in_range))
 put_in_gap (q ∷ l) p zero h = put_below q p l (h.higher_after 0 (omega arith) (omega arith))
 put_in_gap (q ∷ l) p (suc i) h = put_above q p l (h.lower_before 0 (omega arith)) ∙ ap (λ r. q ∷ r) (put_in_gap l p i (gap_tail q l p.0 i h))
 
--- the pair that is read at the place, as an index gives it
-module _ (l : Accesses) (loc i : ℕ) (p : ℕ × Access) (up : IsAscending l) (at : IsAt l loc i) (read : p ≡ get_or l i p) where
-  is_read : p.1 ≡ access_in l i
-  is_read = ap (λ (q : ℕ × Access). q.1) (read ∙ get_or_default l i p (0, Read) at.in_range)
+-- the pair at the place with another access
+pub written_over : (l : Accesses) (loc i : ℕ) (x new : Access) → IsAscending l → IsAt l loc i → new ≡ stronger (access_in l i) x → set l i (loc, new) ≡ put_access l (loc, x)
+written_over l loc i x new up at e = ap (λ (y : Access). set l i (loc, y)) e ∙ sym (put_at_place l (loc, x) i up at)
 
-  pub access_read : access_at l loc ≡ Some p.1
-  access_read = access_at_place l loc i up at ∙ ap Some (sym is_read)
-
-  pub written_over : (x new : Access) → new ≡ stronger p.1 x → set l i (loc, new) ≡ put_access l (loc, x)
-  written_over x new e = ap (λ (y : Access). set l i (loc, y)) (e ∙ ap (λ y. stronger y x) is_read) ∙ sym (put_at_place l (loc, x) i up at)
+-- after an insertion that may have found no memory
+pub inserted_or_not : {E : Type 0} (l l' : Accesses) (loc i : ℕ) (x : Access) (r : Result (Unit {0}) E) → IsAscending l → IsGapFor l loc i → OnOk r (l' ≡ insert l i (loc, x)) → OnErr r (l' ≡ l) → IsAscending l' × OnOk r (l' ≡ put_access l (loc, x))
+inserted_or_not l l' loc i x (Ok done) up gap ok err =
+    let put : l' ≡ put_access l (loc, x) = ok ∙ sym (put_in_gap l (loc, x) i gap) in
+    (rw put (ascending_put l (loc, x) up), put)
+inserted_or_not l l' loc i x (Err e) up gap ok err = (rw err up, tt)

@@ -1,3 +1,4 @@
 pub mod Accesses
 pub mod Laws
 pub mod Places
+pub mod Storage

@@ -2,7 +2,9 @@
 #![tactic(auto)]
 
 mod access;
+mod few;
 mod laws;
+mod pairs;
 mod rw_set;
 #[cfg(test)]
 mod tests;

@@ -5,25 +5,28 @@ ghost use Rattle.std.specs.Cmp.Rules.{comparing};
 ghost use Rattle.rw_sets.specs.Places.{IsAt, IsGapFor};
 
 use crate::Access;
+use crate::pairs::Pairs;
 use crate::walk::{join_repeats, merge_pairs, pairs_conflict};
 use kdg_text::NoRoom;
 use std::alloc::Global;
 use std::marker::Model;
 
-/// Locations in ascending order, each once, with the access to it.
+/// Locations in ascending order, each once, with the access to it. Up to four take no memory.
 #[derive(Debug, Drop)]
 pub struct RwSet {
-    pairs: Vec<(u32, Access)>,
+    pairs: Pairs,
+    alloc: Global,
 }
 
 impl Model for RwSet {
     ghost use Rattle.rw_sets.specs.Accesses.{Accesses, IsAscending};
+    ghost use Rattle.rw_sets.specs.Storage.{pairs_of};
 
     ghost Value = { Accesses };
 
-    ghost view = { λ s. s.pairs.items };
+    ghost view = { λ set. pairs_of set.pairs };
 
-    ghost invariant = { λ s. IsAscending s.pairs.items };
+    ghost invariant = { λ set. IsAscending (pairs_of set.pairs) };
 }
 
 impl PartialEq for RwSet {
@@ -46,7 +49,8 @@ impl RwSet {
         ensures { result ≡ [] }
     {
         RwSet {
-            pairs: Vec::new(alloc),
+            pairs: Pairs::new(),
+            alloc,
         }
     }
 
@@ -55,9 +59,11 @@ impl RwSet {
     pub fn from_pairs(mut pairs: Vec<(u32, Access)>) -> RwSet
         ensures { result ≡ merged [] pairs.items }
     {
+        let alloc = *pairs.allocator();
         pairs.sort_unstable_by_key(|pair| pair.0);
         join_repeats(&mut pairs);
-        RwSet { pairs }
+        let pairs = Pairs::from_vec(pairs);
+        RwSet { pairs, alloc }
     }
 
     /// The locations with their access, in ascending order.
@@ -65,7 +71,7 @@ impl RwSet {
         ensures all { result.now ≡ self.now }
         ensures ascending { IsAscending self.now }
     {
-        &self.pairs
+        self.pairs.items()
     }
 
     /// Merges the access to one location into the set. After `NoRoom` the set is as it was.
@@ -75,11 +81,11 @@ impl RwSet {
     {
         match self.place_of(loc) {
             Ok(at) => {
-                let held = self.pairs[at].1;
-                self.pairs[at] = (loc, held.stronger(access));
+                let held = self.pairs.items()[at].1;
+                self.pairs.replace(at, (loc, held.stronger(access)));
                 Ok(())
             }
-            Err(at) => Ok(self.pairs.insert(at, (loc, access))?),
+            Err(at) => self.pairs.insert(self.alloc, at, (loc, access)),
         }
     }
 
@@ -88,7 +94,7 @@ impl RwSet {
         ensures { result ≡ access_at self.now loc }
     {
         match self.place_of(loc) {
-            Ok(at) => Some(self.pairs[at].1),
+            Ok(at) => Some(self.pairs.items()[at].1),
             Err(_) => None,
         }
     }
@@ -113,18 +119,18 @@ impl RwSet {
     pub fn merge(&self, other: &RwSet) -> Result<RwSet, NoRoom>
         ensures { IfOk result (λ set. set ≡ merged self.now other.now) }
     {
-        let alloc = *self.pairs.allocator();
+        let alloc = self.alloc;
         let pairs = merge_pairs(alloc, self.items(), other.items())?;
-        Ok(RwSet { pairs })
+        Ok(RwSet { pairs, alloc })
     }
 
     /// An equal set.
     pub fn copy(&self) -> Result<RwSet, NoRoom>
         ensures { IfOk result (λ set. set ≡ self.now) }
     {
-        let alloc = *self.pairs.allocator();
-        let pairs = Vec::from_slice(alloc, &self.pairs)?;
-        Ok(RwSet { pairs })
+        let alloc = self.alloc;
+        let pairs = self.pairs.copy(alloc)?;
+        Ok(RwSet { pairs, alloc })
     }
 
     // Where the location is, or where it would go: at once at the end, else by halving.
@@ -132,10 +138,11 @@ impl RwSet {
         ensures found { IfOk result (IsAt self.now loc) }
         ensures absent { IfErr result (IsGapFor self.now loc) }
     {
-        let len = self.pairs.len();
-        if len == 0 || self.pairs[len - 1].0 < loc {
+        let pairs = self.pairs.items();
+        let len = pairs.len();
+        if len == 0 || pairs[len - 1].0 < loc {
             return Err(len);
         }
-        self.pairs.binary_search_by_key(&loc, |pair| pair.0)
+        pairs.binary_search_by_key(&loc, |pair| pair.0)
     }
 }

@@ -1,8 +1,10 @@
 ghost use Rattle.std.specs.Prelude.{◌≡◌, ◌↔◌, [], IsTrue, IfOk};
 ghost use Rattle.std.specs.List.Sorted.{IsNonDecreasingBy};
+ghost use Rattle.rw_sets.specs.Storage.{pairs_of};
 ghost use Rattle.rw_sets.specs.Accesses.{IsAscending, Conflicts, merged};
 
 use crate::Access;
+use crate::pairs::Pairs;
 use kdg_text::NoRoom;
 use std::alloc::Global;
 use std::cmp::Ordering;
@@ -33,32 +35,32 @@ pub(crate) fn merge_pairs(
     alloc: Global,
     a: &[(u32, Access)],
     b: &[(u32, Access)],
-) -> Result<Vec<(u32, Access)>, NoRoom>
+) -> Result<Pairs, NoRoom>
     requires a_ascends { IsAscending a.now }
     requires b_ascends { IsAscending b.now }
-    ensures { IfOk result (λ pairs. pairs.items ≡ merged a.now b.now) }
+    ensures { IfOk result (λ pairs. pairs_of pairs ≡ merged a.now b.now) }
 {
     let (mut left, mut right) = (a, b);
-    let mut pairs = Vec::with_capacity(alloc, a.len().max(b.len()))?;
+    let mut pairs = Pairs::with_room(alloc, a.len() + b.len())?;
     while let ([x, left_rest @ ..], [y, right_rest @ ..]) = (left, right) {
         match x.0.cmp(&y.0) {
             Ordering::Less => {
-                pairs.push(*x)?;
+                pairs.push(alloc, *x)?;
                 left = left_rest;
             }
             Ordering::Greater => {
-                pairs.push(*y)?;
+                pairs.push(alloc, *y)?;
                 right = right_rest;
             }
             Ordering::Equal => {
-                pairs.push((x.0, x.1.stronger(y.1)))?;
+                pairs.push(alloc, (x.0, x.1.stronger(y.1)))?;
                 left = left_rest;
                 right = right_rest;
             }
         }
     }
-    pairs.extend_from_slice(left)?;
-    pairs.extend_from_slice(right)?;
+    pairs.extend(alloc, left)?;
+    pairs.extend(alloc, right)?;
     Ok(pairs)
 }
 

@@ -2,4 +2,4 @@ use Rattle.rw_sets.proofs.Accesses.{ascending_none}
 use Rattle.rw_sets.proofs.rw_set.RwSet.new.Goals as goal
 
 pub invariant_of-result : goal.invariant_of-result
-invariant_of-result c = rw c.new.ensures.items ascending_none
+invariant_of-result c = rw c.new.ensures ascending_none
