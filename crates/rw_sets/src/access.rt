@@ -21,8 +21,8 @@ impl Access {
         }
     }
 
-    /// Write where either is Write.
-    pub fn stronger(self, other: Access) -> Access
+    // Write where either is Write.
+    pub(crate) fn stronger(self, other: Access) -> Access
         ensures { result ≡ stronger self other }
     {
         match self {
@@ -31,8 +31,8 @@ impl Access {
         }
     }
 
-    /// Whether at least one of the two is Write, so that they cannot go side by side.
-    pub fn excludes(self, other: Access) -> bool
+    // Whether at least one of the two is Write, so that they cannot go side by side.
+    pub(crate) fn excludes(self, other: Access) -> bool
         ensures { result ≡ excludes self other }
     {
         self.is_write() || other.is_write()

@@ -23,6 +23,27 @@ fn adds_in_ascending_order_and_write_wins(rt: HostRuntime) -> Result<(), Fail> {
     Ok(())
 }
 
+#[test]
+fn keeps_the_fifth_location(rt: HostRuntime) -> Result<(), Fail> {
+    let mut set = set_of(rt.alloc(), &[(8, Read), (6, Read), (4, Read), (2, Read)])?;
+    set.add(5, Write)?;
+    assert_eq!(rt;
+        set.items(),
+        [(2, Read), (4, Read), (5, Write), (6, Read), (8, Read)].as_slice()
+    );
+    assert_eq!(rt; set.position_of(5), Some(2));
+    Ok(())
+}
+
+#[test]
+fn makes_a_set_of_pairs_at_once(rt: HostRuntime) -> Result<(), Fail> {
+    let alloc = rt.alloc();
+    let set = RwSet::from_pairs(vec![in alloc; (5, Read), (2, Write), (5, Write), (5, Read)]?);
+    assert_eq!(rt; set, set_of(alloc, &[(2, Write), (5, Write)])?);
+    assert_ne!(rt; set, set_of(alloc, &[(2, Write), (5, Read)])?);
+    Ok(())
+}
+
 type Pairs<'a> = &'a [(u32, Access)];
 
 fn check(
