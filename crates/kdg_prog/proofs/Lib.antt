@@ -2,4 +2,6 @@ pub mod Allowed
 pub mod Digits
 pub mod FirstBad
 pub mod Given
+pub mod Promising
 pub mod Reading
+pub mod Refusing

@@ -1,5 +1,7 @@
-pub mod Answers
+pub mod Answer
+pub mod Bounds
 pub mod Draft
 pub mod Headline
+pub mod Refusals
 pub mod Status
 pub mod Words

@@ -1,5 +1,7 @@
-use Rattle.std.specs.Prelude.{ℕ, List, [], ◌++◌, codes}
+-- What a status says to the outside.
+use Rattle.std.specs.Prelude.{ℕ, ◌==◌, List, [], ◌++◌, codes, if◌then◌else◌}
 use Rattle.std.specs.Fmt.{decimal}
+use Rattle.kdg_text.specs.declared.fault.Fault.{Fault}
 use Rattle.kdg_prog.specs.declared.status.Status.{Status}
 use Rattle.kdg_prog.specs.declared.status.Status.TheVariants.{Ok, Usage, BadInput, TooLarge, Budget, ReadFault, WriteFault, NoMemory}
 
@@ -25,3 +27,7 @@ fault_text (Budget created limit) = codes "budget: more than " ++ decimal limit 
 fault_text ReadFault = codes "read fault"
 fault_text WriteFault = codes "write fault"
 fault_text NoMemory = codes "no memory"
+
+-- the status for a fault of the input: that it goes beyond a limit, where the fault has one
+abbrev pub status_of_fault : Fault → Status
+status_of_fault fault = if fault.bound == 0 then BadInput fault.line fault.kind else TooLarge fault.line fault.bound

@@ -4,6 +4,7 @@ use Rattle.std.specs.Option.{option_map, option_map_or}
 use Rattle.std.specs.Result.{result_ok}
 use Rattle.std.specs.Str.{bytes_eq}
 use Rattle.kdg_text.specs.Numbers.{u64_of}
+use Rattle.kdg_prog.specs.Bounds.{latest_time, most_tasks, most_workers}
 use Rattle.kdg_prog.specs.declared.words.Command.{Command}
 use Rattle.kdg_prog.specs.declared.words.Command.TheVariants.{Sim}
 use Rattle.kdg_prog.specs.declared.words.Mode.{Mode}
@@ -44,7 +45,7 @@ number_within low high word =
 
 -- what the values of the options say
 abbrev pub workers_value : Word → Option ℕ
-workers_value = number_within 1 64
+workers_value = number_within 1 most_workers
 
 abbrev pub mode_value : Word → Option Mode
 mode_value word = if bytes_eq word (codes "serial") then Some Serial else None
@@ -53,10 +54,10 @@ abbrev pub seed_value : Word → Option ℕ
 seed_value = number_within 0 (2 ^ 64 - 1)
 
 abbrev pub until_value : Word → Option ℕ
-until_value = number_within 0 1000000000
+until_value = number_within 0 latest_time
 
 abbrev pub budget_value : Word → Option ℕ
-budget_value = number_within 0 1000000000
+budget_value = number_within 0 most_tasks
 
 abbrev pub switch_value : Word → Option Bool
 switch_value word =
@@ -142,7 +143,7 @@ options_of words =
 -- options that words can ask for
 pub record IsAllowed (options : Options) : Type 0 where
   pub command : options.command ≡ Sim
-  pub workers : (1 ≤ options.workers) × (options.workers ≤ 64)
+  pub workers : (1 ≤ options.workers) × (options.workers ≤ most_workers)
   pub mode : options.mode ≡ Serial
-  pub until : options.until ≤ 1000000000
-  pub budget : options.budget ≤ 1000000000
+  pub until : options.until ≤ latest_time
+  pub budget : options.budget ≤ most_tasks

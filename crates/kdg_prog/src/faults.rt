@@ -1,6 +1,6 @@
 ghost use Rattle.std.specs.Prelude.{◌≡◌};
 ghost use Rattle.kdg_prog.specs.declared.status.Status.TheVariants.{NoMemory};
-ghost use Rattle.kdg_prog.specs.Answers.{AnswersRead, AnswersReader, AnswersSerial};
+ghost use Rattle.kdg_prog.specs.Refusals.{AnswersRead, AnswersReader, AnswersSerial};
 
 use crate::Status;
 use app_laws::SerialFault;
@@ -35,10 +35,7 @@ impl From<ReadFail> for Status {
 
     fn from(refusal: ReadFail) -> Status {
         match refusal {
-            ReadFail::Bad(fault) => Status::BadInput {
-                line: fault.line,
-                kind: fault.kind,
-            },
+            ReadFail::Bad(fault) => Status::of_fault(&fault),
             ReadFail::NoRoom => Status::NoMemory,
         }
     }

@@ -7,7 +7,7 @@ mod whole_run;
 mod words;
 
 pub use status::{Status, fault_line};
-pub use whole_run::{run, run_plain};
+pub use whole_run::{run, run_in_memory, run_plain};
 pub use words::{Command, Mode, Options, read_words};
 
 #[cfg(test)]

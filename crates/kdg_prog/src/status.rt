@@ -1,6 +1,8 @@
 ghost use Rattle.std.specs.Prelude.{◌≡◌, ◌+◌, ◌≤◌, ◌++◌, length, take, drop};
 ghost use Rattle.std.specs.Fmt.{decimal};
-ghost use Rattle.kdg_prog.specs.Status.{exit_code, fault_text};
+ghost use Rattle.kdg_prog.specs.Status.{exit_code, fault_text, status_of_fault};
+
+use kdg_text::Fault;
 
 /// How a run of the program ended.
 #[derive(Clone, Copy, Debug, PartialEq, Eq)]
@@ -24,6 +26,20 @@ pub enum Status {
 }
 
 impl Status {
+    /// The status for a fault of the input. A fault that goes beyond a limit has one above 0.
+    pub(crate) fn of_fault(fault: &Fault) -> Status
+        ensures { result ≡ status_of_fault fault.now }
+    {
+        match *fault {
+            Fault {
+                line,
+                kind,
+                bound: 0,
+            } => Status::BadInput { line, kind },
+            Fault { line, bound, .. } => Status::TooLarge { line, bound },
+        }
+    }
+
     /// The exit code of the program.
     pub fn code(&self) -> u8
         ensures { result ≡ exit_code self.now }
@@ -76,7 +92,7 @@ pub fn fault_line(status: &Status, line: &mut [u8; 64]) -> usize
     }
 }
 
-// Puts a piece at a place of the line, and answers the place behind it.
+/// Puts a piece at a place of the line, and answers the place behind it.
 fn put(line: &mut [u8; 64], at: usize, piece: &[u8]) -> usize
     requires { at + length piece.now ≤ 64 }
     ensures end { result ≡ at + length piece.now }
@@ -87,7 +103,7 @@ fn put(line: &mut [u8; 64], at: usize, piece: &[u8]) -> usize
     end
 }
 
-// Puts the decimal digits of a number at a place of the line, and answers the place behind them.
+/// Puts the decimal digits of a number at a place of the line, and answers the place behind them.
 fn put_number(line: &mut [u8; 64], at: usize, number: u64) -> usize
     requires { at + length (decimal number) ≤ 64 }
     ensures end { result ≡ at + length (decimal number) }

@@ -1,14 +1,16 @@
-ghost use Rattle.std.specs.Prelude.{◌≡◌, ◌≢◌, ◌++◌, map, string_bytes, ℕ, IfOk, IfErr, OnOk};
-ghost use Rattle.kdg_prog.specs.declared.words.Options.{Options};
+ghost use Rattle.std.specs.Prelude.{◌≡◌, ◌≢◌, ◌++◌, map, string_bytes, IfOk, IfErr, OnOk};
+ghost use Rattle.outer_edge.specs.Transfers.{transfer_of};
+ghost use Rattle.kdg_prog.specs.Answer.{answer_of, tasks_line, whole_print};
+ghost use Rattle.kdg_prog.specs.Headline.{CompletesInMemory, Promises, TellsBadWord};
+ghost use Rattle.kdg_prog.specs.Refusals.{IsRefusal};
 ghost use Rattle.kdg_prog.specs.Words.{IsAllowed, options_of};
-ghost use Rattle.kdg_prog.specs.Headline.{Completes, HasCause, IsRefusal, JudgesBudget, PrintsWhole, TellsBadWord, WritesFront, over, print_for, tasks_line};
 
 use crate::{Options, Status, read_words};
 use app_laws::{PlainRun, serial};
 use bench_reader::read_deck;
 use kdg_text::{NoRoom, Text, push_u64};
 use logic_sim::Circuit;
-use outer_edge::{Sink, Source, read_all, write_whole};
+use outer_edge::{CleanSink, CleanSource, Sink, Source, read_all, write_whole};
 use std::alloc::Global;
 
 /// How many bytes an input may have.
@@ -29,21 +31,16 @@ pub fn run<S: Source, K: Sink>(
 ) -> Status
     // `Usage` comes exactly where a word is bad, and then nothing is read or written.
     ensures usage { TellsBadWord (options_of (map string_bytes words.now.items)) result }
-    ensures untouched { (word : ℕ) → options_of (map string_bytes words.now.items) ≡ Err word →
-        (source.new ≡ source.old) × (sink.new ≡ sink.old) }
+    ensures untouched { IfErr (options_of (map string_bytes words.now.items))
+        (λ _. (source.new ≡ source.old) × (sink.new ≡ sink.old)) }
 
-    ensures print { (options : Options) → options_of (map string_bytes words.now.items) ≡ Ok options →
-        PrintsWhole options (over S.remaining S.faults source.old source.new) (over K.contents K.faults sink.old sink.new) result }
-    ensures budget { (options : Options) → options_of (map string_bytes words.now.items) ≡ Ok options →
-        JudgesBudget options (over S.remaining S.faults source.old source.new) result }
-    ensures causes { (options : Options) → options_of (map string_bytes words.now.items) ≡ Ok options →
-        HasCause options (over S.remaining S.faults source.old source.new) (over K.contents K.faults sink.old sink.new) result }
-    ensures written { (options : Options) → options_of (map string_bytes words.now.items) ≡ Ok options →
-        WritesFront options (over S.remaining S.faults source.old source.new) (over K.contents K.faults sink.old sink.new) result }
-    ensures unwritten { result ≢ Status.Ok → result ≢ Status.WriteFault → sink.new ≡ sink.old }
+    ensures promises { IfOk (options_of (map string_bytes words.now.items)) (λ options.
+        Promises options (transfer_of S.remaining S.faults source.old source.new)
+        (transfer_of K.contents K.faults sink.old sink.new) result) }
+
+    // Only the print is written.
+    ensures no_write { result ≢ Status.Ok → result ≢ Status.WriteFault → sink.new ≡ sink.old }
     ensures same_room { K.room sink.new ≡ K.room sink.old }
-    ensures complete { (options : Options) → options_of (map string_bytes words.now.items) ≡ Ok options →
-        Completes options (over S.remaining S.faults source.old source.new) (over K.contents K.faults sink.old sink.new) result }
 {
     match read_words(words) {
         Ok(options) => run_plain(alloc, &options, source, sink),
@@ -59,16 +56,13 @@ pub fn run_plain<S: Source, K: Sink>(
     sink: &mut K,
 ) -> Status
     requires { IsAllowed options.now }
-    ensures print { PrintsWhole options.now (over S.remaining S.faults source.old source.new) (over K.contents K.faults sink.old sink.new) result }
-    ensures budget { JudgesBudget options.now (over S.remaining S.faults source.old source.new) result }
-    ensures causes { HasCause options.now (over S.remaining S.faults source.old source.new) (over K.contents K.faults sink.old sink.new) result }
-    ensures written { WritesFront options.now (over S.remaining S.faults source.old source.new) (over K.contents K.faults sink.old sink.new) result }
-    ensures unwritten { result ≢ Status.Ok → result ≢ Status.WriteFault → sink.new ≡ sink.old }
+    ensures promises { Promises options.now (transfer_of S.remaining S.faults source.old source.new)
+        (transfer_of K.contents K.faults sink.old sink.new) result }
+    ensures no_write { result ≢ Status.Ok → result ≢ Status.WriteFault → sink.new ≡ sink.old }
     ensures same_room { K.room sink.new ≡ K.room sink.old }
-    ensures complete { Completes options.now (over S.remaining S.faults source.old source.new) (over K.contents K.faults sink.old sink.new) result }
 {
     match read_all(alloc, source, INPUT_BOUND) {
-        Ok(input) => match print_of(alloc, options, input.bytes()) {
+        Ok(input) => match print_of(alloc, options, input) {
             Ok(print) => match write_whole(sink, print.bytes()) {
                 Ok(()) => Status::Ok,
                 Err(_) => Status::WriteFault,
@@ -79,13 +73,29 @@ pub fn run_plain<S: Source, K: Sink>(
     }
 }
 
-/// The print for an input, or why there is none.
-fn print_of(alloc: Global, options: &Options, input: &[u8]) -> Result<Text, Status>
+/// `run_plain` over a source and a sink in memory that never fail. Where the sink has room for more
+/// than the print, only the input decides the answer, or memory runs out.
+pub fn run_in_memory(
+    alloc: Global,
+    options: &Options,
+    source: &mut CleanSource,
+    sink: &mut CleanSink,
+) -> Status
     requires { IsAllowed options.now }
-    ensures print { IfOk result (λ print. print_for options.now input.now ≡ Some print) }
-    ensures refusal { IfErr result (IsRefusal options.now input.now) }
+    ensures { result ≢ Status.NoMemory →
+        CompletesInMemory options.now source.old.left sink.old sink.new result }
 {
-    let deck = read_deck(alloc, input)?;
+    run_plain(alloc, options, source, sink)
+}
+
+/// The print for an input, or why there is none. The input is dropped before the execution.
+fn print_of(alloc: Global, options: &Options, input: Text) -> Result<Text, Status>
+    requires { IsAllowed options.now }
+    ensures print { IfOk result (λ bytes. answer_of options.now input ≡ whole_print bytes) }
+    ensures refusal { IfErr result (IsRefusal options.now input) }
+{
+    let deck = read_deck(alloc, input.bytes())?;
+    drop(input);
     let circuit = Circuit::new(alloc, deck, options.until)?;
     let cells = circuit.first_cells()?;
     let tasks = circuit.first_tasks()?;

@@ -4,6 +4,15 @@ ghost use Rattle.kdg_prog.specs.Draft.{is_given, with_value, options_drafted};
 
 use kdg_text::read_u64;
 
+/// The greatest number of workers.
+const MOST_WORKERS: u64 = 64;
+
+/// The last time that may be simulated.
+const LATEST_TIME: u64 = 1_000_000_000;
+
+/// The greatest budget.
+const MOST_TASKS: u64 = 1_000_000_000;
+
 /// What is run.
 #[derive(Clone, Copy, Debug, PartialEq, Eq)]
 pub enum Command {
@@ -84,6 +93,7 @@ pub fn read_words(words: &Vec<String>) -> Result<Options, u32>
     Ok(draft.options(command))
 }
 
+/// What stands before a value.
 #[derive(Clone, Copy)]
 enum OptionName {
     Workers,
@@ -94,6 +104,7 @@ enum OptionName {
     Stats,
 }
 
+/// The command that a word names.
 fn command_named(word: &str) -> Option<Command>
     ensures { result ≡ command_named word.now }
 {
@@ -103,6 +114,7 @@ fn command_named(word: &str) -> Option<Command>
     }
 }
 
+/// The option that a word names.
 fn option_named(word: &str) -> Option<OptionName>
     ensures { result ≡ option_named word.now }
 {
@@ -117,6 +129,7 @@ fn option_named(word: &str) -> Option<OptionName>
     }
 }
 
+/// The mode that a word names.
 fn read_mode(word: &str) -> Option<Mode>
     ensures { result ≡ mode_value word.now }
 {
@@ -126,6 +139,7 @@ fn read_mode(word: &str) -> Option<Mode>
     }
 }
 
+/// Whether a word switches on or off.
 fn read_switch(word: &str) -> Option<bool>
     ensures { result ≡ switch_value word.now }
 {
@@ -136,6 +150,7 @@ fn read_switch(word: &str) -> Option<bool>
     }
 }
 
+/// The number that a word spells, if it lies in a range, the ends included.
 fn read_within(word: &str, low: u64, high: u64) -> Option<u64>
     ensures value { result ≡ number_within low high word.now }
     ensures within { IfSome result (λ n. (low ≤ n) × (n ≤ high)) }
@@ -148,7 +163,7 @@ fn read_within(word: &str, low: u64, high: u64) -> Option<u64>
     }
 }
 
-// The values of the options that were given so far.
+/// The values of the options that were given so far.
 #[derive(Clone, Copy, Default)]
 struct Draft {
     workers: Option<u32>,
@@ -160,6 +175,7 @@ struct Draft {
 }
 
 impl Draft {
+    /// Whether the option was given.
     fn has(&self, name: OptionName) -> bool
         ensures { result ≡ is_given self.now name }
     {
@@ -173,23 +189,23 @@ impl Draft {
         }
     }
 
-    // Keeps the value of an option, or answers `None` where it is none of the option's.
+    /// Keeps the value of an option, or answers `None` where it is none of the option's.
     fn set(&mut self, name: OptionName, value: &str) -> Option<()>
         ensures variant { is_some result ≡ is_value name value.now }
         ensures kept { OnSome result (self.new ≡ with_value self.old name value.now) }
     {
         match name {
-            OptionName::Workers => self.workers = Some(read_within(value, 1, 64)? as u32),
+            OptionName::Workers => self.workers = Some(read_within(value, 1, MOST_WORKERS)? as u32),
             OptionName::Mode => self.mode = Some(read_mode(value)?),
             OptionName::Seed => self.seed = Some(read_within(value, 0, u64::MAX)?),
-            OptionName::Until => self.until = Some(read_within(value, 0, 1_000_000_000)?),
-            OptionName::Budget => self.budget = Some(read_within(value, 0, 1_000_000_000)?),
+            OptionName::Until => self.until = Some(read_within(value, 0, LATEST_TIME)?),
+            OptionName::Budget => self.budget = Some(read_within(value, 0, MOST_TASKS)?),
             OptionName::Stats => self.stats = Some(read_switch(value)?),
         }
         Some(())
     }
 
-    // The values that were given, and the defaults of the other options.
+    /// The values that were given, and the defaults of the other options.
     fn options(self, command: Command) -> Options
         ensures { result ≡ options_drafted command self }
     {

@@ -3,7 +3,7 @@
 ghost use Rattle.kdg_prog.specs.Words.{IsAllowed};
 
 use crate::decks::{C17, C17_PRINT};
-use kdg_prog::{Command, Mode, Options, Status, run_plain};
+use kdg_prog::{Command, Mode, Options, Status, run_in_memory, run_plain};
 use outer_edge::{CleanSink, CleanSource, MemSink, MemSource};
 use std::test::Fail;
 
@@ -78,7 +78,7 @@ fn an_input_may_be_too_large(rt: HostRuntime) -> Result<(), Fail> {
     ] {
         let mut source = CleanSource::new(vec![in rt.alloc(); b' '; len]?, 1 << 20);
         let mut sink = CleanSink::with_room(rt.alloc(), 64, 4096)?;
-        let status = run_plain(rt.alloc(), &options, &mut source, &mut sink);
+        let status = run_in_memory(rt.alloc(), &options, &mut source, &mut sink);
         assert_eq!(rt; status, want);
         assert_eq!(rt; sink.held(), b"".as_slice());
     }

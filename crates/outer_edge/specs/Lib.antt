@@ -3,3 +3,4 @@ pub mod Reading
 pub mod Writing
 pub mod Memory
 pub mod Edge
+pub mod Transfers

@@ -15,7 +15,7 @@ pub use memory_sink::{CleanSink, MemSink};
 pub use memory_source::{CleanSource, MemSource};
 pub use sink::{Push, Sink};
 pub use source::{Pull, Source};
-pub use whole_input::{ReadAllFault, read_all};
+pub use whole_input::{ReadAllFault, read_all, read_all_counted};
 pub use whole_piece::{WriteAllFault, write_whole};
 
 #[cfg(test)]

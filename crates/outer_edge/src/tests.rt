@@ -1,10 +1,12 @@
 ghost use Rattle.std.specs.Prelude.{◌≡◌, ◌+◌, ◌<◌, ◌++◌, length};
 
 use crate::*;
-use kdg_text::NoRoom;
+use kdg_text::{NoRoom, Steps, Text};
 use std::alloc::Global;
 use std::io;
 use std::io::{Error, ErrorKind, Read, Write};
+use std::marker::Brand;
+use std::sync::ledger::{Blank, Ledger};
 use std::test::Fail;
 
 fn input(alloc: Global, bytes: &[u8], fails: &[u64]) -> Result<MemSource, NoRoom> {
@@ -44,6 +46,25 @@ fn long_inputs_are_read_in_many_reads(rt: HostRuntime) -> Result<(), Fail> {
     let mut reader = ReadEdge::new(bytes.as_slice());
     let text = read_all(rt.alloc(), &mut reader, 20000)?;
     assert_eq!(rt; text.bytes(), bytes.as_slice());
+    Ok(())
+}
+
+/// Reads an input of at most three bytes, one byte with each read, and counts the reads.
+fn read_three<L: Ledger>(alloc: Global, bytes: Vec<u8>, blank: Blank) -> Result<Text, ReadAllFault>
+    requires name { blank.name ≡ L.name }
+    requires parts { blank.parts ≡ L.parts }
+    requires some { 0 < blank.parts }
+{
+    let mut source = CleanSource::new(bytes, 1);
+    let mut steps = Steps::<L>::new(blank);
+    read_all_counted(alloc, &mut source, 3, &mut steps)
+}
+
+#[test]
+fn reads_are_counted(rt: HostRuntime) -> Result<(), Fail> {
+    let bytes = b"abc".to_vec(rt.alloc())?;
+    let text = read_three::<Brand>(rt.alloc(), bytes, Blank::new(1))?;
+    assert_eq!(rt; text.bytes(), b"abc".as_slice());
     Ok(())
 }
 

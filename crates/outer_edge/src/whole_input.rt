@@ -1,11 +1,12 @@
 ghost use Rattle.outer_edge.specs.declared.whole_input.ReadAllFault.TheVariants as refusals;
-ghost use Rattle.std.specs.Prelude.{◌≡◌, ℕ, ◌<◌, ◌≤◌, ◌⊎◌, List, length, IfOk, OnOk, IfSome, IsErrOf};
-ghost use Rattle.std.specs.Io.KnownBytes.{Consumes, IsAtEnd};
-ghost use Rattle.outer_edge.specs.Faults.{HasRisen};
+ghost use Rattle.std.specs.Prelude.{◌≡◌, ◌+◌, ◌<◌, ◌≤◌};
+ghost use Rattle.outer_edge.specs.Transfers.{ReadsAll, transfer_of};
 
 use crate::{Pull, Source};
-use kdg_text::{NoRoom, Text};
+use kdg_text::{NoRoom, Steps, Text};
 use std::alloc::Global;
+use std::marker::Brand;
+use std::sync::ledger::{Blank, Ledger};
 
 /// How many bytes one read asks for.
 const BUFFER_LEN: usize = 8192;
@@ -30,32 +31,28 @@ impl From<NoRoom> for ReadAllFault {
 }
 
 /// Reads a source to its end, if it has at most `limit` bytes left. The first read that fails, or
-/// that goes beyond the limit, is the last. Every read that goes on takes a byte, so there are at
-/// most `limit + 1` reads.
+/// that goes beyond the limit, is the last.
 pub fn read_all<S: Source>(alloc: Global, source: &mut S, limit: u64) -> Result<Text, ReadAllFault>
-    // The text is all bytes that were left, and they were read to their end.
-    ensures ok { IfOk result (λ text. IfSome (S.remaining source.old) (λ bytes. text ≡ bytes)) }
-    ensures end { OnOk result (IsAtEnd (S.remaining source.new)) }
-    ensures limit { IfOk result (λ text. length text ≤ limit) }
+    ensures { ReadsAll limit (transfer_of S.remaining S.faults source.old source.new) result }
+{
+    read_from_blank::<S, Brand>(alloc, source, limit, Blank::new(1))
+}
 
-    // More bytes than the limit allows came.
-    ensures too_large { IsErrOf result ReadAllFault.TooLarge → (came : List ℕ)
-        × (limit < length came) × Consumes (S.remaining source.old) (S.remaining source.new) came }
-
-    // A read failed, and no more than the limit allows came before it.
-    ensures read_fault { IsErrOf result ReadAllFault.ReadFault
-        → HasRisen (S.faults source.old) (S.faults source.new) }
-    ensures before { IsErrOf result ReadAllFault.ReadFault → (came : List ℕ)
-        × (length came ≤ limit) × Consumes (S.remaining source.old) (S.remaining source.new) came }
-
-    // With every other answer no read failed.
-    ensures no_fault { IsErrOf result ReadAllFault.ReadFault
-        ⊎ (S.faults source.new ≡ S.faults source.old) }
-    ensures never_falls { S.faults source.old ≤ S.faults source.new }
+/// `read_all`, where each read is counted as a step. Every read that goes on takes a byte, so there
+/// are at most `limit + 1` reads.
+pub fn read_all_counted<S: Source, L: Ledger>(
+    alloc: Global,
+    source: &mut S,
+    limit: u64,
+    steps: &mut Steps<L>,
+) -> Result<Text, ReadAllFault>
+    ensures reads_all { ReadsAll limit (transfer_of S.remaining S.faults source.old source.new) result }
+    ensures few_reads { steps.new ≤ steps.old + limit + 1 }
 {
     let mut text = Text::new(alloc);
     let mut buffer = [0; BUFFER_LEN];
     loop {
+        steps.tick();
         match source.read(&mut buffer) {
             Pull::Got(count) if count as u64 > limit - text.len() as u64 => {
                 return Err(ReadAllFault::TooLarge);
@@ -65,4 +62,20 @@ pub fn read_all<S: Source>(alloc: Global, source: &mut S, limit: u64) -> Result<
             Pull::Failed => return Err(ReadAllFault::ReadFault),
         }
     }
+}
+
+/// `read_all`, with a count that begins here and that nobody looks at.
+fn read_from_blank<S: Source, L: Ledger>(
+    alloc: Global,
+    source: &mut S,
+    limit: u64,
+    blank: Blank,
+) -> Result<Text, ReadAllFault>
+    requires name { blank.name ≡ L.name }
+    requires parts { blank.parts ≡ L.parts }
+    requires some { 0 < blank.parts }
+    ensures { ReadsAll limit (transfer_of S.remaining S.faults source.old source.new) result }
+{
+    let mut steps = Steps::<L>::new(blank);
+    read_all_counted(alloc, source, limit, &mut steps)
 }
