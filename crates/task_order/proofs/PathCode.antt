@@ -2,15 +2,14 @@
 use Rattle.std.specs.Cmp.{nat_cmp_total}
 use Rattle.std.specs.Cmp.Lexicographic.{slice_cmp, nat_list_cmp_total}
 use Rattle.std.specs.declared.cmp.Ordering.{Ordering}
-use Rattle.std.specs.declared.cmp.Ordering.TheVariants.{Less, Equal, Greater}
-use Rattle.std.specs.Ordering.{MatchOrdering, nat_cmp, ordering_then, ordering_reverse}
-use Rattle.std.proofs.Common.{◌≡◌, ◌≢◌, ℕ, zero, suc, ◌+◌, ◌-◌, ◌*◌, ◌/◌, ◌%◌, ◌^◌, ◌<◌, ◌≤◌, ◌⊎◌, inl, inr, ⊎_elim, Bool, true, false, cond, min, nat_lt, nat_eq, List, [], ◌∷◌, ◌++◌, length, take, drop, replicate, refl, sym, ◌∙◌, ap, subst, append_assoc, append-nil, length-append, arith, lt-ltb, le-ltb, eq-eqb, ne_eqb, div-lt_iff_lt-mul, pow-suc, div-add-mod'}
-use Rattle.std.proofs.lemmas.Bool.Decides.{nat_tests}
-use Rattle.std.proofs.lemmas.Bool.{cases_lt, cases_order}
+use Rattle.std.specs.declared.cmp.Ordering.TheVariants.{Less}
+use Rattle.std.specs.Ordering.{nat_cmp, ordering_then, ordering_reverse}
+use Rattle.std.proofs.Common.{◌≡◌, ℕ, zero, suc, ◌+◌, ◌-◌, ◌*◌, ◌/◌, ◌%◌, ◌^◌, ◌<◌, ◌≤◌, ⊎_elim, true, false, min, nat_lt, nat_eq, List, [], ◌∷◌, ◌++◌, length, replicate, refl, sym, ◌∙◌, ap, subst, append_assoc, append-nil, length-append, arith, lt-ltb, le-ltb, eq-eqb, ne_eqb, div-lt_iff_lt-mul, pow-suc, div-add-mod'}
+use Rattle.std.proofs.lemmas.Bool.{cases_lt}
 use Rattle.std.proofs.lemmas.Cmp.{ranked, by_ranked}
 use Rattle.std.proofs.lemmas.List.{take_at, drop_at, replicate-append-replicate}
-use Rattle.task_order.specs.PathCode.{digits, head_byte, item_rest, item, code_bytes, end_zeros, CanCode, number_of, rest_len, item_zeros, item_number, item_numbers, Reading, with_part, read_byte, read_on, read_all, numbers_of, IsCode, IsPath}
-use Rattle.task_order.proofs.Comparing.{nat_cmp-same, nat_cmp-below, nat_cmp-above, reverse-then, slice_cmp-same, slice_cmp-behind, IsBelow, IsBelow-first, IsBelow-append, IsBelow-behind}
+use Rattle.task_order.specs.PathCode.{digits, head_byte, item_rest, item, code_bytes, end_zeros, CanCode, number_of, rest_len, item_zeros, item_number, item_numbers, Reading, read_byte, read_on, read_all, numbers_of, IsCode, IsPath}
+use Rattle.task_order.proofs.Comparing.{nat_cmp-same, nat_cmp-below, nat_cmp-above, reverse-then, slice_cmp-behind, IsBelow, IsBelow-first, IsBelow-append, IsBelow-behind}
 
 -- ---- digits
 

@@ -1,6 +1,6 @@
 -- The bytes that a path is kept as. An item of them is a number above 0 with the zeros in front of it. Bytes in order
 -- are paths in order: more zeros come first, and then the lower number. The zeros at the end have no bytes.
-use Rattle.std.specs.Prelude.{◌≡◌, ℕ, zero, suc, ◌+◌, ◌-◌, ◌*◌, ◌/◌, ◌%◌, ◌^◌, ◌<◌, min, nat_lt, nat_eq, if◌then◌else◌, List, [], ◌∷◌, ◌++◌, length, take, drop, replicate}
+use Rattle.std.specs.Prelude.{◌≡◌, ℕ, zero, suc, ◌+◌, ◌-◌, ◌*◌, ◌/◌, ◌%◌, ◌<◌, min, nat_lt, nat_eq, if◌then◌else◌, List, [], ◌∷◌, ◌++◌, length, take, drop, replicate}
 
 -- the last digits of the number in base 256
 unfoldable pub digits : ℕ → ℕ → List ℕ

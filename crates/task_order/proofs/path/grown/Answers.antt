@@ -1,5 +1,5 @@
-use Rattle.std.proofs.Common.{◌≡◌, ◌+◌, ◌<◌, ℕ, List, ◌++◌, sym, ◌∙◌, ap, subst, rules, arith}
-use Rattle.task_order.specs.PathCode.{item, numbers_of, IsPath}
+use Rattle.std.proofs.Common.{◌≡◌, ◌+◌, ◌<◌, ℕ, List, sym, ◌∙◌, ap, subst, rules, arith}
+use Rattle.task_order.specs.PathCode.{numbers_of, IsPath}
 use Rattle.task_order.proofs.PathCode.{numbers_of-item, IsPath-item, IsPath-zero}
 use Rattle.task_order.proofs.path.grown.Goals as goal
 

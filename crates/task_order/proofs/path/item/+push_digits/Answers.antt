@@ -1,5 +1,4 @@
-use Rattle.std.proofs.Common.{List, ℕ, ◌-◌, ◌/◌, ◌%◌, ◌++◌, ◌∷◌, [], sym, ◌∙◌, ap, append-nil, append_assoc, arith}
-use Rattle.std.proofs.lemmas.Grind.{common_steps}
+use Rattle.std.proofs.Common.{◌-◌, ◌/◌, ◌%◌, ◌∷◌, [], sym, append-nil, append_assoc, arith}
 use Rattle.task_order.specs.PathCode.{digits}
 use Rattle.task_order.proofs.PathCode.{digits-none, digits-more}
 use Rattle.task_order.proofs.path.item.+push_digits.Goals as goal
