@@ -8,10 +8,10 @@ use Rattle.rw_sets.specs.declared.access.Access.{Access}
 use Rattle.rw_sets.specs.declared.access.Access.TheVariants.{Read}
 use Rattle.rw_sets.specs.Accesses.{Accesses, IsAscending, stronger, put_access, merged}
 use Rattle.rw_sets.specs.Places.{location_at, IsAt, IsGapFor}
-use Rattle.rw_sets.proofs.Accesses.{ascending_none}
-use Rattle.rw_sets.proofs.Merged.{ascending_merged}
+use Rattle.rw_sets.specs.AccessLaws.{ascending_none}
+use Rattle.rw_sets.specs.MergeLaws.{ascending_merged}
 use Rattle.rw_sets.proofs.Places.{access_in, gap_at_end, put_at_place, put_in_gap}
-use Rattle.rw_sets.proofs.Unordered.{pairs_by_parts}
+use Rattle.rw_sets.specs.PairLaws.{pairs_by_parts}
 
 -- the first i pairs of a list are joined in its first places
 pub record IsJoined (pairs now : Accesses) (kept i : ℕ) : Type 0 where

@@ -10,8 +10,8 @@ use Rattle.rw_sets.specs.declared.access.Access.{Access}
 use Rattle.rw_sets.specs.declared.access.Access.TheVariants.{Read}
 use Rattle.rw_sets.specs.Accesses.{Accesses, AllBeyond, IsAscending, access_at, stronger, put_access}
 use Rattle.rw_sets.specs.Places.{location_at, IsAt, IsGapFor}
-use Rattle.rw_sets.proofs.Accesses.{ascending_first, ascending_rest, access_first, access_other}
-use Rattle.rw_sets.proofs.Merged.{ascending_put, put_below, put_at, put_above}
+use Rattle.rw_sets.specs.AccessLaws.{ascending_first, ascending_rest, access_first, access_other}
+use Rattle.rw_sets.specs.MergeLaws.{ascending_put, put_below, put_at, put_above}
 
 -- the access at place i
 abbrev pub access_in : Accesses → ℕ → Access

@@ -5,8 +5,8 @@ use Rattle.std.proofs.lemmas.Bool.{cases_eq}
 use Rattle.rw_sets.specs.declared.access.Access.{Access}
 use Rattle.rw_sets.specs.declared.access.Access.TheVariants.{Read}
 use Rattle.rw_sets.specs.Accesses.{Accesses, AllBeyond, IsAscending, access_at, stronger, excludes, clash, Conflicts, merged}
-use Rattle.rw_sets.proofs.Merged.{merged_left, merged_right, merged_both, merged_none}
-use Rattle.rw_sets.proofs.Accesses.{ascending_first, ascending_rest, beyond_lower, absent_beyond, access_first, access_other}
+use Rattle.rw_sets.specs.MergeLaws.{merged_left, merged_right, merged_both, merged_none}
+use Rattle.rw_sets.specs.AccessLaws.{ascending_first, ascending_rest, beyond_lower, absent_beyond, access_first, access_other}
 
 clash_none : (x : Option Access) → clash x None ≡ false
 clash_none None = refl

@@ -1,4 +1,9 @@
+pub mod AccessLaws
 pub mod Accesses
+pub mod IndependenceLaws
 pub mod Laws
+pub mod LookupLaws
+pub mod MergeLaws
+pub mod PairLaws
 pub mod Places
 pub mod Storage

@@ -1,5 +1,5 @@
-use Rattle.rw_sets.proofs.Lookups.{merges_conflict_by_parts}
-use Rattle.rw_sets.proofs.Independence.{conflicts_are_decided, nothing_conflicts_with_empty}
+use Rattle.rw_sets.specs.LookupLaws.{merges_conflict_by_parts}
+use Rattle.rw_sets.specs.IndependenceLaws.{conflicts_are_decided, nothing_conflicts_with_empty}
 use Rattle.rw_sets.proofs.laws.conflict_laws.Goals as goal
 
 pub returns-clause-by_parts : goal.returns-clause-by_parts

@@ -1,4 +1,4 @@
-use Rattle.rw_sets.proofs.Independence.{independent_without_conflict, independence_is_decided, independence_is_mutual}
+use Rattle.rw_sets.specs.IndependenceLaws.{independent_without_conflict, independence_is_decided, independence_is_mutual}
 use Rattle.rw_sets.proofs.laws.independence_laws.Goals as goal
 
 pub returns-clause-without_conflict : goal.returns-clause-without_conflict

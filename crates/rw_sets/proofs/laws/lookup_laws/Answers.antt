@@ -1,5 +1,5 @@
-use Rattle.rw_sets.proofs.Accesses.{same_from_lookups, ascending_by_parts}
-use Rattle.rw_sets.proofs.Unordered.{lookups_find_pairs, same_is_equal}
+use Rattle.rw_sets.specs.AccessLaws.{same_from_lookups, ascending_by_parts}
+use Rattle.rw_sets.specs.PairLaws.{lookups_find_pairs, same_is_equal}
 use Rattle.rw_sets.proofs.laws.lookup_laws.Goals as goal
 
 pub returns-clause-determine_sets : goal.returns-clause-determine_sets

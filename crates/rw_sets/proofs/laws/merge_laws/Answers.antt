@@ -1,6 +1,6 @@
-use Rattle.rw_sets.proofs.Merged.{ascending_merged, access_merged, merged_none}
-use Rattle.rw_sets.proofs.Lookups.{merges_commute, merges_associate, merges_are_idempotent}
-use Rattle.rw_sets.proofs.Unordered.{merges_write_what_one_does}
+use Rattle.rw_sets.specs.MergeLaws.{ascending_merged, access_merged, merged_none}
+use Rattle.rw_sets.specs.LookupLaws.{merges_commute, merges_associate, merges_are_idempotent}
+use Rattle.rw_sets.specs.PairLaws.{merges_write_what_one_does}
 use Rattle.rw_sets.proofs.laws.merge_laws.Goals as goal
 
 pub returns-clause-ascending : goal.returns-clause-ascending

@@ -1,4 +1,4 @@
-use Rattle.rw_sets.proofs.Unordered.{pairs_are_named, pairs_are_written, pairs_in_any_order, pairs_by_parts}
+use Rattle.rw_sets.specs.PairLaws.{pairs_are_named, pairs_are_written, pairs_in_any_order, pairs_by_parts}
 use Rattle.rw_sets.proofs.laws.pair_laws.Goals as goal
 
 pub returns-clause-named : goal.returns-clause-named

@@ -1,5 +1,5 @@
-use Rattle.rw_sets.proofs.Lookups.{within_is_antisymmetric, merges_hold_both, merges_are_least}
-use Rattle.rw_sets.proofs.Independence.{within_by_members}
+use Rattle.rw_sets.specs.LookupLaws.{within_is_antisymmetric, merges_hold_both, merges_are_least}
+use Rattle.rw_sets.specs.IndependenceLaws.{within_by_members}
 use Rattle.rw_sets.proofs.laws.within_laws.Goals as goal
 
 pub returns-clause-by_members : goal.returns-clause-by_members

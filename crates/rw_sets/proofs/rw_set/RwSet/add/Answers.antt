@@ -1,6 +1,6 @@
 use Rattle.std.proofs.Common.{ap, ◌∙◌}
 use Rattle.rw_sets.specs.Accesses.{put_access}
-use Rattle.rw_sets.proofs.Merged.{ascending_put}
+use Rattle.rw_sets.specs.MergeLaws.{ascending_put}
 use Rattle.rw_sets.proofs.Places.{written_over, inserted_or_not}
 use Rattle.rw_sets.proofs.rw_set.RwSet.add.Goals as goal
 

@@ -1,5 +1,5 @@
 use Rattle.std.proofs.Common.{rules}
-use Rattle.rw_sets.proofs.Independence.{tests_conflict}
+use Rattle.rw_sets.specs.IndependenceLaws.{tests_conflict}
 use Rattle.rw_sets.proofs.rw_set.RwSet.conflicts.Goals as goal
 
 pub returns-clause-tested : goal.returns-clause-tested

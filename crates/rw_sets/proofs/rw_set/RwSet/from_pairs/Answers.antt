@@ -1,8 +1,8 @@
 use Rattle.std.proofs.Common.{[], sym, ◌∙◌, rules}
 use Rattle.std.proofs.lemmas.List.Sorted.{IsNonDecreasingBy-from_sort_by_key}
-use Rattle.rw_sets.proofs.Accesses.{ascending_none}
-use Rattle.rw_sets.proofs.Merged.{ascending_merged}
-use Rattle.rw_sets.proofs.Unordered.{pairs_in_any_order}
+use Rattle.rw_sets.specs.AccessLaws.{ascending_none}
+use Rattle.rw_sets.specs.MergeLaws.{ascending_merged}
+use Rattle.rw_sets.specs.PairLaws.{pairs_in_any_order}
 use Rattle.rw_sets.proofs.rw_set.RwSet.from_pairs.Goals as goal
 
 pub join_repeats-requires : goal.join_repeats-requires

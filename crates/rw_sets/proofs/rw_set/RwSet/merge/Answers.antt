@@ -1,4 +1,4 @@
-use Rattle.rw_sets.proofs.Merged.{ascending_merged}
+use Rattle.rw_sets.specs.MergeLaws.{ascending_merged}
 use Rattle.rw_sets.proofs.rw_set.RwSet.merge.Goals as goal
 
 pub invariant_of-result : goal.invariant_of-result

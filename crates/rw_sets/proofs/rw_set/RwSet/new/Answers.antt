@@ -1,4 +1,4 @@
-use Rattle.rw_sets.proofs.Accesses.{ascending_none}
+use Rattle.rw_sets.specs.AccessLaws.{ascending_none}
 use Rattle.rw_sets.proofs.rw_set.RwSet.new.Goals as goal
 
 pub invariant_of-result : goal.invariant_of-result

@@ -7,7 +7,7 @@ use Rattle.rw_sets.specs.declared.access.Access.{Access}
 use Rattle.rw_sets.specs.declared.access.Access.TheVariants.{Read, Write}
 use Rattle.rw_sets.specs.Accesses.{Accesses, access_at, allows_write, clash, Conflicts, conflicts_with, covers}
 use Rattle.rw_sets.specs.Laws.{ConflictsAreDecided, NothingConflictsWithEmpty, IndependentWithoutConflict, IndependenceIsDecided, IndependenceIsMutual, WithinByMembers}
-use Rattle.rw_sets.proofs.Accesses.{access_other}
+use Rattle.rw_sets.specs.AccessLaws.{access_other}
 
 -- a test of each pair's location is met by a pair
 met_by_pair : (test : ℕ → Bool) (ps : Accesses) → list_any (λ p. test p.0) ps ≡ true → (loc : ℕ) × IsTrue (test loc)

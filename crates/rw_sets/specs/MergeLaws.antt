@@ -5,7 +5,7 @@ use Rattle.std.proofs.lemmas.Bool.Decides.{nat_tests}
 use Rattle.rw_sets.specs.declared.access.Access.{Access}
 use Rattle.rw_sets.specs.declared.access.Access.TheVariants.{Read, Write}
 use Rattle.rw_sets.specs.Accesses.{Accesses, AllBeyond, IsAscending, access_at, stronger, joined, put_access, merged}
-use Rattle.rw_sets.proofs.Accesses.{ascending_first, ascending_rest, ascending_none, ascending_cons, beyond_lower, absent_beyond, access_first, access_other}
+use Rattle.rw_sets.specs.AccessLaws.{ascending_first, ascending_rest, ascending_none, ascending_cons, beyond_lower, absent_beyond, access_first, access_other}
 
 pub put_below : (q p : ℕ × Access) (qs : Accesses) → p.0 < q.0 → put_access (q ∷ qs) p ≡ p ∷ q ∷ qs
 put_below q p qs lt = grind (arith, nat_tests)

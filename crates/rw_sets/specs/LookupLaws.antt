@@ -5,8 +5,8 @@ use Rattle.rw_sets.specs.declared.access.Access.{Access}
 use Rattle.rw_sets.specs.declared.access.Access.TheVariants.{Read, Write}
 use Rattle.rw_sets.specs.Accesses.{access_at, stronger, joined, clash, covers, Conflicts, merged}
 use Rattle.rw_sets.specs.Laws.{MergesCommute, MergesAssociate, MergesAreIdempotent, MergesConflictByParts, WithinIsAntisymmetric, MergesHoldBoth, MergesAreLeast}
-use Rattle.rw_sets.proofs.Accesses.{same_from_lookups}
-use Rattle.rw_sets.proofs.Merged.{joined_associates, ascending_merged, access_merged}
+use Rattle.rw_sets.specs.AccessLaws.{same_from_lookups}
+use Rattle.rw_sets.specs.MergeLaws.{joined_associates, ascending_merged, access_merged}
 
 stronger_commutes : (x y : Access) → stronger x y ≡ stronger y x
 stronger_commutes Read Read = refl

@@ -12,8 +12,8 @@ use Rattle.rw_sets.specs.declared.access.Access.{Access}
 use Rattle.rw_sets.specs.declared.access.Access.TheVariants.{Read, Write}
 use Rattle.rw_sets.specs.Accesses.{Accesses, AllBeyond, IsAscending, access_at, allows_write, writes, joined, put_access, merged, is_write, same_pair}
 use Rattle.rw_sets.specs.Laws.{SameIsEqual, LookupsFindPairs, MergesWriteWhatOneDoes, PairsAreNamed, PairsAreWritten, PairsInAnyOrder, PairsByParts}
-use Rattle.rw_sets.proofs.Accesses.{ascending_first, ascending_rest, access_first, access_other, same_from_lookups}
-use Rattle.rw_sets.proofs.Merged.{ascending_put, ascending_merged, access_put_here, access_put_other, access_merged}
+use Rattle.rw_sets.specs.AccessLaws.{ascending_first, ascending_rest, access_first, access_other, same_from_lookups}
+use Rattle.rw_sets.specs.MergeLaws.{ascending_put, ascending_merged, access_put_here, access_put_other, access_merged}
 
 pair_is : (p : ℕ × Access) (loc : ℕ) (access : Access) → p.0 ≡ loc → p.1 ≡ access → p ≡ (loc, access)
 pair_is (n, x) loc access e f = ap (λ m. (m, x)) e ∙ ap (λ y. (loc, y)) f
