@@ -5,6 +5,7 @@ use Rattle.std.specs.declared.cmp.Ordering.TheVariants.{Less}
 use Rattle.std.specs.Ordering.{nat_cmp, ordering_then}
 use Rattle.std.proofs.Common.{◌≡◌, ℕ, ◌+◌, ◌*◌, ◌<◌, ◌≤◌, List, [], ◌∷◌, ◌++◌, length, take, drop, take-append-drop, refl, sym, ◌∙◌, ap, append_assoc, length-append, arith}
 use Rattle.task_order.specs.SharedBytes.{IsNode}
+use Rattle.task_order.specs.declared.path.node.TheConstants.{IN_PLACE, FULL_NODE}
 use Rattle.task_order.proofs.Comparing.{slice_cmp-append, slice_cmp-ends, slice_cmp-upto, then_assoc}
 
 -- what decides below a level decides against all bytes that go on behind it
@@ -46,9 +47,9 @@ order-found a_bytes a_before b_bytes b_before order found same is =
     ∙ ap (ordering_then (slice_cmp nat_cmp a_before b_before)) is
 
 -- the levels of a node and of the one before it, where the node is the first behind a level
-pub levels_below : (level : ℕ) (before : List ℕ) (lower_level : ℕ) (lower below : List ℕ) (upper_level : ℕ) (upper upper_before all : List ℕ) → length before ≡ 506 * level
+pub levels_below : (level : ℕ) (before : List ℕ) (lower_level : ℕ) (lower below : List ℕ) (upper_level : ℕ) (upper upper_before all : List ℕ) → length before ≡ FULL_NODE * level
     → IsNode lower_level lower below → IsNode upper_level upper upper_before → upper_before ≡ below ++ lower → upper_before ++ upper ≡ all
-    → 506 * (level + 1) < length all → length all ≤ 506 * (level + 1) + 506 → (length before ≡ length below) × (length lower ≡ 506) × (23 ≤ length upper)
+    → FULL_NODE * (level + 1) < length all → length all ≤ FULL_NODE * (level + 1) + FULL_NODE → (length before ≡ length below) × (length lower ≡ FULL_NODE) × (IN_PLACE ≤ length upper)
 levels_below level before lower_level lower below upper_level upper upper_before all full lower_node upper_node lower_all upper_all not_below not_above =
     let lower_length : length upper_before ≡ length below + length lower = ap length lower_all ∙ length-append below lower in
     let upper_length : length upper_before + length upper ≡ length all = sym (length-append upper_before upper) ∙ ap length upper_all in

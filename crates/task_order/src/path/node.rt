@@ -11,6 +11,12 @@ use std::cmp::Ordering;
 use std::marker::Model;
 use std::sync::Arc;
 
+/// The most bytes that a list keeps in place.
+pub(super) const IN_PLACE: usize = 23;
+
+/// The bytes of a full node.
+const FULL_NODE: usize = 22 * IN_PLACE;
+
 /// The last of some nodes, or none.
 pub(super) type Chain = Option<Arc<Node>>;
 
@@ -56,15 +62,12 @@ impl Drop for Node {
 }
 
 impl Node {
-    /// The bytes of a full node.
-    pub(super) const FULL: usize = 506;
-
     /// The node, of those that end here, with this level.
     fn at_level(&self, level: u32) -> &Node
-        requires { 506 * level < length self.now }
+        requires { FULL_NODE * level < length self.now }
         ensures begins { result.now ≡ take (length result.now) self.now }
-        ensures not_below { 506 * level < length result.now }
-        ensures not_above { length result.now ≤ 506 * level + 506 }
+        ensures not_below { FULL_NODE * level < length result.now }
+        ensures not_above { length result.now ≤ FULL_NODE * level + FULL_NODE }
     {
         let mut node = self;
         while node.level > level {
@@ -89,8 +92,8 @@ pub(super) fn share(nodes: &Chain) -> Result<Chain, NoRoom>
 
 /// A node with the bytes of these and the new ones.
 pub(super) fn grown(alloc: Global, nodes: &Chain, bytes: &[u8]) -> Result<Node, NoRoom>
-    requires new { length bytes.now ≡ 23 }
-    requires whole { length (chain nodes.now) % 23 ≡ 0 }
+    requires new { length bytes.now ≡ IN_PLACE }
+    requires whole { length (chain nodes.now) % IN_PLACE ≡ 0 }
     ensures { IfOk result (λ node. node ≡ chain nodes.now ++ bytes.now) }
 {
     let Some(last) = nodes else {
@@ -101,7 +104,7 @@ pub(super) fn grown(alloc: Global, nodes: &Chain, bytes: &[u8]) -> Result<Node, 
         });
     };
     let last: &Node = last;
-    if last.bytes.len() < Node::FULL {
+    if last.bytes.len() < FULL_NODE {
         let mut all = Vec::with_capacity(alloc, last.bytes.len() + bytes.len())?;
         all.extend_from_slice(&last.bytes)?;
         all.extend_from_slice(bytes)?;
@@ -128,9 +131,9 @@ struct Split<'a> {
 
 fn split_last(nodes: &Chain) -> Split<'_>
     ensures all { chain nodes.now ≡ chain result.before.now ++ result.bytes.now }
-    ensures full_before { length (chain result.before.now) ≡ 506 * result.level }
-    ensures not_many { length result.bytes.now ≤ 506 }
-    ensures not_few { 0 < result.level → 23 ≤ length result.bytes.now }
+    ensures full_before { length (chain result.before.now) ≡ FULL_NODE * result.level }
+    ensures not_many { length result.bytes.now ≤ FULL_NODE }
+    ensures not_few { 0 < result.level → IN_PLACE ≤ length result.bytes.now }
 {
     match nodes {
         None => Split {
@@ -170,10 +173,10 @@ fn order_of_full(a: &Chain, b: &Chain) -> Ordering
 
 /// How bytes compare with those of nodes that go on behind their end: never as `Equal`.
 fn order_below(a: &Split<'_>, a_rest: &[u8], b: &Chain) -> Ordering
-    requires full_before { length (chain a.now.before.now) ≡ 506 * a.now.level }
-    requires not_many { length a.now.bytes.now ≤ 506 }
-    requires few { length a_rest.now ≤ 23 }
-    requires deeper { 506 * a.now.level + 506 < length (chain b.now) }
+    requires full_before { length (chain a.now.before.now) ≡ FULL_NODE * a.now.level }
+    requires not_many { length a.now.bytes.now ≤ FULL_NODE }
+    requires few { length a_rest.now ≤ IN_PLACE }
+    requires deeper { FULL_NODE * a.now.level + FULL_NODE < length (chain b.now) }
     requires counts { a.now.level + 1 < 2 ^ 32 }
     ensures { result ≡ ordering_then (slice_cmp nat_cmp (chain a.now.before.now ++ (a.now.bytes.now ++ a_rest.now)) (chain b.now)) Less }
 {
@@ -193,8 +196,8 @@ fn order_below(a: &Split<'_>, a_rest: &[u8], b: &Chain) -> Ordering
 
 /// How the bytes of nodes and of the rests behind them compare.
 pub(super) fn order_of(a: &Chain, a_rest: &[u8], b: &Chain, b_rest: &[u8]) -> Ordering
-    requires a_few { length a_rest.now ≤ 23 }
-    requires b_few { length b_rest.now ≤ 23 }
+    requires a_few { length a_rest.now ≤ IN_PLACE }
+    requires b_few { length b_rest.now ≤ IN_PLACE }
     requires a_goes_on { length a_rest.now ≡ 0 → chain a.now ≡ [] }
     requires b_goes_on { length b_rest.now ≡ 0 → chain b.now ≡ [] }
     ensures { result ≡ slice_cmp nat_cmp (chain a.now ++ a_rest.now) (chain b.now ++ b_rest.now) }
@@ -215,7 +218,7 @@ pub(super) fn len_of(nodes: &Chain) -> usize
     ensures { result ≡ length (chain nodes.now) }
 {
     let last = split_last(nodes);
-    Node::FULL * last.level as usize + last.bytes.len()
+    FULL_NODE * last.level as usize + last.bytes.len()
 }
 
 /// The byte of the nodes at this index, if they have as many.
@@ -225,7 +228,7 @@ pub(super) fn byte_of(nodes: &Chain, at: usize) -> Option<u8>
     let mut nodes = nodes;
     while let Some(node) = nodes {
         let node: &Node = node;
-        let start = Node::FULL * node.level as usize;
+        let start = FULL_NODE * node.level as usize;
         if at >= start {
             return node.bytes.get(at - start).copied();
         }

@@ -2,7 +2,7 @@ ghost use Rattle.std.specs.Prelude.{◌≡◌, [], ◌∷◌, ◌++◌, slice_ge
 ghost use Rattle.std.specs.Cmp.Lexicographic.{slice_cmp};
 ghost use Rattle.std.specs.Ordering.{nat_cmp};
 
-use super::node::{Chain, byte_of, grown, len_of, order_of, share};
+use super::node::{Chain, IN_PLACE, byte_of, grown, len_of, order_of, share};
 use kdg_text::NoRoom;
 use std::alloc::Global;
 use std::cmp::Ordering;
@@ -14,7 +14,7 @@ use std::sync::Arc;
 #[derive(Drop)]
 pub(super) struct SharedBytes {
     nodes: Chain,
-    rest: [u8; 23],
+    rest: [u8; IN_PLACE],
     rest_len: u8,
     alloc: Global,
 }
@@ -37,7 +37,7 @@ impl SharedBytes {
     {
         SharedBytes {
             nodes: None,
-            rest: [0; 23],
+            rest: [0; IN_PLACE],
             rest_len: 0,
             alloc,
         }
@@ -47,7 +47,7 @@ impl SharedBytes {
     pub(super) fn push(&mut self, byte: u8) -> Result<(), NoRoom>
         ensures { OnOk result (self.new ≡ self.old ++ byte ∷ []) }
     {
-        if usize::from(self.rest_len) == self.rest.len() {
+        if usize::from(self.rest_len) == IN_PLACE {
             let node = grown(self.alloc, &self.nodes, &self.rest)?;
             self.nodes = Some(Arc::new(self.alloc, node)?);
             self.rest_len = 0;
