@@ -68,7 +68,7 @@ filter-put_in-dropped p task (other ∷ tasks) dropped =
     (λ _. ap (λ l. cond (p other) (other ∷ l) l) (filter-put_in-dropped p task tasks dropped))
     (λ _. ap (λ test. cond test (task ∷ filter p (other ∷ tasks)) (filter p (other ∷ tasks))) dropped)
 
-put_in-front : (task : Task) (tasks : List Task) → AllByRecursion (λ other. is_earlier task.key other ≡ false) tasks → put_in task tasks ≡ task ∷ tasks
+pub put_in-front : (task : Task) (tasks : List Task) → AllByRecursion (λ other. is_earlier task.key other ≡ false) tasks → put_in task tasks ≡ task ∷ tasks
 put_in-front task [] all = refl
 put_in-front task (other ∷ tasks) all = ap (λ test. cond test (other ∷ put_in task tasks) (task ∷ other ∷ tasks)) all.0
 

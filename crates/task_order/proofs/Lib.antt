@@ -3,7 +3,9 @@ pub mod TaskLists
 pub mod Fronts
 pub mod Distinct
 pub mod Without
-pub mod Pairs
 pub mod Comparing
 pub mod PathCode
 pub mod SharedBytes
+pub mod Places
+pub mod Cuts
+pub mod Found

@@ -15,7 +15,7 @@ use Rattle.task_order.proofs.Fronts.{filter-put_in-dropped, filter-put_in-kept}
 use Rattle.task_order.proofs.Distinct.{has_cases, has_first, has_later, later_than_first}
 
 -- whether a task stays where the one with the key is taken out
-abbrev stays : Key → Task → Bool
+abbrev pub stays : Key → Task → Bool
 stays key task = not (has_key key task)
 
 stays_by : (key : Key) (task : Task) (test : Bool) → has_key key task ≡ test → task.key ≢ key → not test ≡ true

@@ -1,6 +1,8 @@
 //! Tasks and the order in which they run: keys, paths of birth, and lists of tasks by key.
 #![tactic(auto)]
 
+mod block;
+mod blocks;
 mod key;
 mod laws;
 mod path;
@@ -8,6 +10,7 @@ mod start;
 mod task;
 mod task_list;
 
+pub use blocks::Tasks;
 pub use key::{Key, key_order};
 pub use laws::{
     ascending_laws, before_laws, earlier_laws, put_all_laws, put_in_laws, without_laws,
@@ -15,7 +18,7 @@ pub use laws::{
 pub use path::Path;
 pub use start::{Start, StartList};
 pub use task::{Body, Task};
-pub use task_list::{TaskList, TaskRef, Tasks};
+pub use task_list::TaskList;
 
 #[cfg(test)]
 mod tests;

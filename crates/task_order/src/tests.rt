@@ -116,7 +116,7 @@ fn tasks_are_walked_in_key_order(rt: HostRuntime) -> Result<(), Fail> {
             format!(in rt.alloc(); "{:?}", task.key)?.as_str(),
             IN_ORDER[place]
         );
-        assert_eq!(rt; task.key, tasks.at(place).key);
+        assert_eq!(rt; task, tasks.at(place));
         place += 1;
     }
     assert_eq!(rt; place, 5);
@@ -149,15 +149,17 @@ fn tasks_are_found_by_key(rt: HostRuntime) -> Result<(), Fail> {
         path: path(alloc, 9, &[])?,
     };
     assert_eq!(rt; tasks.rank(&present), 3);
-    assert_eq!(rt; tasks.get(&present), Some(BODY));
-    assert_eq!(rt; tasks.get(&absent), None);
+    let found = tasks.get(&present).ok_or("the task is not there")?;
+    assert_eq!(rt; found.key, present);
+    assert_eq!(rt; found.body, BODY);
+    assert!(rt; tasks.get(&absent).is_none());
     assert_eq!(rt; tasks.remove(&absent), None);
     assert_eq!(rt; tasks.len(), 5);
     let first = tasks.first().ok_or("none is there")?;
     assert_eq!(rt; format!(in alloc; "{:?}", first.key)?.as_str(), IN_ORDER[0]);
     let removed = tasks.remove(&present).ok_or("the task is not there")?;
     assert_eq!(rt; removed.key, present);
-    assert_eq!(rt; tasks.get(&present), None);
+    assert!(rt; tasks.get(&present).is_none());
     let taken = tasks.take_first().ok_or("none is left")?;
     assert_eq!(rt; format!(in alloc; "{:?}", taken.key)?.as_str(), IN_ORDER[0]);
     assert_eq!(rt; tasks.len(), 3);

@@ -1,25 +1,25 @@
-use Rattle.std.proofs.Common.{subst}
-use Rattle.task_order.proofs.Pairs.{ascending_pairs, left_by_remove, Removes, removed_by_key}
+use Rattle.std.proofs.Common.{◌∙◌, ap, sym}
+use Rattle.task_order.specs.Blocks.{tasks_in}
+use Rattle.task_order.specs.TaskList.{without}
+use Rattle.task_order.proofs.Found.{the_task, found_in_tasks, blocks_after_remove}
+use Rattle.task_order.proofs.Without.{without_new_key}
 use Rattle.task_order.proofs.task_list.TaskList.remove.Goals as goal
 
-pub returns-in_err-key-clause-left : goal.returns-in_err-key-clause-left
-returns-in_err-key-clause-left c =
-    left_by_remove c.args.key.now c.self.inside.bodies.entries c.remove_entry.new.self.entries c.args.self.now c.remove_entry.ensures.entries c.self.invariant c.self.view_is
+pub returns-in_err-at-clause-left : goal.returns-in_err-at-clause-left
+returns-in_err-at-clause-left c = sym (without_new_key c.args.key.now c.args.self.now (rw (← c.self.view_is) c.in_err-at.ensures.absent))
+
+pub invariant_of-self : goal.invariant_of-self
+invariant_of-self c =
+    blocks_after_remove c.remove-task.result c.self.inside.blocks c.remove-task.new.self c.self.inside.len c.self.invariant
+    (found_in_tasks c.self.inside.blocks c.in_ok-at.at c.in_ok-at.place c.remove-task.result c.in_ok-at.ensures.found.inside c.in_ok-at.ensures.found.within c.remove-task.ensures.task)
+    c.remove-task.ensures.left c.remove-task.ensures.gapless
 
 pub returns-clause-left : goal.returns-clause-left
 returns-clause-left c =
-    left_by_remove c.args.key.now c.self.inside.bodies.entries c.remove_entry.new.self.entries c.args.self.now c.remove_entry.ensures.entries c.self.invariant c.self.view_is
-
-pub returns-in_err-key-clause-absent : goal.returns-in_err-key-clause-absent
-returns-in_err-key-clause-absent c =
-    rw c.from_residual.ensures
-    (subst (Removes c.args.key.now c.args.self.now) c.in_err-key.was
-    (removed_by_key c.args.key.now c.self.inside.bodies.entries c.args.self.now c.remove_entry.result c.remove_entry.ensures.value c.remove_entry.ensures.same_key c.self.view_is))
+    c.remove-task.ensures.left
+    ∙ ap (λ key. without key (tasks_in c.self.inside.blocks)) (c.in_ok-at.ensures.found.has c.remove-task.result c.remove-task.ensures.task)
+    ∙ ap (without c.args.key.now) c.self.view_is
 
 pub returns-clause-found : goal.returns-clause-found
 returns-clause-found c =
-    subst (Removes c.args.key.now c.args.self.now) c.in_ok-key.was
-    (removed_by_key c.args.key.now c.self.inside.bodies.entries c.args.self.now c.remove_entry.result c.remove_entry.ensures.value c.remove_entry.ensures.same_key c.self.view_is)
-
-pub invariant_of-self-2 : goal.invariant_of-self-2
-invariant_of-self-2 c = ascending_pairs c.remove_entry.new.self.entries c.remove_entry.ensures.ordered
+    rw (← c.self.view_is) (the_task c.args.key.now c.self.inside.blocks c.in_ok-at.at c.in_ok-at.place c.remove-task.result c.in_ok-at.ensures.found c.remove-task.ensures.task)

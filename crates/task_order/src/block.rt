@@ -1,0 +1,144 @@
+ghost use Rattle.std.specs.Prelude.{◌≡◌, ◌<◌, ◌≤◌, ◌-◌, Some, [], ◌∷◌, ◌++◌, length, take, drop, slice_get, IfOk, IfErr, IfSome, IfNone, OnOk, OnErr, IsTrue, ◌↔◌};
+ghost use Rattle.std.specs.List.{insert, remove};
+ghost use Rattle.std.specs.Map.Iter.{deref};
+ghost use Rattle.std.specs.Option.{option_map};
+ghost use Rattle.std.specs.VecDeque.Iter.{deque_iter_rest};
+ghost use Rattle.task_order.specs.Key.{key_cmp};
+ghost use Rattle.task_order.specs.TaskList.{IsAscending, tasks_before};
+ghost use Rattle.task_order.specs.Blocks.{starts_by, full_length};
+
+use crate::{Key, Task};
+use kdg_text::NoRoom;
+use std::alloc::Global;
+use std::collections::{VecDeque, vec_deque};
+use std::marker::Model;
+
+/// How many tasks a block has when it is full.
+const FULL: usize = 64;
+
+/// A part of a list of tasks.
+#[derive(Drop)]
+pub(crate) struct Block {
+    tasks: VecDeque<Task>,
+}
+
+impl Model for Block {
+    ghost use Rattle.std.specs.Prelude.{List};
+    ghost use Rattle.task_order.specs.declared.task.Task.{Task};
+
+    ghost Value = { List Task };
+
+    ghost view = { λ block. block.tasks.items };
+}
+
+impl Block {
+    /// A block with one task. Where memory runs out, the task comes back.
+    pub(crate) fn of(alloc: Global, task: Task) -> Result<Block, Task>
+        ensures ok { IfOk result (λ block. block ≡ task ∷ []) }
+        ensures returned { IfErr result (λ back. back ≡ task) }
+    {
+        let Ok(mut tasks) = VecDeque::with_capacity(alloc, FULL) else {
+            return Err(task);
+        };
+        match tasks.push_back(task) {
+            Ok(()) => Ok(Block { tasks }),
+            Err(failed) => Err(failed.value),
+        }
+    }
+
+    pub(crate) fn len(&self) -> usize
+        ensures { result ≡ length self.now }
+    {
+        self.tasks.len()
+    }
+
+    pub(crate) fn is_empty(&self) -> bool
+        ensures { IsTrue result ↔ (self.now ≡ []) }
+    {
+        self.tasks.is_empty()
+    }
+
+    pub(crate) fn is_full(&self) -> bool
+        ensures { IsTrue result ↔ (full_length ≤ length self.now) }
+    {
+        self.len() >= FULL
+    }
+
+    pub(crate) fn get(&self, place: usize) -> Option<&Task>
+        ensures { option_map deref result ≡ slice_get self.now place }
+    {
+        self.tasks.get(place)
+    }
+
+    pub(crate) fn last(&self) -> Option<&Task>
+        ensures last { IfSome result (λ task. slice_get self.now (length self.now - 1) ≡ Some task.now) }
+        ensures none { IfNone result (self.now ≡ []) }
+    {
+        self.tasks.back()
+    }
+
+    pub(crate) fn iter(&self) -> vec_deque::Iter<'_, Task>
+        ensures { deque_iter_rest result ≡ self.now }
+    {
+        self.tasks.iter()
+    }
+
+    /// How many of the tasks are earlier than the key.
+    pub(crate) fn rank(&self, key: &Key) -> usize
+        requires { IsAscending self.now }
+        ensures { result ≡ length (tasks_before key.now self.now) }
+    {
+        self.tasks
+            .partition_point(|task| task.key.compare(key).is_lt())
+    }
+
+    /// Whether the first task is not later than the key.
+    pub(crate) fn starts_by(&self, key: &Key) -> bool
+        ensures { result ≡ starts_by key.now self.now }
+    {
+        match self.tasks.front() {
+            Some(first) => first.key.compare(key).is_le(),
+            None => false,
+        }
+    }
+
+    /// Puts a task at a place. Where memory runs out, the task comes back.
+    pub(crate) fn insert(&mut self, place: usize, task: Task) -> Result<(), Task>
+        requires { place ≤ length self.old }
+        ensures ok { OnOk result (self.new ≡ insert self.old place task) }
+        ensures returned { IfErr result (λ back. back ≡ task) }
+        ensures unchanged { OnErr result (self.new ≡ self.old) }
+    {
+        self.tasks.insert(place, task).map_err(|failed| failed.value)
+    }
+
+    /// Takes the task at a place out.
+    pub(crate) fn remove(&mut self, place: usize) -> Task
+        requires { place < length self.old }
+        ensures task { slice_get self.old place ≡ Some result }
+        ensures left { self.new ≡ remove self.old place }
+    {
+        match self.tasks.remove(place) {
+            Some(task) => task,
+            None => unreachable!(),
+        }
+    }
+
+    pub(crate) fn take_first(&mut self) -> Option<Task>
+        ensures first { IfSome result (λ task. self.old ≡ task ∷ self.new) }
+        ensures empty { IfNone result ((self.old ≡ []) × (self.new ≡ [])) }
+    {
+        self.tasks.pop_front()
+    }
+
+    /// Cuts the tasks from a place on off.
+    pub(crate) fn split_off(&mut self, place: usize) -> Result<Block, NoRoom>
+        requires { place ≤ length self.old }
+        ensures ok { OnOk result (self.new ≡ take place self.old) }
+        ensures rest { IfOk result (λ rest. rest ≡ drop place self.old) }
+        ensures unchanged { OnErr result (self.new ≡ self.old) }
+    {
+        let tasks = self.tasks.split_off(place)?;
+        Ok(Block { tasks })
+    }
+}

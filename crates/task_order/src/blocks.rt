@@ -1,0 +1,336 @@
+ghost use Rattle.std.specs.Prelude.{◌≡◌, ◌+◌, ◌<◌, ◌≤◌, ◌⊎◌, ◌^◌, suc, true, false, [], ◌∷◌, ◌++◌, length, take, drop, slice_get, IfOk, IfErr, Some, IfSome, IfNone, OnOk, OnErr, slice_set};
+ghost use Rattle.std.specs.Bool.{OnTrue};
+ghost use Rattle.std.specs.List.{AllByRecursion, insert, remove};
+ghost use Rattle.std.specs.List.Sorted.{IsPartitionPoint};
+ghost use Rattle.std.specs.Iterator.{at_most};
+ghost use Rattle.std.specs.Map.Iter.{deref, TakesFirst};
+ghost use Rattle.std.specs.Option.{option_map};
+ghost use Rattle.task_order.specs.Blocks.{tasks_in, starts_by, block_at, IsFilled, IsGapless, IsPlace, IsFound, IsInFull, IsBehindFull};
+ghost use Rattle.task_order.specs.TaskList.{IsAscending, IsNewKey, put_in, tasks_before, without};
+
+use crate::block::Block;
+use crate::{Key, Task};
+use kdg_text::NoRoom;
+use std::alloc::Global;
+use std::collections::{VecDeque, vec_deque};
+use std::marker::Model;
+
+/// How many tasks stay in a full block that is cut in two, at least.
+const HALF: usize = 32;
+
+/// The blocks of a list of tasks, in order.
+#[derive(Drop)]
+pub(crate) struct Blocks {
+    blocks: VecDeque<Block>,
+}
+
+impl Model for Blocks {
+    ghost use Rattle.std.specs.Prelude.{List};
+    ghost use Rattle.task_order.specs.declared.task.Task.{Task};
+
+    ghost Value = { List (List Task) };
+
+    ghost view = { λ blocks. blocks.blocks.items };
+}
+
+impl Blocks {
+    pub(crate) fn new(alloc: Global) -> Blocks
+        ensures { result ≡ [] }
+    {
+        Blocks {
+            blocks: VecDeque::new(alloc),
+        }
+    }
+
+    /// Where a key belongs: which block, and before how many of its tasks.
+    pub(crate) fn place_of(&self, key: &Key) -> (usize, usize)
+        requires ascending { IsAscending (tasks_in self.now) }
+        requires gapless { IsGapless self.now }
+        ensures { IsPlace key.now self.now result.0 result.1 }
+    {
+        match self.started_by(key).checked_sub(1) {
+            Some(at) => (at, self.blocks[at].rank(key)),
+            None => (0, 0),
+        }
+    }
+
+    /// How many blocks have a first task that is not later than the key.
+    fn started_by(&self, key: &Key) -> usize
+        requires ascending { IsAscending (tasks_in self.now) }
+        requires gapless { IsGapless self.now }
+        ensures bound { result ≤ length self.now }
+        ensures point { IsPartitionPoint (λ block. starts_by key.now block ≡ true) (λ block. starts_by key.now block ≡ false) self.now result }
+    {
+        self.blocks.partition_point(|block| block.starts_by(key))
+    }
+
+    /// Whether a place lies in a full block.
+    fn is_in_full(&self, at: usize, place: usize) -> bool
+        ensures { OnTrue result (IsInFull self.now at place) }
+    {
+        match self.blocks.get(at) {
+            Some(block) => block.is_full() && place < block.len(),
+            None => false,
+        }
+    }
+
+    /// Whether a place is the end of a full block.
+    fn is_behind_full(&self, at: usize, place: usize) -> bool
+        ensures { OnTrue result (IsBehindFull self.now at place) }
+    {
+        match self.blocks.get(at) {
+            Some(block) => block.is_full() && place == block.len(),
+            None => false,
+        }
+    }
+
+    /// Where a key belongs, once a full block that it would come into is cut in two.
+    fn make_place(&mut self, key: &Key) -> Result<(usize, usize), NoRoom>
+        requires ascending { IsAscending (tasks_in self.old) }
+        requires gapless { IsGapless self.old }
+        ensures place { IfOk result (λ found. IsPlace key.now self.new found.0 found.1) }
+        ensures tasks { tasks_in self.new ≡ tasks_in self.old }
+        ensures gapless { IsGapless self.new }
+    {
+        let (at, place) = self.place_of(key);
+        if !self.is_in_full(at, place) {
+            return Ok((at, place));
+        }
+        self.split(at, place.max(HALF))?;
+        Ok(self.place_of(key))
+    }
+
+    /// Puts a task into a block.
+    fn insert_into(&mut self, at: usize, place: usize, task: Task) -> Result<(), Task>
+        requires at { at < length self.old }
+        requires place { place ≤ length (block_at self.old at) }
+        ensures ok { OnOk result (self.new ≡ slice_set self.old at (insert (block_at self.old at) place task)) }
+        ensures returned { IfErr result (λ back. back ≡ task) }
+        ensures unchanged { OnErr result (self.new ≡ self.old) }
+    {
+        self.blocks[at].insert(place, task)
+    }
+
+    /// Puts a task at its place, in a new block where it comes behind a full one.
+    fn insert_at(&mut self, at: usize, place: usize, task: Task) -> Result<(), Task>
+        requires gapless { IsGapless self.old }
+        requires place { IsPlace task.key self.old at place }
+        ensures ok { OnOk result (tasks_in self.new ≡ put_in task (tasks_in self.old)) }
+        ensures returned { IfErr result (λ back. back ≡ task) }
+        ensures unchanged { OnErr result (self.new ≡ self.old) }
+        ensures gapless { IsGapless self.new }
+    {
+        if self.blocks.is_empty() {
+            self.insert_block(0, task)
+        } else if self.is_behind_full(at, place) {
+            self.insert_block(at + 1, task)
+        } else {
+            self.insert_into(at, place, task)
+        }
+    }
+
+    /// Puts a task where its key belongs.
+    pub(crate) fn insert(&mut self, task: Task) -> Result<(), Task>
+        requires ascending { IsAscending (tasks_in self.old) }
+        requires gapless { IsGapless self.old }
+        ensures ok { OnOk result (tasks_in self.new ≡ put_in task (tasks_in self.old)) }
+        ensures returned { IfErr result (λ back. back ≡ task) }
+        ensures unchanged { OnErr result (tasks_in self.new ≡ tasks_in self.old) }
+        ensures gapless { IsGapless self.new }
+    {
+        match self.make_place(&task.key) {
+            Ok((at, place)) => self.insert_at(at, place, task),
+            Err(_) => Err(task),
+        }
+    }
+
+    fn block_len(&self, at: usize) -> usize
+        requires { at < length self.now }
+        ensures { result ≡ length (block_at self.now at) }
+    {
+        self.blocks[at].len()
+    }
+
+    fn remove_block(&mut self, at: usize)
+        requires { at < length self.old }
+        ensures { self.new ≡ remove self.old at }
+    {
+        let _ = self.blocks.remove(at);
+    }
+
+    /// Takes a task out of a block.
+    fn remove_from(&mut self, at: usize, place: usize) -> Task
+        requires at { at < length self.old }
+        requires place { place < length (block_at self.old at) }
+        ensures task { slice_get (block_at self.old at) place ≡ Some result }
+        ensures left { self.new ≡ slice_set self.old at (remove (block_at self.old at) place) }
+    {
+        self.blocks[at].remove(place)
+    }
+
+    /// Drops a block that is empty, unless it is the only one.
+    fn drop_empty(&mut self, at: usize)
+        requires at { at < length self.old }
+        requires others { (length self.old ≤ 1) ⊎ AllByRecursion IsFilled (remove self.old at) }
+        ensures tasks { tasks_in self.new ≡ tasks_in self.old }
+        ensures gapless { IsGapless self.new }
+    {
+        if self.blocks.len() > 1 && self.block_len(at) == 0 {
+            self.remove_block(at);
+        }
+    }
+
+    /// The place of the task with this key, where there is one.
+    pub(crate) fn find(&self, key: &Key) -> Option<(usize, usize)>
+        requires ascending { IsAscending (tasks_in self.now) }
+        requires gapless { IsGapless self.now }
+        ensures found { IfSome result (λ found. IsFound key.now self.now found.0 found.1) }
+        ensures absent { IfNone result (IsNewKey key.now (tasks_in self.now)) }
+    {
+        let (at, place) = self.place_of(key);
+        match self.get(at, place) {
+            Some(task) if task.key.compare(key).is_eq() => Some((at, place)),
+            _ => None,
+        }
+    }
+
+    /// Takes the task with this key out, where it was found.
+    pub(crate) fn remove(&mut self, at: usize, place: usize) -> Task
+        requires ascending { IsAscending (tasks_in self.old) }
+        requires gapless { IsGapless self.old }
+        requires inside { at < length self.old }
+        requires place { place < length (block_at self.old at) }
+        ensures task { slice_get (block_at self.old at) place ≡ Some result }
+        ensures left { tasks_in self.new ≡ without result.key (tasks_in self.old) }
+        ensures gapless { IsGapless self.new }
+    {
+        let task = self.remove_from(at, place);
+        self.drop_empty(at);
+        task
+    }
+
+    /// Takes the first task out.
+    pub(crate) fn take_first(&mut self) -> Option<Task>
+        requires { IsGapless self.old }
+        ensures first { IfSome result (λ task. tasks_in self.old ≡ task ∷ tasks_in self.new) }
+        ensures empty { IfNone result (tasks_in self.old ≡ []) }
+        ensures unchanged { IfNone result (self.new ≡ self.old) }
+        ensures gapless { IsGapless self.new }
+    {
+        if self.blocks.is_empty() {
+            return None;
+        }
+        let task = self.blocks[0].take_first()?;
+        self.drop_empty(0);
+        Some(task)
+    }
+
+    /// How many tasks are earlier than the key.
+    pub(crate) fn rank(&self, key: &Key) -> usize
+        requires ascending { IsAscending (tasks_in self.now) }
+        requires gapless { IsGapless self.now }
+        requires small { length (tasks_in self.now) < 2 ^ 63 }
+        ensures { result ≡ length (tasks_before key.now (tasks_in self.now)) }
+    {
+        let (at, place) = self.place_of(key);
+        let mut rank = place;
+        for i in 0..at {
+            rank += self.block_len(i);
+        }
+        rank
+    }
+
+    /// The first task.
+    pub(crate) fn first(&self) -> Option<&Task>
+        requires { IsGapless self.now }
+        ensures { option_map deref result ≡ slice_get (tasks_in self.now) 0 }
+    {
+        self.get(0, 0)
+    }
+
+    /// The task at a place of a block.
+    pub(crate) fn get(&self, at: usize, place: usize) -> Option<&Task>
+        ensures { option_map deref result ≡ slice_get (block_at self.now at) place }
+    {
+        self.blocks.get(at)?.get(place)
+    }
+
+    /// Makes a new block for a task.
+    fn insert_block(&mut self, at: usize, task: Task) -> Result<(), Task>
+        requires { at ≤ length self.old }
+        ensures ok { OnOk result (self.new ≡ insert self.old at (task ∷ [])) }
+        ensures returned { IfErr result (λ back. back ≡ task) }
+        ensures unchanged { OnErr result (self.new ≡ self.old) }
+    {
+        let block = Block::of(*self.blocks.allocator(), task)?;
+        match self.blocks.insert(at, block) {
+            Ok(()) => Ok(()),
+            Err(mut failed) => match failed.value.take_first() {
+                Some(task) => Err(task),
+                None => unreachable!(),
+            },
+        }
+    }
+
+    /// Cuts a block in two.
+    fn split(&mut self, at: usize, place: usize) -> Result<(), NoRoom>
+        requires at { at < length self.old }
+        requires place { place ≤ length (block_at self.old at) }
+        ensures ok { OnOk result (self.new ≡ take at self.old ++ take place (block_at self.old at) ∷ drop place (block_at self.old at) ∷ drop (at + 1) self.old) }
+        ensures unchanged { OnErr result (self.new ≡ self.old) }
+    {
+        self.blocks.reserve(1)?;
+        let rest = self.blocks[at].split_off(place)?;
+        match self.blocks.insert(at + 1, rest) {
+            Ok(()) => Ok(()),
+            Err(_) => unreachable!(),
+        }
+    }
+
+    pub(crate) fn iter(&self) -> Tasks<'_>
+        ensures { result ≡ tasks_in self.now }
+    {
+        Tasks {
+            tasks: None,
+            blocks: self.blocks.iter(),
+        }
+    }
+}
+
+/// The tasks of a list, in order, seen as the list of those that are left.
+#[derive(Drop)]
+pub struct Tasks<'a> {
+    tasks: Option<vec_deque::Iter<'a, Task>>,
+    blocks: vec_deque::Iter<'a, Block>,
+}
+
+impl<'a> Model for Tasks<'a> {
+    ghost use Rattle.std.specs.Prelude.{List, ◌++◌};
+    ghost use Rattle.std.specs.VecDeque.Iter.{deque_iter_rest};
+    ghost use Rattle.task_order.specs.declared.task.Task.{Task};
+    ghost use Rattle.task_order.specs.Blocks.{tasks_in};
+    ghost use Rattle.task_order.specs.Left.{tasks_left};
+
+    ghost Value = { List Task };
+
+    ghost view = { λ tasks. tasks_left tasks.tasks ++ tasks_in (deque_iter_rest tasks.blocks) };
+}
+
+impl<'a> Iterator for Tasks<'a> {
+    type Item = &'a Task;
+
+    ghost next_gives = { TakesFirst deref };
+
+    ghost remaining = { λ tasks. at_most (length tasks) };
+
+    fn next(&mut self) -> Option<&'a Task> {
+        loop {
+            if let Some(tasks) = &mut self.tasks {
+                if let Some(task) = tasks.next() {
+                    return Some(task);
+                }
+            }
+            self.tasks = Some(self.blocks.next()?.iter());
+        }
+    }
+}
