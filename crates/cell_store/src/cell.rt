@@ -50,6 +50,7 @@ impl<V: Held> Cell<V> {
 }
 
 /// What `Store::peek` finds.
+#[derive(Clone, Copy, Debug, PartialEq, Eq, Drop)]
 pub enum Seen<'a, V> {
     /// The value of the cell.
     At(&'a V),

@@ -19,16 +19,6 @@ fn write_first_read_second(alloc: Global) -> Result<RwSet, NoRoom>
     Ok(set)
 }
 
-// What is home at a location, and `None` where the value is out.
-fn home<V: Held>(store: &Store<V>, loc: u32) -> Result<Option<V>, NoRoom>
-    requires { loc < length store.now }
-{
-    match store.peek(loc) {
-        Seen::At(value) => Ok(Some(value.copy()?)),
-        Seen::Out => Ok(None),
-    }
-}
-
 // A store of 10, 20 and 30 from which the first value was moved out and the second copied.
 fn taken(alloc: Global) -> Result<(Store<u64>, Bundle<u64>), NoRoom>
     ensures store { IfOk result (λ pair. pair.0 ≡ Out ∷ Home 20 ∷ Home 30 ∷ []) }
@@ -44,9 +34,10 @@ fn taken(alloc: Global) -> Result<(Store<u64>, Bundle<u64>), NoRoom>
 fn takes(rt: HostRuntime) -> Result<(), Fail> {
     let (store, bundle) = taken(rt.alloc())?;
     assert_eq!(rt; (*bundle.get(0), *bundle.get(1)), (10, 20));
+    assert_eq!(rt; store.peek(0), Seen::Out);
     assert_eq!(rt;
-        (home(&store, 0)?, home(&store, 1)?, home(&store, 2)?),
-        (None, Some(20), Some(30))
+        (store.peek(1), store.peek(2)),
+        (Seen::At(&20), Seen::At(&30))
     );
     assert_eq!(rt; store.len(), 3);
     Ok(())
@@ -57,20 +48,20 @@ fn gives_and_regains(rt: HostRuntime) -> Result<(), Fail> {
     let (mut store, mut bundle) = taken(rt.alloc())?;
     *bundle.get_mut(0) = 11;
     let shell = store.give(bundle);
-    assert_eq!(rt; home(&store, 0)?, Some(11));
+    assert_eq!(rt; store.peek(0), Seen::At(&11));
     let bundle = store.regain(shell);
-    assert_eq!(rt; home(&store, 0)?, None);
+    assert_eq!(rt; store.peek(0), Seen::Out);
     assert_eq!(rt; *bundle.get(0), 11);
     Ok(())
 }
 
 // Takes a set and gives it back with another value at one location.
-fn rewrite<V: Held>(store: &mut Store<V>, set: &RwSet, loc: u32, value: V) -> Result<(), NoRoom>
-    requires home { AreHome store.old set.now }
-    requires writes { IsTrue (writes set.now loc) }
+fn rewrite<V: Held>(store: &mut Store<V>, set: RwSet, loc: u32, value: V) -> Result<(), NoRoom>
+    requires home { AreHome store.old set }
+    requires writes { IsTrue (writes set loc) }
     ensures { length store.new ≡ length store.old }
 {
-    let mut bundle = store.take(set)?;
+    let mut bundle = store.take_owned(set)?;
     *bundle.get_mut(loc) = value;
     let _ = store.give(bundle);
     Ok(())
@@ -81,9 +72,11 @@ fn serves_bytes_through_the_bound(rt: HostRuntime) -> Result<(), Fail> {
     let alloc = rt.alloc();
     let set = write_first_read_second(alloc)?;
     let mut store = Store::new(alloc, vec![in alloc; 1u8, 2]?)?;
-    rewrite(&mut store, &set, 0, 9)?;
-    assert_eq!(rt; home(&store, 0)?, Some(9));
-    assert_eq!(rt; home(&store, 1)?, Some(2));
+    rewrite(&mut store, set, 0, 9)?;
+    assert_eq!(rt;
+        (store.peek(0), store.peek(1)),
+        (Seen::At(&9), Seen::At(&2))
+    );
     Ok(())
 }
 
