@@ -1,5 +1,7 @@
 pub mod Locations
 pub mod Parts
+mod Stored
+mod Copies
 mod Exchanges
 mod Moves
 mod Returns

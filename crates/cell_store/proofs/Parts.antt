@@ -1,7 +1,7 @@
 -- What the cells have at a location after a part is taken or given, and what such parts are.
-use Rattle.std.proofs.Common.{◌≡◌, ℕ, zero, suc, ◌+◌, ◌<◌, Bool, true, false, cond, List, [], ◌∷◌, length, map, get_or, take, ◌++◌, Option, Some, None, IsSome, IsTrue, refl, sym, ap, ◌∙◌, subst, inl, inr, arith}
+use Rattle.std.proofs.Common.{◌≡◌, ℕ, zero, suc, ◌+◌, ◌<◌, Bool, true, false, cond, List, [], ◌∷◌, length, map, Option, Some, None, IsSome, IsTrue, refl, sym, ap, ◌∙◌, subst, inl, inr, arith}
 use Rattle.std.proofs.lemmas.Bool.{cases_lt, cases_eq, cases_Bool, false≢true}
-use Rattle.std.proofs.lemmas.List.{get_or_past, ext_get_or, length-map, take-append-le, take_all, take_more, map-append}
+use Rattle.std.proofs.lemmas.List.{get_or_past, ext_get_or, length-map}
 use Rattle.rw_sets.specs.declared.access.Access.{Access}
 use Rattle.rw_sets.specs.declared.access.Access.TheVariants.{Read, Write}
 use Rattle.rw_sets.specs.Accesses.{Accesses, IsAscending, access_at, allows_write, writes}
@@ -144,10 +144,6 @@ module _ {V : Type 0} where
   pub given_leaves_shell : (cells : List (Cell V)) (part : Part V) → IsBundle part → AreWrittenOut cells part.set → with_written (cell_at cells) part.set part.cells ≡ with_written (λ _. Out) part.set part.cells
   given_leaves_shell cells part h out = with_written_same (cell_at cells) (λ _. Out) part.set part.cells h.is_part.ascending (λ loc written. (out loc written).1)
 
-  -- the elements of a vector that was written as a slice
-  pub whole_items : (n : ℕ) (xs ys : List (Cell V)) → n ≡ length xs → take n (xs ++ ys) ≡ xs
-  whole_items n xs ys e = take-append-le n xs ys (omega arith) ∙ take_all n xs (omega arith)
-
   -- the locations that are exchanged are cells
   pub out_in_range : (cells : List (Cell V)) (ps : Accesses) → AreWrittenOut cells ps → (loc : ℕ) → IsTrue (writes ps loc) → loc < length cells
   out_in_range cells ps out loc written = (out loc written).0
@@ -157,22 +153,6 @@ module _ {V : Type 0} where
 
   pub written_home : (cells : List (Cell V)) (ps : Accesses) → AreHome cells ps → AreWrittenHome cells ps
   written_home cells ps home loc written = home loc (has_from_writes ps loc written)
-
-  -- the copies so far, and one more
-  pub copies_more : (cells : List (Cell V)) (ps : Accesses) (i : ℕ) (copies copies' : List (Cell V)) (cell : Cell V) → i < length ps → copies ≡ map (read_copy cells) (take i ps) → copies' ≡ copies ++ cell ∷ [] → cell ≡ read_copy cells (get_or ps i (0, Read)) → copies' ≡ map (read_copy cells) (take (i + 1) ps)
-  copies_more cells ps i copies copies' cell lt so-far pushed e = rw (pushed, so-far, e, take_more ps i (0, Read) lt, map-append) refl
-
-  read_copy_is : (cells : List (Cell V)) (p : ℕ × Access) → p.1 ≡ Read → read_copy cells p ≡ cell_at cells p.0
-  read_copy_is cells (n, Read) e = refl
-  read_copy_is cells (n, Write) e = absurd cc
-
-  -- what is copied of a cell that is read, and of one that is written
-  pub copied_read : (cells : List (Cell V)) (ps : Accesses) (i : ℕ) (cell : Cell V) → (get_or ps i (0, Read)).1 ≡ Read → cell ≡ cell_at cells (get_or ps i (0, Read)).0 → cell ≡ read_copy cells (get_or ps i (0, Read))
-  copied_read cells ps i cell read e = e ∙ sym (read_copy_is cells (get_or ps i (0, Read)) read)
-
-  pub copied_write : (cells : List (Cell V)) (p : ℕ × Access) → p.1 ≡ Write → Out ≡ read_copy cells p
-  copied_write cells (n, Read) e = absurd cc
-  copied_write cells (n, Write) e = refl
 
   -- after a bundle is given, its written cells are home
   pub given_leaves_home : (cells : List (Cell V)) (bundle : Part V) → IsBundle bundle → AreWrittenOut cells bundle.set → AreWrittenHome (cells_given cells bundle) bundle.set

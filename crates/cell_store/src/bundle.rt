@@ -5,7 +5,7 @@ ghost use Rattle.cell_store.specs.declared.cell.Cell.TheVariants.{Home};
 ghost use Rattle.cell_store.specs.Cells.{cell_in, IsBundle};
 ghost use Rattle.cell_store.specs.Lends.{LendsValue};
 
-use crate::cell::Cell;
+use crate::cell_list::CellList;
 use rw_sets::RwSet;
 use std::marker::Model;
 
@@ -13,7 +13,7 @@ use std::marker::Model;
 #[derive(Drop)]
 pub struct Bundle<V> {
     pub(crate) set: RwSet,
-    pub(crate) cells: Vec<Cell<V>>,
+    pub(crate) cells: CellList<V>,
 }
 
 impl<V> Model for Bundle<V> {
@@ -22,10 +22,11 @@ impl<V> Model for Bundle<V> {
     ghost Value = { Part V };
 
     ghost use Rattle.cell_store.specs.Cells.{IsBundle};
+    ghost use Rattle.cell_store.specs.Storage.{cells_of};
 
-    ghost view = { λ b. record { set = b.set; cells = b.cells.items } };
+    ghost view = { λ b. record { set = b.set; cells = cells_of b.cells } };
 
-    ghost invariant = { λ b. IsBundle (record { set = b.set; cells = b.cells.items }) };
+    ghost invariant = { λ b. IsBundle (record { set = b.set; cells = cells_of b.cells }) };
 }
 
 impl<V> Bundle<V> {
@@ -36,7 +37,7 @@ impl<V> Bundle<V> {
         ensures whole { IsBundle self.now }
     {
         match self.set.position_of(loc) {
-            Some(at) => self.cells[at].value(),
+            Some(at) => self.cells.at(at).value(),
             None => unreachable!(),
         }
     }
@@ -48,7 +49,7 @@ impl<V> Bundle<V> {
         ensures value { cell_in self.old loc ≡ Home result.now }
     {
         match self.set.position_of(loc) {
-            Some(at) => self.cells[at].value_mut(),
+            Some(at) => self.cells.at_mut(at).value_mut(),
             None => unreachable!(),
         }
     }
@@ -58,7 +59,7 @@ impl<V> Bundle<V> {
 #[derive(Drop)]
 pub struct Shell<V> {
     pub(crate) set: RwSet,
-    pub(crate) cells: Vec<Cell<V>>,
+    pub(crate) cells: CellList<V>,
 }
 
 impl<V> Model for Shell<V> {
@@ -67,8 +68,9 @@ impl<V> Model for Shell<V> {
     ghost Value = { Part V };
 
     ghost use Rattle.cell_store.specs.Cells.{IsShell};
+    ghost use Rattle.cell_store.specs.Storage.{cells_of};
 
-    ghost view = { λ s. record { set = s.set; cells = s.cells.items } };
+    ghost view = { λ s. record { set = s.set; cells = cells_of s.cells } };
 
-    ghost invariant = { λ s. IsShell (record { set = s.set; cells = s.cells.items }) };
+    ghost invariant = { λ s. IsShell (record { set = s.set; cells = cells_of s.cells }) };
 }

@@ -3,7 +3,9 @@
 
 mod bundle;
 mod cell;
+mod cell_list;
 mod exchange;
+mod few_cells;
 mod held;
 mod laws;
 mod store;

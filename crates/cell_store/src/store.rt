@@ -2,10 +2,12 @@ ghost use Rattle.std.specs.Prelude.{◌≡◌, ℕ, ◌<◌, ◌^◌, length, ma
 ghost use Rattle.rw_sets.specs.Accesses.{IsAscending, writes};
 ghost use Rattle.cell_store.specs.declared.cell.Cell.TheVariants.{Home};
 ghost use Rattle.cell_store.specs.Home.{cell_seen};
+ghost use Rattle.cell_store.specs.Storage.{cells_of};
 ghost use Rattle.cell_store.specs.Cells.{cell_at, AreHome, AreWrittenHome, AreWrittenOut, IsBundle, part_of, cells_taken, cells_given, shell_of, bundle_of, read_copy, with_written};
 
 use crate::bundle::{Bundle, Shell};
 use crate::cell::{Cell, Seen};
+use crate::cell_list::{CellList, cells_out};
 use crate::exchange::exchange;
 use crate::held::Held;
 use kdg_text::NoRoom;
@@ -114,28 +116,28 @@ impl<V: Held> Store<V> {
     }
 
     // Exchanges the cells that a set writes with those that are held in the order of the set.
-    fn exchange(&mut self, set: &[(u32, Access)], held: &mut Vec<Cell<V>>)
+    fn exchange(&mut self, set: &[(u32, Access)], held: &mut CellList<V>)
         requires ascending { IsAscending set.now }
-        requires one_each { length held.old.items ≡ length set.now }
+        requires one_each { length (cells_of held.old) ≡ length set.now }
         requires in_range { (loc : ℕ) → IsTrue (writes set.now loc) → loc < length self.old }
-        ensures home { self.new ≡ cells_given self.old (record { set = set.now; cells = held.old.items }) }
-        ensures held { held.new.items ≡ with_written (cell_at self.old) set.now held.old.items }
+        ensures home { self.new ≡ cells_given self.old (record { set = set.now; cells = cells_of held.old }) }
+        ensures held { cells_of held.new ≡ with_written (cell_at self.old) set.now (cells_of held.old) }
     {
         exchange(&mut self.cells, set, held);
     }
 }
 
 // A copy of each cell of a set that it only reads, and an empty cell for each that it writes.
-fn read_copies<V: Held>(cells: &Vec<Cell<V>>, set: &[(u32, Access)]) -> Result<Vec<Cell<V>>, NoRoom>
+fn read_copies<V: Held>(cells: &Vec<Cell<V>>, set: &[(u32, Access)]) -> Result<CellList<V>, NoRoom>
     requires { AreHome cells.now.items set.now }
-    ensures { IfOk result (λ copies. copies.items ≡ map (read_copy cells.now.items) set.now) }
+    ensures { IfOk result (λ copies. cells_of copies ≡ map (read_copy cells.now.items) set.now) }
 {
-    let mut copies = Vec::with_capacity(*cells.allocator(), set.len())?;
-    for (loc, access) in set {
-        copies.push(match access {
-            Access::Read => cells[*loc as usize].copy()?,
-            Access::Write => Cell::Out,
-        })?;
+    let mut copies = cells_out(*cells.allocator(), set.len())?;
+    for (i, (loc, access)) in set.iter().enumerate() {
+        if !access.is_write() {
+            let copy = cells[*loc as usize].copy()?;
+            *copies.at_mut(i) = copy;
+        }
     }
     Ok(copies)
 }

@@ -1,8 +1,9 @@
+use Rattle.cell_store.specs.Storage.{cells_of}
 use Rattle.cell_store.proofs.Moves.{IsRegain, is_regain}
 use Rattle.cell_store.proofs.store.Store.regain.Given.{Over}
 use Rattle.cell_store.proofs.store.Store.regain.Goals as goal
 
-regained : (g : Over) (c : goal.After-exchange g) → IsRegain c.args.self.now (record { set = c.shell.inside.set; cells = c.shell.inside.cells.items }) c.exchange.new.self c.exchange.new.held.items
+regained : (g : Over) (c : goal.After-exchange g) → IsRegain c.args.self.now (record { set = c.shell.inside.set; cells = cells_of c.shell.inside.cells }) c.exchange.new.self (cells_of c.exchange.new.held)
 regained g c =
     let exchanged = rw c.items.ensures.all at c.exchange.ensures in
     is_regain _ _ _ _ c.shell.invariant (rw (← c.shell.view_is) at c.requires) (record { home = exchanged.home; held = exchanged.held })

@@ -1,0 +1,54 @@
+ghost use Rattle.std.specs.Prelude.{◌≡◌, ◌<◌, length, replicate, slice_index_or, IfOk};
+ghost use Rattle.std.specs.Borrow.{sem};
+ghost use Rattle.cell_store.specs.declared.cell.Cell.TheVariants.{Out};
+ghost use Rattle.cell_store.specs.Storage.{cells_of};
+ghost use Rattle.cell_store.specs.StorageLends.{LendsCell};
+
+use crate::cell::Cell;
+use crate::few_cells::{FEW, FewCells};
+use kdg_text::NoRoom;
+use std::alloc::Global;
+
+// Cells in the order of a set: in place while they are few, so that a small bundle takes no memory.
+#[derive(Drop)]
+pub(crate) enum CellList<V> {
+    InPlace(FewCells<V>),
+    InMemory(Vec<Cell<V>>),
+}
+
+impl<V> CellList<V> {
+    pub(crate) fn at(&self, i: usize) -> &Cell<V>
+        requires { i < length (cells_of self.now) }
+        ensures { result.now ≡ slice_index_or (cells_of self.now) i result.now }
+    {
+        match self {
+            CellList::InPlace(few) => few.at(i),
+            CellList::InMemory(cells) => &cells[i],
+        }
+    }
+
+    pub(crate) fn at_mut(&mut self, i: usize) -> &mut Cell<V>
+        requires { i < length (cells_of self.old) }
+        ensures* lends { sem 𝓛 (LendsCell V.row self.entry i result) }
+        ensures value { result.now ≡ slice_index_or (cells_of self.old) i result.now }
+    {
+        match self {
+            CellList::InPlace(few) => few.at_mut(i),
+            CellList::InMemory(cells) => &mut cells[i],
+        }
+    }
+}
+
+// So many cells, all out.
+pub(crate) fn cells_out<V: Drop>(alloc: Global, len: usize) -> Result<CellList<V>, NoRoom>
+    ensures { IfOk result (λ cells. cells_of cells ≡ replicate len Out) }
+{
+    if len <= FEW {
+        return Ok(CellList::InPlace(FewCells::outs(len)));
+    }
+    let mut cells = Vec::with_capacity(alloc, len)?;
+    for _ in 0..len {
+        cells.push(Cell::Out)?;
+    }
+    Ok(CellList::InMemory(cells))
+}
