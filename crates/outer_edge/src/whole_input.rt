@@ -1,5 +1,6 @@
 ghost use Rattle.outer_edge.specs.declared.whole_input.ReadAllFault.TheVariants as refusals;
-ghost use Rattle.std.specs.Prelude.{◌≡◌, ◌+◌, ◌<◌, ◌≤◌};
+ghost use Rattle.std.specs.Prelude.{◌≡◌, ◌+◌, ◌<◌, ◌≤◌, length};
+ghost use Rattle.outer_edge.specs.Reading.{CountsFailedRead, ReadGives};
 ghost use Rattle.outer_edge.specs.Transfers.{ReadsAll, transfer_of};
 
 use crate::{Pull, Source};
@@ -52,8 +53,7 @@ pub fn read_all_counted<S: Source, L: Ledger>(
     let mut text = Text::new(alloc);
     let mut buffer = [0; BUFFER_LEN];
     loop {
-        steps.tick();
-        match source.read(&mut buffer) {
+        match counted_read(source, &mut buffer, steps) {
             Pull::Got(count) if count as u64 > limit - text.len() as u64 => {
                 return Err(ReadAllFault::TooLarge);
             }
@@ -62,6 +62,22 @@ pub fn read_all_counted<S: Source, L: Ledger>(
             Pull::Failed => return Err(ReadAllFault::ReadFault),
         }
     }
+}
+
+/// One read, which is one step.
+fn counted_read<S: Source, L: Ledger>(
+    source: &mut S,
+    buffer: &mut [u8],
+    steps: &mut Steps<L>,
+) -> Pull
+    requires { 0 < length buffer.old }
+    ensures bytes { ReadGives (S.remaining source.old) (S.remaining source.new) buffer.new result }
+    ensures counts { CountsFailedRead (S.faults source.old) (S.faults source.new) result }
+    ensures never_falls { S.faults source.old ≤ S.faults source.new }
+    ensures step { steps.new ≡ steps.old + 1 }
+{
+    steps.tick();
+    source.read(buffer)
 }
 
 /// `read_all`, with a count that begins here and that nobody looks at.

@@ -8,8 +8,8 @@ pub returns-in-Got-clause-reads_all : goal.returns-in-Got-clause-reads_all
 returns-in-Got-clause-reads_all g c =
     let i = c.loop-count.invariant in
     let got = c.in-Got.ensures.bytes in
-    let more : BringsMore c.args.limit (transfer_of g.S.Source.remaining g.S.Source.faults c.args.source.now c.read.new.self) = (
-      c.loop-count.text ++ take c.in-Got.count c.read.new.buf,
+    let more : BringsMore c.args.limit (transfer_of g.S.Source.remaining g.S.Source.faults c.args.source.now c.counted_read.new.source) = (
+      c.loop-count.text ++ take c.in-Got.count c.counted_read.new.buffer,
       grind (arith, common_steps, c.if-count-limit.true, c.len.ensures, i.within, got.1),
       Consumes-append _ _ _ _ _ i.came got.2,
     ) in
