@@ -1,9 +1,10 @@
 -- Which nodes are there after nodes were put in, and after a rewrite.
-use Rattle.std.proofs.Common.{◌≡◌, ◌≢◌, ◌⊎◌, inl, inr, Bool, true, false, not, cond, List, [], ◌∷◌, length, Some, refl, sym, ◌∙◌, ap, subst, arith}
-use Rattle.std.specs.Prelude.{Contains, IsSome}
+use Rattle.std.proofs.Common.{◌≡◌, ◌≢◌, ◌⊎◌, inl, inr, Bool, true, false, not, cond, List, [], ◌∷◌, length, Option, Some, None, refl, sym, ◌∙◌, ap, subst, arith}
+use Rattle.std.specs.Prelude.{Contains, IfNone, IfSome, IsSome}
 use Rattle.std.specs.Option.{option_map}
 use Rattle.std.specs.Ordering.{is_lt}
 use Rattle.std.proofs.lemmas.Bool.{cond_both, true≢false}
+use Rattle.task_order.specs.declared.key.Key.{Key}
 use Rattle.task_order.specs.Key.{IsExactOrder, key_cmp}
 use Rattle.task_order.specs.Laws.{WithoutMakesNew}
 use Rattle.task_order.specs.TaskList.{IsNewKey, put_all, without as tasks_without_key}
@@ -11,14 +12,14 @@ use Rattle.kdg_graph.specs.declared.node_id.NodeId.{NodeId}
 use Rattle.kdg_graph.specs.declared.change.SetChange.{SetChange}
 use Rattle.kdg_graph.specs.declared.change.Fresh.{Fresh}
 use Rattle.kdg_graph.specs.Node.{Node, new_node}
-use Rattle.kdg_graph.specs.Nodes.{HasNode, is_at, node_at, put_node, started, task_at, tasks_of}
+use Rattle.kdg_graph.specs.Nodes.{HasNode, IsGraph, is_at, least_of, node_at, node_with_key, put_node, started, task_at, tasks_of}
 use Rattle.kdg_graph.specs.Laws.{PutsAddOneNode, RewritesAddNoOther, RewritesAddNodes, RewritesEndNodes, RewritesKeepNodes, RewritesReplaceTasks, StartsMarkOneNode}
 use Rattle.kdg_graph.specs.Rewrite.{fresh_nodes, fresh_tasks, put_nodes, set_after, with_sets, without}
 use Rattle.kdg_graph.proofs.Places.{is_at-same, not_at}
 use Rattle.kdg_graph.proofs.FreshTasks.{new_key_put_all}
 use Rattle.kdg_graph.proofs.Ending.{none_has_key, tasks-added, tasks-with_sets, tasks-without}
 use Rattle.kdg_graph.proofs.Members.{cases, from_filter, from_map, here, in_filter, in_map, none, there}
-use Rattle.kdg_graph.proofs.LookUps.{ids_find_nodes, new_keys_find_none, nodes_have_ids, nodes_have_keys}
+use Rattle.kdg_graph.proofs.LookUps.{ids_find_nodes, keys_find_nodes, new_keys_find_none, nodes_have_ids, nodes_have_keys}
 
 -- ---- nodes put in
 
@@ -164,3 +165,24 @@ rewrites_end_nodes exact makes_new old ended changes fresh now node graph keys a
     let new : IsNewKey node.task.key (put_all (fresh_tasks fresh) (tasks_without_key node.task.key (tasks_of old))) =
     new_key_put_all node.task.key (fresh_tasks fresh) (tasks_without_key node.task.key (tasks_of old)) (none_has_key ended old node.task fresh keys.new (task_of_found old ended node is)) (makes_new node.task.key (tasks_of old)) in
     (new_keys_find_none exact now node.task.key).1 (subst (IsNewKey node.task.key) (sym (rewrites_replace_tasks old ended changes fresh now node graph added is)) new)
+
+-- ---- what a put or a look-up finds is there
+
+pub there_by_put : (now : List Node) (node : Node) (nodes : List Node) → now ≡ put_node node nodes → IsGraph now → HasNode now node.id
+there_by_put now node nodes is graph = has_found now node.id node (nodes_have_ids now node graph (subst (λ (l : List Node). Contains l node) (sym is) (in_put_new node nodes)))
+
+pub there_by_key : IsExactOrder → (nodes : List Node) (key : Key) (found : Option Node) → IsGraph nodes → node_with_key nodes key ≡ found → IfSome (option_map (λ (node : Node). node.id) found) (HasNode nodes)
+there_by_key exact nodes key None graph is = tt
+there_by_key exact nodes key (Some node) graph is = has_found nodes node.id node (nodes_have_ids nodes node graph (keys_find_nodes exact nodes key node is).0)
+
+pub new_by_key : IsExactOrder → (nodes : List Node) (key : Key) (found : Option Node) → node_with_key nodes key ≡ found → IfNone (option_map (λ (node : Node). node.id) found) (IsNewKey key (tasks_of nodes))
+new_by_key exact nodes key None is = (new_keys_find_none exact nodes key).0 is
+new_by_key exact nodes key (Some node) is = tt
+
+pub there_by_least : (nodes : List Node) → IsGraph nodes → IfSome (least_of nodes) (HasNode nodes)
+there_by_least [] graph = tt
+there_by_least (node ∷ nodes) graph = has_found (node ∷ nodes) node.id node (nodes_have_ids (node ∷ nodes) node graph (here node nodes))
+
+pub none_by_least : (nodes : List Node) → IfNone (least_of nodes) (nodes ≡ [])
+none_by_least [] = refl
+none_by_least (node ∷ nodes) = tt

@@ -1,4 +1,4 @@
-ghost use Rattle.std.specs.Prelude.{◌≡◌, [], Some, IfOk, IfErr, IfSome, OnOk, OnErr};
+ghost use Rattle.std.specs.Prelude.{◌≡◌, [], Some, IfOk, IfErr, IfNone, IfSome, OnOk, OnErr};
 ghost use Rattle.std.specs.Option.{option_map};
 ghost use Rattle.task_order.specs.TaskList.{IsNewKey};
 ghost use Rattle.kdg_graph.specs.Node.{new_node};
@@ -8,12 +8,12 @@ ghost use Rattle.kdg_graph.specs.Rewrite.{AreChangesOf, HaveNewKeys, IsRewritten
 
 use crate::entry::Entry;
 use crate::listing::list_all;
-use crate::node_list::{NodeList, place_of};
+use crate::node_list::{NodeList, id_with_key, place_of};
 use crate::{Fresh, Laters, NodeId, SetChange, Sources};
 use rw_sets::RwSet;
 use std::alloc::Global;
 use std::marker::Model;
-use task_order::{Key, Task, TaskList, put_in_laws, without_laws};
+use task_order::{Key, Task, TaskList, key_order, put_in_laws, without_laws};
 
 /// Pending tasks in the order of their keys. Each is a node, with an id, a recorded set, and a mark
 /// where the task is running.
@@ -54,6 +54,7 @@ impl Graph {
     pub fn insert(&mut self, task: Task, set: RwSet) -> Result<NodeId, (Task, RwSet)>
         requires { IsNewKey task.key (tasks_of self.old) }
         ensures ok { IfOk result (λ id. self.new ≡ put_node (new_node id task set) self.old) }
+        ensures there { IfOk result (λ id. HasNode self.new id) }
         ensures graph { IsGraph self.new }
         ensures returned { IfErr result (λ back. back ≡ (task, set)) }
         ensures unchanged { OnErr result (self.new ≡ self.old) }
@@ -133,6 +134,8 @@ impl Graph {
     /// The earliest node.
     pub fn least(&self) -> Option<NodeId>
         ensures least { result ≡ least_of self.now }
+        ensures there { IfSome result (λ id. HasNode self.now id) }
+        ensures empty { IfNone result (self.now ≡ []) }
         ensures graph { IsGraph self.now }
     {
         self.nodes.entries().first().map(|entry| entry.id)
@@ -141,12 +144,12 @@ impl Graph {
     /// The node whose task has the key.
     pub fn find(&self, key: &Key) -> Option<NodeId>
         ensures found { result ≡ option_map (λ node. node.id) (node_with_key self.now key.now) }
+        ensures there { IfSome result (λ id. HasNode self.now id) }
+        ensures absent { IfNone result (IsNewKey key.now (tasks_of self.now)) }
         ensures graph { IsGraph self.now }
     {
-        let mut entries = self.nodes.entries().iter();
-        entries
-            .find(|entry| entry.task.key.compare(key).is_eq())
-            .map(|entry| entry.id)
+        key_order();
+        id_with_key(self.nodes.entries(), key)
     }
 
     /// The task of a node.

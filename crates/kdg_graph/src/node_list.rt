@@ -1,8 +1,9 @@
 ghost use Rattle.std.specs.Prelude.{◌≡◌, ◌+◌, ◌<◌, ◌≤◌, [], ◌∷◌, Some, OnOk, length, position};
 ghost use Rattle.std.specs.List.{AllByRecursion};
+ghost use Rattle.std.specs.Option.{option_map};
 ghost use Rattle.task_order.specs.TaskList.{IsNewKey};
 ghost use Rattle.kdg_graph.specs.Node.{new_node};
-ghost use Rattle.kdg_graph.specs.Nodes.{IsGraph, HasNode, is_at, task_at, tasks_of, put_node, started};
+ghost use Rattle.kdg_graph.specs.Nodes.{IsGraph, HasNode, is_at, node_with_key, put_node, started, task_at, tasks_of};
 ghost use Rattle.kdg_graph.specs.NodeStock.{IsPlaceOf};
 ghost use Rattle.kdg_graph.specs.Rewrite.{AreAdded, AreOfOwnNodes, HaveNewKeys, without, with_sets};
 
@@ -12,7 +13,7 @@ use kdg_text::NoRoom;
 use rw_sets::RwSet;
 use std::alloc::Global;
 use std::marker::Model;
-use task_order::{Task, put_in_laws};
+use task_order::{Key, Task, put_in_laws};
 
 // The nodes of a graph in key order, and the numbers of ids that are free again.
 #[derive(Drop)]
@@ -69,6 +70,7 @@ impl NodeList {
         requires numbers { 0 < self.old.numbers }
         requires new { IsNewKey task.key (tasks_of self.old.nodes) }
         ensures nodes { self.new.nodes ≡ put_node (new_node result task set) self.old.nodes }
+        ensures there { HasNode self.new.nodes result }
         ensures places { self.old.places ≤ self.new.places + 1 }
         ensures numbers { self.old.numbers ≤ self.new.numbers + 1 }
         ensures graph { IsGraph self.new.nodes }
@@ -171,6 +173,15 @@ pub(crate) fn place_of(entries: &[Entry], id: NodeId) -> usize
     ensures inside { result < length entries.now }
 {
     position_of(entries, id).unwrap()
+}
+
+// The id of the node whose task has the key.
+pub(crate) fn id_with_key(entries: &[Entry], key: &Key) -> Option<NodeId>
+    ensures { result ≡ option_map (λ node. node.id) (node_with_key entries.now key.now) }
+{
+    let mut entries = entries.iter();
+    let found = entries.find(|entry| entry.task.key.compare(key).is_eq());
+    found.map(|entry| entry.id)
 }
 
 // The place of the first node with an id.

@@ -10,6 +10,7 @@ use Rattle.kdg_graph.specs.Nodes.{put_node, tasks_of}
 use Rattle.kdg_graph.specs.NodeStock.{NodeStock, IsKept}
 use Rattle.kdg_graph.proofs.Ordering.{is_before, is_partitioned, insert_at_point}
 use Rattle.kdg_graph.proofs.Keeping.{graph_from_kept, kept_put}
+use Rattle.kdg_graph.proofs.Rewritten.{there_by_put}
 use Rattle.kdg_graph.proofs.node_list.NodeList.put.Goals as goal
 
 pub returns-clause-nodes : goal.returns-clause-nodes
@@ -43,6 +44,9 @@ invariant_of-self c =
     subst (λ (l : List ℕ). length nodes + length l < vec_capacity c.pop.new.self) c.pop.ensures.items (search rules) in
     let none = none_left _ _ _ free c.pop.ensures.cases (search rules) in
     subst (λ (l : List Node). IsKept l free (vec_capacity c.pop.new.self)) (sym placed) (kept_put c.put_in_laws.ensures.ascending node nodes free c.pop.result (vec_capacity c.pop.new.self) new c.items-ascending.ensures.ascending at none room kept)
+
+pub returns-clause-there : goal.returns-clause-there
+returns-clause-there c = there_by_put c.insert.new.self.items (new_node (record { at = c.unwrap_or-at.result }) c.args.task c.args.set) c.args.self.now.nodes (returns-clause-nodes c) (graph_from_kept _ _ _ (invariant_of-self c))
 
 pub returns-clause-graph : goal.returns-clause-graph
 returns-clause-graph c = graph_from_kept _ _ _ (invariant_of-self c)
