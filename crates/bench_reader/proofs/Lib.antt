@@ -1,7 +1,6 @@
-pub mod Closed
-pub mod Failures
-pub mod Names
-pub mod Numbers
-pub mod Outputs
-pub mod Reading
+pub mod Counting
+pub mod Tables
+pub mod FanIns
+pub mod LineByLine
+pub mod Lines
 pub mod Sound

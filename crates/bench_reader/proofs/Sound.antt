@@ -1,121 +1,120 @@
--- What holds of every deck.
-use Rattle.std.proofs.Common.{arith, refl, sym, subst, ◌∙◌, ◌≡◌, ◌≢◌, ◌≤◌, ◌<◌, ◌==◌, ◌&&◌, ◌||◌, not, true, false, ℕ, zero, suc, [], ◌∷◌, List, Bool, Option, Some, None, Result, Ok, Err, IfOk, cond, length, map, filter, nat_le, nat_lt}
+-- Each deck that bytes spell is sound.
+use Rattle.std.proofs.Common.{arith, refl, sym, ap, subst, ◌∙◌, ◌≡◌, ◌≢◌, ◌≤◌, ◌<◌, ◌-◌, ◌==◌, ◌&&◌, ◌||◌, not, true, false, ℕ, zero, suc, [], ◌∷◌, ◌++◌, List, Bool, Option, Some, None, Result, Ok, Err, IfOk, cond, length, map, filter, nat_lt, append-nil, append_assoc, option_to_list}
 use Rattle.std.proofs.lemmas.Bool.Decides.{nat_tests}
 use Rattle.std.proofs.lemmas.List.{length-map}
 use Rattle.std.proofs.lemmas.List.Elements.{All-nil, All-cons, All-filter, All-weaker, filter_passes}
+use Rattle.std.proofs.lemmas.List.Folds.{list_any-append}
 use Rattle.std.proofs.lemmas.Slice.Eq.{bytes_eq-Decides}
-use Rattle.std.specs.List.{All, AllByRecursion, AllPairs, list_all, filter_map}
-use Rattle.std.specs.Option.{option_map, option_and_then}
+use Rattle.std.specs.List.{All, AllByRecursion, AllPairs, list_all, list_any, cons_option}
+use Rattle.std.specs.Option.{option_map, option_or}
 use Rattle.std.specs.Str.{bytes_eq}
 use Rattle.kdg_text.specs.Lines.{lines_of}
+use Rattle.kdg_text.specs.declared.fault.Fault.{Fault}
+use Rattle.kdg_text.specs.declared.fault.LineFault.{LineFault}
 use Rattle.kdg_text.specs.declared.fault.ReadFail.{ReadFail}
+use Rattle.kdg_text.specs.Faults.{Numbered, Answers, fault_on, first_fault, first_fault_after, unless_fault}
 use Rattle.bench_reader.specs.declared.deck.Deck.{Deck}
+use Rattle.bench_reader.specs.declared.deck.Form.TheVariants.{Gate}
 use Rattle.bench_reader.specs.declared.deck.GateKind.{GateKind}
 use Rattle.bench_reader.specs.declared.deck.GateKind.TheVariants.{Not, Buff}
 use Rattle.bench_reader.specs.declared.deck.Signal.{Signal}
-use Rattle.bench_reader.specs.LineForms.{LineForm, SignalLine, OutputLine, NamedForm, NamedInput, NamedGate, NamedSignal, marks, is_name, is_name_byte, is_name_length, begins_with_at, is_arity, kind_of, names_of, declaration_of, declared_by, gate_with, gate_by, form_of_tokens, form_of}
-use Rattle.kdg_text.specs.Tokens.{tokens_of}
-use Rattle.bench_reader.specs.Decks.{signal_names, is_among, place_of, firsts, are_distinct, are_apart, is_known, is_closed, numbered, numbered_form, defined_by, output_by, deck_with, deck_of_forms, IsArity, IsWired, IsNameLength, IsDeck, IsStimFor, inputs_of, most_signals}
-use Rattle.bench_reader.specs.Grammar.{forms_of, deck_of}
-use Rattle.bench_reader.specs.Statements.{Gives}
-use Rattle.bench_reader.proofs.Numbers.{place_of-within}
+use Rattle.bench_reader.specs.declared.outline.Totals.{Totals}
+use Rattle.bench_reader.specs.LineForms.{LineForm, InputLine, OutputLine, GateLine, StimulusLine, FaultyLine, is_arity, is_bit}
+use Rattle.bench_reader.specs.Decks.{said, signal_names, defined_by, input_by, output_by, stimulus_by, signal_by, used_by, names_in, is_among, place_of, firsts, fault_where, is_long, own_limit, early_fault, late_fault, deck_with, IsArity, IsWired, IsNameLength, IsStimFor, IsDeck, inputs_of}
+use Rattle.bench_reader.specs.Grammar.{said_lines, deck_of_lines, deck_of}
+use Rattle.bench_reader.specs.Outlines.{IsTotal}
+use Rattle.bench_reader.proofs.FanIns.{place_of-within}
+use Rattle.bench_reader.proofs.Lines.{IsGood, AreGood, forms_from-good, both_true}
+use Rattle.bench_reader.proofs.Tables.{bytes_eq-sym, early_fault-parts, is_new, IsTotal-push, or_none, said-push}
 
-abbrev IsFitForm : NamedForm → Type 0
-IsFitForm NamedInput = Unit {0}
-IsFitForm (NamedGate kind fan_in) = IsArity kind (length fan_in)
+-- no name stands twice
+abbrev are_distinct : List (List ℕ) → Bool
+are_distinct [] = true
+are_distinct (name ∷ names) = not (is_among names name) && are_distinct names
 
-abbrev IsFitSignal : NamedSignal → Type 0
-IsFitSignal signal = IsNameLength (length signal.name) × IsFitForm signal.form
-
-abbrev IsFitLine : LineForm → Type 0
-IsFitLine (SignalLine signal) = IsFitSignal signal
-IsFitLine (OutputLine name) = Unit {0}
-
-chosen : {A : Type 0} (test : Bool) (o : Option A) (x : A) → cond test o None ≡ Some x → (test ≡ true) × (o ≡ Some x)
-chosen true o x h = (refl, h)
-chosen false o x h = cc
-
-both_true : (a b : Bool) → (a && b) ≡ true → (a ≡ true) × (b ≡ true)
-both_true true b h = (refl, h)
-both_true false b h = cc
-
-both_false : (a b : Bool) → (a || b) ≡ false → (a ≡ false) × (b ≡ false)
-both_false true b h = cc
-both_false false b h = (refl, h)
-
-length-in_range : (n : ℕ) → (nat_lt 0 n && nat_le n 64) ≡ true → IsNameLength n
-length-in_range n h = let low = (both_true (nat_lt 0 n) (nat_le n 64) h).0 in let high = (both_true (nat_lt 0 n) (nat_le n 64) h).1 in (grind (arith, nat_tests), grind (arith, nat_tests))
-
-name-length : (word : List ℕ) → is_name word ≡ true → IsNameLength (length word)
-name-length word named =
-    let front = both_true (is_name_length (length word) && not (begins_with_at word)) (list_all is_name_byte word) named in
-    length-in_range (length word) (both_true (is_name_length (length word)) (not (begins_with_at word)) front.0).0
-
-arity-fits : (kind : GateKind) (n : ℕ) → is_arity kind n ≡ true → IsArity kind n
-arity-fits Not n h = grind (arith, nat_tests)
-arity-fits Buff n h = grind (arith, nat_tests)
-arity-fits _ n h = let low = (both_true (nat_lt 0 n) (nat_le n 255) h).0 in let high = (both_true (nat_lt 0 n) (nat_le n 255) h).1 in (grind (arith, nat_tests), grind (arith, nat_tests))
-
-declaration_of-fits : (word name : List ℕ) (form : LineForm) → IsNameLength (length name) → declaration_of word name ≡ Some form → IsFitLine form
-declaration_of-fits word name form fits said = by_tests (bytes_eq word (73 ∷ 78 ∷ 80 ∷ 85 ∷ 84 ∷ [])) (bytes_eq word (79 ∷ 85 ∷ 84 ∷ 80 ∷ 85 ∷ 84 ∷ [])) said
+are_distinct-push : (names : List (List ℕ)) (name : List ℕ) → are_distinct names ≡ true → is_among names name ≡ false → are_distinct (names ++ name ∷ []) ≡ true
+are_distinct-push [] name distinct new = refl
+are_distinct-push (first ∷ names) name distinct new =
+    let apart = both_true (not (is_among names first)) (are_distinct names) distinct in
+    let others = both_false (bytes_eq name first) (is_among names name) new in
+    let first_new = not_true (is_among names first) apart.0 in
+    rw (list_any-append (bytes_eq first) names (name ∷ []), bytes_eq-sym first name, others.0, first_new) (are_distinct-push names name apart.1 others.1)
   where
-    by_tests : (a b : Bool) → cond a (Some (SignalLine (record { name = name; form = NamedInput }))) (cond b (Some (OutputLine name)) None) ≡ Some form → IsFitLine form
-    by_tests true b h = let same : SignalLine (record { name = name; form = NamedInput }) ≡ form = cc in subst IsFitLine same (fits, tt)
-    by_tests false true h = let same : OutputLine name ≡ form = cc in subst IsFitLine same tt
-    by_tests false false h = cc
+    both_false : (a b : Bool) → (a || b) ≡ false → (a ≡ false) × (b ≡ false)
+    both_false true b h = cc
+    both_false false b h = (refl, h)
 
-declared_by-fits : (word : List ℕ) (tokens : List (List ℕ)) (form : LineForm) → declared_by word tokens ≡ Some form → IsFitLine form
-declared_by-fits word [] form said = cc
-declared_by-fits word (name ∷ []) form said = cc
-declared_by-fits word (name ∷ mark ∷ []) form said =
-    let taken = chosen (is_name name && bytes_eq mark (41 ∷ [])) (declaration_of word name) form said in
-    declaration_of-fits word name form (name-length name (both_true (is_name name) (bytes_eq mark (41 ∷ [])) taken.0).0) taken.1
-declared_by-fits word (name ∷ mark ∷ next ∷ more) form said = cc
+    not_true : (b : Bool) → not b ≡ true → b ≡ false
+    not_true true h = cc
+    not_true false h = refl
 
-gate_with-fits : (name : List ℕ) (kind : GateKind) (fan_in : List (List ℕ)) (form : LineForm) → gate_with name kind fan_in ≡ Some form → IsFitLine form
-gate_with-fits name kind fan_in form said =
-    let taken = chosen (is_name name && is_arity kind (length fan_in)) (Some (SignalLine (record { name = name; form = NamedGate kind fan_in }))) form said in
-    let tests = both_true (is_name name) (is_arity kind (length fan_in)) taken.0 in
-    let same : SignalLine (record { name = name; form = NamedGate kind fan_in }) ≡ form = let h = taken.1 in cc in
-    subst IsFitLine same (name-length name tests.0, arity-fits kind (length fan_in) tests.1)
+-- what holds of lines without an early fault
+record IsApart (lines : List (Numbered LineForm)) : Type 0 where
+  totals : Totals
+  total : IsTotal totals lines
+  distinct : are_distinct (signal_names lines) ≡ true
 
-gate_by-fits : (name : List ℕ) (tokens : List (List ℕ)) (form : LineForm) → gate_by name tokens ≡ Some form → IsFitLine form
-gate_by-fits name [] form said = cc
-gate_by-fits name (word ∷ []) form said = cc
-gate_by-fits name (word ∷ mark ∷ tokens) form said =
-    by_cases (kind_of word) (names_of tokens) (chosen (bytes_eq mark (40 ∷ [])) (option_and_then (λ kind. option_and_then (gate_with name kind) (names_of tokens)) (kind_of word)) form said).1
+IsApart-none : IsApart []
+IsApart-none = record {
+  totals = record { signals = 0; inputs = 0; stimuli = 0 };
+  total = record { signals = refl; inputs = refl; stimuli = refl; few_signals = omega arith; few_inputs = omega arith; few_stimuli = omega arith };
+  distinct = refl;
+}
+
+distinct-push : (lines : List (Numbered LineForm)) (line : Numbered LineForm) → are_distinct (signal_names lines) ≡ true → early_fault lines line.form ≡ None → are_distinct (signal_names (lines ++ line ∷ [])) ≡ true
+distinct-push lines line distinct fits = rw (said-push defined_by lines line) (by_name (defined_by line.form) refl)
   where
-    by_cases : (kind : Option GateKind) (fan_in : Option (List (List ℕ))) → option_and_then (λ kind. option_and_then (gate_with name kind) fan_in) kind ≡ Some form → IsFitLine form
-    by_cases None fan_in h = cc
-    by_cases (Some kind) None h = cc
-    by_cases (Some kind) (Some fan_in) h = gate_with-fits name kind fan_in form h
+    by_name : (o : Option (List ℕ)) → defined_by line.form ≡ o → are_distinct (signal_names lines ++ option_to_list o) ≡ true
+    by_name None defines = rw (append-nil (signal_names lines)) distinct
+    by_name (Some name) defines = are_distinct-push (signal_names lines) name distinct (is_new lines line.form name defines fits)
 
-form_of_tokens-fits : (tokens : List (List ℕ)) (form : LineForm) → form_of_tokens tokens ≡ Some form → IsFitLine form
-form_of_tokens-fits [] form said = cc
-form_of_tokens-fits (first ∷ []) form said = cc
-form_of_tokens-fits (first ∷ mark ∷ tokens) form said = by_tests (bytes_eq mark (40 ∷ [])) (bytes_eq mark (61 ∷ [])) said
-  where
-    by_tests : (a b : Bool) → cond a (declared_by first tokens) (cond b (gate_by first tokens) None) ≡ Some form → IsFitLine form
-    by_tests true b h = declared_by-fits first tokens form h
-    by_tests false true h = gate_by-fits first tokens form h
-    by_tests false false h = cc
+IsApart-push : (lines : List (Numbered LineForm)) (line : Numbered LineForm) → IsApart lines → early_fault lines line.form ≡ None → IsApart (lines ++ line ∷ [])
+IsApart-push lines line apart fits = record {
+  totals = _;
+  total = IsTotal-push apart.totals lines line.number line.form apart.total (early_fault-parts lines line.form fits).3;
+  distinct = distinct-push lines line apart.distinct fits;
+}
 
-lines-fit : (lines : List (List ℕ)) (forms : List LineForm) → forms_of lines ≡ Some forms → AllByRecursion IsFitLine forms
-lines-fit [] forms said = let same : [] ≡ forms = cc in subst (AllByRecursion IsFitLine) same tt
-lines-fit (line ∷ lines) forms said = by_cases (form_of line) (forms_of lines) (form_of_tokens-fits (tokens_of marks line)) (lines-fit lines) said
-  where
-    by_cases : (first : Option LineForm) (rest : Option (List LineForm)) → ((form : LineForm) → first ≡ Some form → IsFitLine form) → ((more : List LineForm) → rest ≡ Some more → AllByRecursion IsFitLine more)
-        → option_and_then (λ form. option_map (λ more. form ∷ more) rest) first ≡ Some forms → AllByRecursion IsFitLine forms
-    by_cases None rest first_fits rest_fit h = cc
-    by_cases (Some form) None first_fits rest_fit h = cc
-    by_cases (Some form) (Some more) first_fits rest_fit h =
-        let same : form ∷ more ≡ forms = cc in
-        subst (AllByRecursion IsFitLine) same (first_fits form refl, rest_fit more refl)
+fits_first : (wrong : Option LineFault) (number : ℕ) (rest : Option Fault) → option_or (option_map (fault_on number) wrong) rest ≡ None → (wrong ≡ None) × (rest ≡ None)
+fits_first None number rest none = (refl, none)
+fits_first (Some fault) number rest none = cc
 
-signals-fit : (forms : List LineForm) → AllByRecursion IsFitLine forms → AllByRecursion IsFitSignal (filter_map defined_by forms)
-signals-fit [] fit = tt
-signals-fit (SignalLine signal ∷ forms) fit = (fit.0, signals-fit forms fit.1)
-signals-fit (OutputLine name ∷ forms) fit = signals-fit forms fit.1
+IsApart-after : (before rest : List (Numbered LineForm)) → IsApart before → first_fault_after early_fault before rest ≡ None → IsApart (before ++ rest)
+IsApart-after before [] apart none = rw (append-nil before) apart
+IsApart-after before (line ∷ rest) apart none =
+    let fits = fits_first (early_fault before line.form) line.number _ none in
+    subst IsApart (append_assoc before (line ∷ []) rest) (IsApart-after (before ++ line ∷ []) rest (IsApart-push before line apart fits.0) fits.1)
+
+abbrev AreWithin : List (Numbered LineForm) → Type 0
+AreWithin lines = AllByRecursion (λ (line : Numbered LineForm). own_limit line.form ≡ None) lines
+
+within-after : (before rest : List (Numbered LineForm)) → first_fault_after early_fault before rest ≡ None → AreWithin rest
+within-after before [] none = tt
+within-after before (line ∷ rest) none =
+    let fits = fits_first (early_fault before line.form) line.number _ none in
+    ((early_fault-parts before line.form fits.0).2, within-after (before ++ line ∷ []) rest fits.1)
+
+-- none of the lines has a late fault, where these are all lines
+abbrev pub AreClosed : List (Numbered LineForm) → List (Numbered LineForm) → Type 0
+AreClosed all lines = AllByRecursion (λ (line : Numbered LineForm). late_fault all line.form ≡ None) lines
+
+closed-after : (all before rest : List (Numbered LineForm)) → first_fault_after (λ _. late_fault all) before rest ≡ None → AreClosed all rest
+closed-after all before [] none = tt
+closed-after all before (line ∷ rest) none =
+    let fits = fits_first (late_fault all line.form) line.number _ none in
+    (fits.0, closed-after all (before ++ line ∷ []) rest fits.1)
+
+not_where : (test : Bool) (fault : LineFault) → fault_where test fault ≡ None → test ≡ false
+not_where true fault none = cc
+not_where false fault none = refl
+
+not_not : (b : Bool) → not b ≡ false → b ≡ true
+not_not true h = refl
+not_not false h = cc
+
+-- the names that a line uses are defined
+used-known : (all : List (Numbered LineForm)) (form : LineForm) → late_fault all form ≡ None → list_all (is_among (signal_names all)) (used_by form) ≡ true
+used-known all form none = not_not _ (not_where _ _ (or_none _ _ none).0)
 
 places-within : (all names : List (List ℕ)) (n : ℕ) → length all ≡ n → list_all (is_among all) names ≡ true → All (λ number. number < n) (map (place_of all) names)
 places-within all [] n count known = All-nil (λ number. number < n)
@@ -123,21 +122,70 @@ places-within all (name ∷ names) n count known =
     let tests = both_true (is_among all name) (list_all (is_among all) names) known in
     All-cons (λ number. number < n) (place_of all name) (map (place_of all) names) (let below = place_of-within all name tests.0 in rw (← count) below) (places-within all names n count tests.1)
 
-form-wired : (all : List (List ℕ)) (n : ℕ) (name : List ℕ) (form : NamedForm) → length all ≡ n → IsFitForm form → is_known all (record { name = name; form = form }) ≡ true → IsWired n (numbered_form all form)
-form-wired all n name NamedInput count fits known = tt
-form-wired all n name (NamedGate kind fan_in) count fits known = (rw (length-map fan_in (place_of all)) fits, places-within all fan_in n count known)
+either_false : (a b : Bool) → (a || b) ≡ false → (a ≡ false) × (b ≡ false)
+either_false true b h = cc
+either_false false b h = (refl, h)
 
-signals-wired : (all : List (List ℕ)) (n : ℕ) (signals : List NamedSignal) → length all ≡ n → AllByRecursion IsFitSignal signals → list_all (is_known all) signals ≡ true → All (λ signal. IsWired n signal.form) (map (numbered all) signals)
-signals-wired all n [] count fit known = All-nil (λ (signal : Signal). IsWired n signal.form)
-signals-wired all n (signal ∷ signals) count fit known =
-    let tests = both_true (is_known all signal) (list_all (is_known all) signals) known in
-    All-cons (λ (signal : Signal). IsWired n signal.form) (numbered all signal) (map (numbered all) signals)
-    (form-wired all n signal.name signal.form count fit.0.1 tests.0) (signals-wired all n signals count fit.1 tests.1)
+not_long : (n : ℕ) → nat_lt 64 n ≡ false → n ≤ 64
+not_long n h = grind (arith, nat_tests)
 
-lengths-fit : (all : List (List ℕ)) (signals : List NamedSignal) → AllByRecursion IsFitSignal signals → All (λ signal. IsNameLength (length signal.name)) (map (numbered all) signals)
-lengths-fit all [] fit = All-nil (λ (signal : Signal). IsNameLength (length signal.name))
-lengths-fit all (signal ∷ signals) fit =
-    All-cons (λ (signal : Signal). IsNameLength (length signal.name)) (numbered all signal) (map (numbered all) signals) fit.0.0 (lengths-fit all signals fit.1)
+not_many : (n : ℕ) → nat_lt 255 n ≡ false → n ≤ 255
+not_many n h = grind (arith, nat_tests)
+
+-- the first of a line's names is short
+name-short : (form : LineForm) (name : List ℕ) (names : List (List ℕ)) → names_in form ≡ name ∷ names → own_limit form ≡ None → length name ≤ 64
+name-short form name names first within =
+    let short = not_where _ _ (or_none _ _ within).0 in
+    let each : (is_long name || list_any is_long names) ≡ false = ap (list_any is_long) (sym first) ∙ short in
+    not_long (length name) (either_false (is_long name) (list_any is_long names) each).0
+
+fan_ins-few : (form : LineForm) → own_limit form ≡ None → length (used_by form) ≤ 255
+fan_ins-few form within = not_many (length (used_by form)) (not_where _ _ (or_none _ _ within).1)
+
+one : (n : ℕ) → (n == 1) ≡ true → n ≡ 1
+one n h = grind (arith, nat_tests)
+
+arity-fits : (kind : GateKind) (n : ℕ) → is_arity kind n ≡ true → 1 ≤ n → n ≤ 255 → IsArity kind n
+arity-fits Not n h low high = one n h
+arity-fits Buff n h low high = one n h
+arity-fits _ n h low high = (low, high)
+
+abbrev IsWiredSignal : ℕ → Signal → Type 0
+IsWiredSignal n signal = IsWired n signal.form
+
+abbrev IsNamed : Signal → Type 0
+IsNamed signal = IsNameLength (length signal.name)
+
+gate-wired : (all : List (Numbered LineForm)) (n : ℕ) (name : List ℕ) (kind : GateKind) (fan_in : List (List ℕ)) → length (signal_names all) ≡ n → IsGood (GateLine name kind fan_in)
+    → own_limit (GateLine name kind fan_in) ≡ None → late_fault all (GateLine name kind fan_in) ≡ None → IsWired n (Gate kind (map (place_of (signal_names all)) fan_in))
+gate-wired all n name kind fan_in count good within closed = (
+  rw (length-map fan_in (place_of (signal_names all))) (arity-fits kind (length fan_in) good.1 good.2 (fan_ins-few (GateLine name kind fan_in) within)),
+  places-within (signal_names all) fan_in n count (used-known all (GateLine name kind fan_in) closed),
+)
+
+signals-wired : (all : List (Numbered LineForm)) (n : ℕ) (lines : List (Numbered LineForm)) → length (signal_names all) ≡ n → AreGood lines → AreWithin lines → AreClosed all lines
+    → All (IsWiredSignal n) (said (signal_by (signal_names all)) lines)
+signals-wired all n [] count good within closed = All-nil (IsWiredSignal n)
+signals-wired all n (line ∷ lines) count good within closed = by_form line.form good.0 within.0 closed.0 (signals-wired all n lines count good.1 within.1 closed.1)
+  where
+    by_form : (form : LineForm) → IsGood form → own_limit form ≡ None → late_fault all form ≡ None → All (IsWiredSignal n) (said (signal_by (signal_names all)) lines)
+        → All (IsWiredSignal n) (cons_option (signal_by (signal_names all) form) (said (signal_by (signal_names all)) lines))
+    by_form (InputLine name) good within closed rest = All-cons (IsWiredSignal n) _ _ tt rest
+    by_form (GateLine name kind fan_in) good within closed rest = All-cons (IsWiredSignal n) _ _ (gate-wired all n name kind fan_in count good within closed) rest
+    by_form (OutputLine name) good within closed rest = rest
+    by_form (StimulusLine time bits) good within closed rest = rest
+    by_form (FaultyLine fault) good within closed rest = rest
+
+names-fit : (all : List (List ℕ)) (lines : List (Numbered LineForm)) → AreGood lines → AreWithin lines → All IsNamed (said (signal_by all) lines)
+names-fit all [] good within = All-nil IsNamed
+names-fit all (line ∷ lines) good within = by_form line.form good.0 within.0 (names-fit all lines good.1 within.1)
+  where
+    by_form : (form : LineForm) → IsGood form → own_limit form ≡ None → All IsNamed (said (signal_by all) lines) → All IsNamed (cons_option (signal_by all form) (said (signal_by all) lines))
+    by_form (InputLine name) good within rest = All-cons IsNamed _ _ (good, name-short (InputLine name) name [] refl within) rest
+    by_form (GateLine name kind fan_in) good within rest = All-cons IsNamed _ _ (good.0, name-short (GateLine name kind fan_in) name fan_in refl within) rest
+    by_form (OutputLine name) good within rest = rest
+    by_form (StimulusLine time bits) good within rest = rest
+    by_form (FaultyLine fault) good within rest = rest
 
 -- each element and each later one
 abbrev Pairs : {X : Type 0} → (X → X → Type 0) → List X → Type 0
@@ -158,22 +206,47 @@ pairs-filter R p (x ∷ xs) pairs = by_test (p x) (All-filter p (R x) xs pairs.0
     by_test true each rest = (each, rest)
     by_test false each rest = rest
 
-name-differs : (all : List (List ℕ)) (name : List ℕ) (signals : List NamedSignal) → is_among (signal_names signals) name ≡ false → All (λ later. name ≢ later.name) (map (numbered all) signals)
-name-differs all name [] new = All-nil (λ (later : Signal). name ≢ later.name)
-name-differs all name (signal ∷ signals) new =
-    let tests = both_false (bytes_eq name signal.name) (is_among (signal_names signals) name) new in
-    All-cons (λ (later : Signal). name ≢ later.name) (numbered all signal) (map (numbered all) signals)
-    (λ same. let clash : true ≡ false = sym ((bytes_eq-Decides name signal.name).1 same) ∙ tests.0 in cc) (name-differs all name signals tests.1)
+abbrev Differs : List ℕ → Signal → Type 0
+Differs name later = name ≢ later.name
+
+new-name : (name other : List ℕ) → bytes_eq name other ≡ false → name ≢ other
+new-name name other apart same = let clash : true ≡ false = sym ((bytes_eq-Decides name other).1 same) ∙ apart in cc
+
+name-differs : (all : List (List ℕ)) (name : List ℕ) (lines : List (Numbered LineForm)) → is_among (signal_names lines) name ≡ false → All (Differs name) (said (signal_by all) lines)
+name-differs all name [] new = All-nil (Differs name)
+name-differs all name (line ∷ lines) new = by_form line.form (name-differs all name lines) new
+  where
+    by_form : (form : LineForm) → (is_among (signal_names lines) name ≡ false → All (Differs name) (said (signal_by all) lines)) → is_among (cons_option (defined_by form) (signal_names lines)) name ≡ false
+        → All (Differs name) (cons_option (signal_by all form) (said (signal_by all) lines))
+    by_form (InputLine other) rest new =
+        let tests = either_false (bytes_eq name other) (is_among (signal_names lines) name) new in
+        All-cons (Differs name) _ _ (new-name name other tests.0) (rest tests.1)
+    by_form (GateLine other kind fan_in) rest new =
+        let tests = either_false (bytes_eq name other) (is_among (signal_names lines) name) new in
+        All-cons (Differs name) _ _ (new-name name other tests.0) (rest tests.1)
+    by_form (OutputLine other) rest new = rest new
+    by_form (StimulusLine time bits) rest new = rest new
+    by_form (FaultyLine fault) rest new = rest new
 
 not_true : (b : Bool) → not b ≡ true → b ≡ false
 not_true true h = cc
 not_true false h = refl
 
-names-differ : (all : List (List ℕ)) (signals : List NamedSignal) → are_distinct (signal_names signals) ≡ true → Pairs (λ signal later. signal.name ≢ later.name) (map (numbered all) signals)
+names-differ : (all : List (List ℕ)) (lines : List (Numbered LineForm)) → are_distinct (signal_names lines) ≡ true → Pairs (λ (signal later : Signal). signal.name ≢ later.name) (said (signal_by all) lines)
 names-differ all [] distinct = tt
-names-differ all (signal ∷ signals) distinct =
-    let tests = both_true (not (is_among (signal_names signals) signal.name)) (are_distinct (signal_names signals)) distinct in
-    (name-differs all signal.name signals (not_true (is_among (signal_names signals) signal.name) tests.0), names-differ all signals tests.1)
+names-differ all (line ∷ lines) distinct = by_form line.form (names-differ all lines) distinct
+  where
+    by_form : (form : LineForm) → (are_distinct (signal_names lines) ≡ true → Pairs (λ (signal later : Signal). signal.name ≢ later.name) (said (signal_by all) lines))
+        → are_distinct (cons_option (defined_by form) (signal_names lines)) ≡ true → Pairs (λ (signal later : Signal). signal.name ≢ later.name) (cons_option (signal_by all form) (said (signal_by all) lines))
+    by_form (InputLine name) rest distinct =
+        let tests = both_true (not (is_among (signal_names lines) name)) (are_distinct (signal_names lines)) distinct in
+        (name-differs all name lines (not_true _ tests.0), rest tests.1)
+    by_form (GateLine name kind fan_in) rest distinct =
+        let tests = both_true (not (is_among (signal_names lines) name)) (are_distinct (signal_names lines)) distinct in
+        (name-differs all name lines (not_true _ tests.0), rest tests.1)
+    by_form (OutputLine name) rest distinct = rest distinct
+    by_form (StimulusLine time bits) rest distinct = rest distinct
+    by_form (FaultyLine fault) rest distinct = rest distinct
 
 firsts-within : (n : ℕ) (numbers : List ℕ) → All (λ number. number < n) numbers → All (λ number. number < n) (firsts numbers)
 firsts-within n [] within = within
@@ -191,46 +264,108 @@ firsts-differ (number ∷ numbers) = (
   pairs-filter (λ number later. number ≢ later) (λ m. not (m == number)) (firsts numbers) (firsts-differ numbers),
 )
 
-few-signals : (n : ℕ) → nat_le n 4096 ≡ true → n ≤ 4096
-few-signals n h = grind (arith, nat_tests)
+outputs-known : (all lines : List (Numbered LineForm)) → AreClosed all lines → list_all (is_among (signal_names all)) (said output_by lines) ≡ true
+outputs-known all [] closed = refl
+outputs-known all (line ∷ lines) closed = by_form line.form closed.0 (outputs-known all lines closed.1)
+  where
+    by_form : (form : LineForm) → late_fault all form ≡ None → list_all (is_among (signal_names all)) (said output_by lines) ≡ true
+        → list_all (is_among (signal_names all)) (cons_option (output_by form) (said output_by lines)) ≡ true
+    by_form (OutputLine name) closed rest =
+        let known = both_true (is_among (signal_names all) name) true (used-known all (OutputLine name) closed) in
+        rw (known.0, rest) refl
+    by_form (InputLine name) closed rest = rest
+    by_form (GateLine name kind fan_in) closed rest = rest
+    by_form (StimulusLine time bits) closed rest = rest
+    by_form (FaultyLine fault) closed rest = rest
 
-closed-sound : (signals : List NamedSignal) (outputs : List (List ℕ)) → AllByRecursion IsFitSignal signals → is_closed signals outputs ≡ true → IsDeck (deck_with signals outputs)
-closed-sound signals outputs fit closed =
-    let all = signal_names signals in
-    let parts = both_true (are_apart signals && list_all (is_known all) signals) (list_all (is_among all) outputs) closed in
-    let front = both_true (are_apart signals) (list_all (is_known all) signals) parts.0 in
-    let apart = both_true (are_distinct all) (nat_le (length signals) most_signals) front.0 in
-    let count : length (map (numbered all) signals) ≡ length signals = length-map signals (numbered all) in
-    let as_many : length all ≡ length (map (numbered all) signals) = length-map signals (λ (signal : NamedSignal). signal.name) ∙ sym count in
+bit-small : (byte : ℕ) → is_bit byte ≡ true → byte - 48 ≤ 1
+bit-small byte h = grind (arith, nat_tests)
+
+bits-small : (bits : List ℕ) → list_all is_bit bits ≡ true → All (λ bit. bit ≤ 1) (map (λ byte. byte - 48) bits)
+bits-small [] all = All-nil (λ bit. bit ≤ 1)
+bits-small (byte ∷ bytes) all =
+    let tests = both_true (is_bit byte) (list_all is_bit bytes) all in
+    All-cons (λ bit. bit ≤ 1) (byte - 48) (map (λ byte. byte - 48) bytes) (bit-small byte tests.0) (bits-small bytes tests.1)
+
+as_many : (m n : ℕ) → not (m == n) ≡ false → m ≡ n
+as_many m n h = grind (arith, nat_tests)
+
+stimulus-fits : (all : List (Numbered LineForm)) (n time : ℕ) (bits : List ℕ) → length (said input_by all) ≡ n → IsGood (StimulusLine time bits) → late_fault all (StimulusLine time bits) ≡ None
+    → IsStimFor n (record { time = time; bits = map (λ byte. byte - 48) bits })
+stimulus-fits all n time bits count good closed =
+    let right = as_many (length bits) (length (said input_by all)) (not_where _ _ closed) in
     record {
-      wiring = record {
-        signal_count = rw count (few-signals (length signals) apart.1);
-        stimulus_count = omega arith;
-        wired = signals-wired all (length (map (numbered all) signals)) signals as_many fit front.1;
-        outputs_in_range = firsts-within (length (map (numbered all) signals)) (map (place_of all) outputs) (places-within all outputs _ as_many parts.1);
-        outputs_differ = AllPairs-from_pairs (λ (number later : ℕ). number ≢ later) (firsts (map (place_of all) outputs)) (firsts-differ (map (place_of all) outputs));
-        stimuli_fit = All-nil (IsStimFor (length (inputs_of (map (numbered all) signals))));
-      };
-      name_lengths = lengths-fit all signals fit;
-      names_differ = AllPairs-from_pairs (λ (signal later : Signal). signal.name ≢ later.name) (map (numbered all) signals) (names-differ all signals apart.0);
+      not_too_late = good.0;
+      one_for_each = length-map bits (λ byte. byte - 48) ∙ right ∙ count;
+      zeros_and_ones = bits-small bits good.1;
     }
 
-forms-sound : (forms : List LineForm) (deck : Deck) → AllByRecursion IsFitLine forms → deck_of_forms forms ≡ Some deck → IsDeck deck
-forms-sound forms deck fit made =
-    let signals = filter_map defined_by forms in
-    let outputs = filter_map output_by forms in
-    let taken = chosen (is_closed signals outputs) (Some (deck_with signals outputs)) deck made in
-    let same : deck_with signals outputs ≡ deck = let h = taken.1 in cc in
-    subst IsDeck same (closed-sound signals outputs (signals-fit forms fit) taken.0)
+stimuli-fit : (all : List (Numbered LineForm)) (n : ℕ) (lines : List (Numbered LineForm)) → length (said input_by all) ≡ n → AreGood lines → AreClosed all lines → All (IsStimFor n) (said stimulus_by lines)
+stimuli-fit all n [] count good closed = All-nil (IsStimFor n)
+stimuli-fit all n (line ∷ lines) count good closed = by_form line.form good.0 closed.0 (stimuli-fit all n lines count good.1 closed.1)
+  where
+    by_form : (form : LineForm) → IsGood form → late_fault all form ≡ None → All (IsStimFor n) (said stimulus_by lines) → All (IsStimFor n) (cons_option (stimulus_by form) (said stimulus_by lines))
+    by_form (StimulusLine time bits) good closed rest = All-cons (IsStimFor n) _ _ (stimulus-fits all n time bits count good closed) rest
+    by_form (OutputLine name) good closed rest = rest
+    by_form (InputLine name) good closed rest = rest
+    by_form (GateLine name kind fan_in) good closed rest = rest
+    by_form (FaultyLine fault) good closed rest = rest
+
+-- each name that is defined is a signal's
+signal-count : (all : List (List ℕ)) (lines : List (Numbered LineForm)) → length (said (signal_by all) lines) ≡ length (signal_names lines)
+signal-count all [] = refl
+signal-count all (line ∷ lines) = by_form line.form (signal-count all lines)
+  where
+    by_form : (form : LineForm) → length (said (signal_by all) lines) ≡ length (signal_names lines) → length (cons_option (signal_by all form) (said (signal_by all) lines)) ≡ length (cons_option (defined_by form) (signal_names lines))
+    by_form (InputLine name) rest = ap suc rest
+    by_form (GateLine name kind fan_in) rest = ap suc rest
+    by_form (OutputLine name) rest = rest
+    by_form (StimulusLine time bits) rest = rest
+    by_form (FaultyLine fault) rest = rest
+
+input-count : (all : List (List ℕ)) (lines : List (Numbered LineForm)) → length (said input_by lines) ≡ length (inputs_of (said (signal_by all) lines))
+input-count all [] = refl
+input-count all (line ∷ lines) = by_form line.form (input-count all lines)
+  where
+    by_form : (form : LineForm) → length (said input_by lines) ≡ length (inputs_of (said (signal_by all) lines)) → length (cons_option (input_by form) (said input_by lines)) ≡ length (inputs_of (cons_option (signal_by all form) (said (signal_by all) lines)))
+    by_form (InputLine name) rest = ap suc rest
+    by_form (GateLine name kind fan_in) rest = rest
+    by_form (OutputLine name) rest = rest
+    by_form (StimulusLine time bits) rest = rest
+    by_form (FaultyLine fault) rest = rest
+
+lines-sound : (lines : List (Numbered LineForm)) → AreGood lines → AreWithin lines → AreClosed lines lines → IsApart lines → IsDeck (deck_with lines)
+lines-sound lines good within closed apart =
+    let all = signal_names lines in
+    let signals = said (signal_by all) lines in
+    let count = signal-count all lines in
+    record {
+      wiring = record {
+        signal_count = omega (arith, apart.total.signals, apart.total.few_signals, count);
+        stimulus_count = omega (arith, apart.total.stimuli, apart.total.few_stimuli);
+        wired = signals-wired lines (length signals) lines (sym count) good within closed;
+        outputs_in_range = firsts-within (length signals) _ (places-within all (said output_by lines) (length signals) (sym count) (outputs-known lines lines closed));
+        outputs_differ = AllPairs-from_pairs (λ (number later : ℕ). number ≢ later) _ (firsts-differ (map (place_of all) (said output_by lines)));
+        stimuli_fit = stimuli-fit lines (length (inputs_of signals)) lines (input-count all lines) good closed;
+      };
+      name_lengths = names-fit all lines good within;
+      names_differ = AllPairs-from_pairs (λ (signal later : Signal). signal.name ≢ later.name) _ (names-differ all lines apart.distinct);
+    }
+
+faultless : {V : Type 0} (o : Option Fault) (answer : Result V Fault) (value : V) → unless_fault o answer ≡ Ok value → (o ≡ None) × (answer ≡ Ok value)
+faultless None answer value made = (refl, made)
+faultless (Some fault) answer value made = cc
 
 -- each deck that bytes spell is sound
-deck_of-sound : (input : List ℕ) (deck : Deck) → deck_of input ≡ Some deck → IsDeck deck
-deck_of-sound input deck spelled = by_cases (forms_of (lines_of input)) (lines-fit (lines_of input)) spelled
-  where
-    by_cases : (o : Option (List LineForm)) → ((forms : List LineForm) → o ≡ Some forms → AllByRecursion IsFitLine forms) → option_and_then deck_of_forms o ≡ Some deck → IsDeck deck
-    by_cases None fit h = cc
-    by_cases (Some forms) fit h = forms-sound forms deck (fit forms refl) h
+deck_of-sound : (input : List ℕ) (deck : Deck) → deck_of input ≡ Ok deck → IsDeck deck
+deck_of-sound input deck spelled =
+    let lines = said_lines input in
+    let early = faultless (first_fault early_fault lines) (deck_of_lines lines) deck spelled in
+    let late = faultless (first_fault (λ _. late_fault lines) lines) (Ok (deck_with lines)) deck early.1 in
+    let same : deck_with lines ≡ deck = let made = late.1 in cc in
+    subst IsDeck same
+    (lines-sound lines (forms_from-good (lines_of input) 1) (within-after [] lines early.0) (closed-after lines [] lines late.0) (IsApart-after [] lines IsApart-none early.0))
 
-pub result-sound : (input : List ℕ) (result : Result Deck ReadFail) → Gives (λ deck. deck) result (deck_of input) → IfOk result IsDeck
+pub result-sound : (input : List ℕ) (result : Result Deck ReadFail) → Answers result (deck_of input) → IfOk result IsDeck
 result-sound input (Ok deck) given = deck_of-sound input deck given
 result-sound input (Err error) given = tt

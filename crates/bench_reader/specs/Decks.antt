@@ -1,6 +1,9 @@
 -- The deck that lines describe, and what holds of every deck.
-use Rattle.std.specs.Prelude.{◌≡◌, ◌≢◌, ℕ, suc, ◌<◌, ◌≤◌, Bool, true, false, ◌&&◌, not, ◌==◌, nat_le, if◌then◌else◌, List, [], ◌∷◌, length, map, filter, Option, None, Some, bytes_eq, All, AllPairs}
+use Rattle.std.specs.Prelude.{◌≡◌, ◌≢◌, ℕ, suc, ◌-◌, ◌<◌, ◌≤◌, Bool, true, false, not, ◌==◌, nat_lt, if◌then◌else◌, List, [], ◌∷◌, length, map, filter, Option, None, Some, bytes_eq, All, AllPairs}
 use Rattle.std.specs.List.{list_all, list_any, filter_map}
+use Rattle.std.specs.Option.{option_or}
+use Rattle.kdg_text.specs.declared.fault.LineFault.{LineFault}
+use Rattle.kdg_text.specs.Faults.{Numbered}
 use Rattle.bench_reader.specs.declared.deck.Deck.{Deck}
 use Rattle.bench_reader.specs.declared.deck.Form.{Form}
 use Rattle.bench_reader.specs.declared.deck.Form.TheVariants.{Input, Gate}
@@ -8,34 +11,53 @@ use Rattle.bench_reader.specs.declared.deck.GateKind.{GateKind}
 use Rattle.bench_reader.specs.declared.deck.GateKind.TheVariants.{Not, Buff}
 use Rattle.bench_reader.specs.declared.deck.Signal.{Signal}
 use Rattle.bench_reader.specs.declared.deck.Stim.{Stim}
-use Rattle.bench_reader.specs.LineForms.{LineForm, SignalLine, OutputLine, NamedForm, NamedInput, NamedGate, NamedSignal}
+use Rattle.bench_reader.specs.Faults.{double, undefined, bit_count, beyond}
+use Rattle.bench_reader.specs.LineForms.{LineForm, InputLine, OutputLine, GateLine, StimulusLine, FaultyLine, latest_stimulus}
 
--- the signal that a line defines
-abbrev pub defined_by : LineForm → Option NamedSignal
-defined_by (SignalLine signal) = Some signal
-defined_by (OutputLine name) = None
+-- the name that a line defines
+abbrev pub defined_by : LineForm → Option (List ℕ)
+defined_by (InputLine name) = Some name
+defined_by (GateLine name kind fan_in) = Some name
+defined_by _ = None
+
+-- the primary input that a line defines
+abbrev pub input_by : LineForm → Option (List ℕ)
+input_by (InputLine name) = Some name
+input_by _ = None
 
 -- the name that a line declares an output
 abbrev pub output_by : LineForm → Option (List ℕ)
-output_by (SignalLine signal) = None
 output_by (OutputLine name) = Some name
+output_by _ = None
 
--- the names that a signal reads
-abbrev pub names_read : NamedForm → List (List ℕ)
-names_read NamedInput = []
-names_read (NamedGate kind fan_in) = fan_in
+-- the stimulus of a line
+abbrev pub stimulus_by : LineForm → Option Stim
+stimulus_by (StimulusLine time bits) = Some (record { time = time; bits = map (λ byte. byte - 48) bits })
+stimulus_by _ = None
 
--- the names of signals, in order
-abbrev pub signal_names : List NamedSignal → List (List ℕ)
-signal_names signals = map (λ signal. signal.name) signals
+-- the names that a line uses, which some line has to define
+abbrev pub used_by : LineForm → List (List ℕ)
+used_by (OutputLine name) = name ∷ []
+used_by (GateLine name kind fan_in) = fan_in
+used_by _ = []
+
+-- all names of a line
+abbrev pub names_in : LineForm → List (List ℕ)
+names_in (InputLine name) = name ∷ []
+names_in (OutputLine name) = name ∷ []
+names_in (GateLine name kind fan_in) = name ∷ fan_in
+names_in _ = []
+
+-- what is said by lines of a sort, in order
+abbrev pub said : {X : Type 0} → (LineForm → Option X) → List (Numbered LineForm) → List X
+said by lines = filter_map (λ line. by line.form) lines
+
+-- the names of all signals, in the order of their numbers
+abbrev pub signal_names : List (Numbered LineForm) → List (List ℕ)
+signal_names lines = said defined_by lines
 
 abbrev pub is_among : List (List ℕ) → List ℕ → Bool
 is_among names name = list_any (bytes_eq name) names
-
--- no name stands twice
-abbrev pub are_distinct : List (List ℕ) → Bool
-are_distinct [] = true
-are_distinct (name ∷ names) = not (is_among names name) && are_distinct names
 
 -- how many names stand before the first that is this one
 abbrev pub place_of : List (List ℕ) → List ℕ → ℕ
@@ -47,53 +69,87 @@ abbrev pub firsts : List ℕ → List ℕ
 firsts [] = []
 firsts (n ∷ ns) = n ∷ filter (λ m. not (m == n)) (firsts ns)
 
+abbrev pub most_name_bytes : ℕ
+most_name_bytes = 64
+
+abbrev pub most_fan_ins : ℕ
+most_fan_ins = 255
+
 abbrev pub most_signals : ℕ
 most_signals = 4096
 
--- whether each name that a signal reads is one of these
-abbrev pub is_known : List (List ℕ) → NamedSignal → Bool
-is_known names signal = list_all (is_among names) (names_read signal.form)
+abbrev pub most_stimuli : ℕ
+most_stimuli = 65536
 
--- whether signals may stand in one deck: no name is defined twice, and they aren't too many
-abbrev pub are_apart : List NamedSignal → Bool
-are_apart signals = are_distinct (signal_names signals) && nat_le (length signals) most_signals
+-- the fault, where the test holds
+abbrev pub fault_where : Bool → LineFault → Option LineFault
+fault_where test fault = if test then Some fault else None
 
--- whether these make a deck: each name that is read or declared an output is defined, before or after
-abbrev pub is_closed : List NamedSignal → List (List ℕ) → Bool
-is_closed signals outputs =
-    are_apart signals
-    && list_all (is_known (signal_names signals)) signals
-    && list_all (is_among (signal_names signals)) outputs
+-- the line's own fault
+abbrev pub own_fault : LineForm → Option LineFault
+own_fault (FaultyLine fault) = Some fault
+own_fault _ = None
 
--- a form with numbers for names, where these are the names of all signals
-abbrev pub numbered_form : List (List ℕ) → NamedForm → Form
-numbered_form all NamedInput = Input
-numbered_form all (NamedGate kind fan_in) = Gate kind (map (place_of all) fan_in)
+-- an earlier line defines the name
+abbrev pub double_fault : List (Numbered LineForm) → Option (List ℕ) → Option LineFault
+double_fault before None = None
+double_fault before (Some name) = fault_where (is_among (signal_names before) name) double
 
-abbrev pub numbered : List (List ℕ) → NamedSignal → Signal
-numbered all signal = record { name = signal.name; form = numbered_form all signal.form }
+-- whether a name is longer than a name may be
+abbrev pub is_long : List ℕ → Bool
+is_long name = nat_lt most_name_bytes (length name)
 
--- the deck of these signals in order, with each output once
-abbrev pub deck_with : List NamedSignal → List (List ℕ) → Deck
-deck_with signals outputs = record {
-  signals = map (numbered (signal_names signals)) signals;
-  outputs = firsts (map (place_of (signal_names signals)) outputs);
-  stimuli = [];
+-- a limit that the line's own bytes go beyond
+abbrev pub own_limit : LineForm → Option LineFault
+own_limit form =
+    option_or (fault_where (list_any is_long (names_in form)) (beyond most_name_bytes))
+    (fault_where (nat_lt most_fan_ins (length (used_by form))) (beyond most_fan_ins))
+
+-- a limit that the line goes beyond with those before it
+abbrev pub count_limit : List (Numbered LineForm) → LineForm → Option LineFault
+count_limit before (InputLine name) = fault_where (not (nat_lt (length (signal_names before)) most_signals)) (beyond most_signals)
+count_limit before (GateLine name kind fan_in) = fault_where (not (nat_lt (length (signal_names before)) most_signals)) (beyond most_signals)
+count_limit before (StimulusLine time bits) = fault_where (not (nat_lt (length (said stimulus_by before)) most_stimuli)) (beyond most_stimuli)
+count_limit before _ = None
+
+-- what is wrong with a line, by its own bytes and the lines before it
+abbrev pub early_fault : List (Numbered LineForm) → LineForm → Option LineFault
+early_fault before form =
+    option_or (own_fault form) (option_or (double_fault before (defined_by form)) (option_or (own_limit form) (count_limit before form)))
+
+-- a stimulus with another number of bits than there are primary inputs
+abbrev pub bit_fault : ℕ → LineForm → Option LineFault
+bit_fault inputs (StimulusLine time bits) = fault_where (not (length bits == inputs)) bit_count
+bit_fault inputs _ = None
+
+-- what is wrong with a line by all lines
+abbrev pub late_fault : List (Numbered LineForm) → LineForm → Option LineFault
+late_fault lines form =
+    option_or (fault_where (not (list_all (is_among (signal_names lines)) (used_by form))) undefined)
+    (bit_fault (length (said input_by lines)) form)
+
+-- the signal that a line defines, where these are the names of all signals
+abbrev pub signal_by : List (List ℕ) → LineForm → Option Signal
+signal_by all (InputLine name) = Some (record { name = name; form = Input })
+signal_by all (GateLine name kind fan_in) = Some (record { name = name; form = Gate kind (map (place_of all) fan_in) })
+signal_by all _ = None
+
+-- what the lines say of a deck with these signals: signals and stimuli in order, and each output once
+abbrev pub deck_among : List (List ℕ) → List (Numbered LineForm) → Deck
+deck_among all lines = record {
+  signals = said (signal_by all) lines;
+  outputs = firsts (map (place_of all) (said output_by lines));
+  stimuli = said stimulus_by lines;
 }
 
--- the deck of these signals and outputs, if they make one
-abbrev pub deck_of_parts : List NamedSignal → List (List ℕ) → Option Deck
-deck_of_parts signals outputs = if is_closed signals outputs then Some (deck_with signals outputs) else None
-
--- the deck that the lines describe together
-abbrev pub deck_of_forms : List LineForm → Option Deck
-deck_of_forms forms = deck_of_parts (filter_map defined_by forms) (filter_map output_by forms)
+abbrev pub deck_with : List (Numbered LineForm) → Deck
+deck_with lines = deck_among (signal_names lines) lines
 
 -- a gate of the kind may have n fan-ins
 abbrev pub IsArity : GateKind → ℕ → Type 0
 IsArity Not n = n ≡ 1
 IsArity Buff n = n ≡ 1
-IsArity _ n = (1 ≤ n) × (n ≤ 255)
+IsArity _ n = (1 ≤ n) × (n ≤ most_fan_ins)
 
 -- in a deck of n signals
 abbrev pub IsWired : ℕ → Form → Type 0
@@ -101,7 +157,7 @@ IsWired n Input = Unit {0}
 IsWired n (Gate kind fan_in) = IsArity kind (length fan_in) × All (λ number. number < n) fan_in
 
 abbrev pub IsNameLength : ℕ → Type 0
-IsNameLength n = (1 ≤ n) × (n ≤ 64)
+IsNameLength n = (1 ≤ n) × (n ≤ most_name_bytes)
 
 abbrev pub is_input : Form → Bool
 is_input Input = true
@@ -110,13 +166,6 @@ is_input (Gate kind fan_in) = false
 -- the primary inputs, in order
 abbrev pub inputs_of : List Signal → List Signal
 inputs_of signals = filter (λ signal. is_input signal.form) signals
-
-abbrev pub most_stimuli : ℕ
-most_stimuli = 65536
-
--- the last time that a stimulus may have
-abbrev pub latest_stimulus : ℕ
-latest_stimulus = 1_000_000_000
 
 -- a stimulus of a circuit with n primary inputs
 pub record IsStimFor (n : ℕ) (stimulus : Stim) : Type 0 where

@@ -1,3 +1,4 @@
+pub mod Faults
 pub mod LineForms
 pub mod Decks
 pub mod Grammar

@@ -1,92 +1,149 @@
 -- What a line of a deck says, by that line's bytes alone.
-use Rattle.std.specs.Prelude.{ℕ, Bool, false, ◌&&◌, not, ◌==◌, nat_lt, nat_le, if◌then◌else◌, List, [], ◌∷◌, length, Option, None, Some, codes, bytes_eq}
+use Rattle.std.specs.Prelude.{ℕ, Bool, true, false, ◌&&◌, ◌||◌, not, ◌==◌, nat_le, if◌then◌else◌, List, [], ◌∷◌, length, map, Option, None, Some, Result, Ok, Err, codes, bytes_eq}
+use Rattle.std.specs.Char.{to_ascii_lowercase}
 use Rattle.std.specs.List.{list_all}
-use Rattle.std.specs.Option.{option_map, option_and_then}
+use Rattle.kdg_text.specs.declared.fault.LineFault.{LineFault}
+use Rattle.kdg_text.specs.declared.number.NumFault.{NumFault}
+use Rattle.kdg_text.specs.Faults.{before_comment}
+use Rattle.kdg_text.specs.Numbers.{u64_of}
+use Rattle.kdg_text.specs.Tokens.{is_blank, is_mark, tokens_of}
 use Rattle.bench_reader.specs.declared.deck.GateKind.{GateKind}
-use Rattle.bench_reader.specs.declared.deck.GateKind.TheVariants.{Nand, Not, Buff}
-use Rattle.kdg_text.specs.Tokens.{is_mark, tokens_of}
+use Rattle.bench_reader.specs.declared.deck.GateKind.TheVariants.{And, Nand, Or, Nor, Xor, Xnor, Not, Buff}
+use Rattle.bench_reader.specs.Faults.{syntax, unknown_kind, unsupported, arity, bad_time}
 
--- what drives a signal, where the fan-ins are still names
-pub data NamedForm : Type 0 where
-  NamedInput : NamedForm
-  NamedGate : (kind : GateKind) (fan_in : List (List ℕ)) → NamedForm
-
--- a signal as its line defines it
-pub record NamedSignal : Type 0 where
-  pub name : List ℕ
-  pub form : NamedForm
-
--- A line defines a signal, or declares that a name is an output.
+-- A line defines a primary input or a gate, declares an output, is a stimulus, or has a fault of its own.
 pub data LineForm : Type 0 where
-  SignalLine : (signal : NamedSignal) → LineForm
+  InputLine : (name : List ℕ) → LineForm
   OutputLine : (name : List ℕ) → LineForm
+  GateLine : (name : List ℕ) (kind : GateKind) (fan_in : List (List ℕ)) → LineForm
+  StimulusLine : (time : ℕ) (bits : List ℕ) → LineForm
+  FaultyLine : (fault : LineFault) → LineForm
 
 -- the bytes that are tokens of their own
 abbrev pub marks : List ℕ
 marks = codes "(),="
 
--- a printable byte but '#' and the marks
-abbrev pub is_name_byte : ℕ → Bool
-is_name_byte b = nat_le 33 b && nat_le b 126 && not (is_mark marks b) && not (b == 35)
+-- the byte that begins a comment
+abbrev pub comment : ℕ
+comment = 35
 
-abbrev pub begins_with_at : List ℕ → Bool
-begins_with_at [] = false
-begins_with_at (b ∷ bs) = b == 64
+-- a byte that may stand before a comment
+abbrev pub is_text_byte : ℕ → Bool
+is_text_byte byte = is_blank byte || (nat_le 33 byte && nat_le byte 126)
 
--- from 1 to 64 bytes
-abbrev pub is_name_length : ℕ → Bool
-is_name_length n = nat_lt 0 n && nat_le n 64
+-- a token that isn't a mark
+abbrev pub is_word : List ℕ → Bool
+is_word [] = false
+is_word (byte ∷ bytes) = not (is_mark marks byte)
 
+-- a word that doesn't begin with '@'
 abbrev pub is_name : List ℕ → Bool
-is_name word = is_name_length (length word) && not (begins_with_at word) && list_all is_name_byte word
+is_name [] = false
+is_name (byte ∷ bytes) = not (is_mark marks byte) && not (byte == 64)
+
+-- whether a word is this one, which is in small letters, where the case of letters is one's own
+abbrev pub spells : List ℕ → List ℕ → Bool
+spells word small = bytes_eq (map to_ascii_lowercase word) small
 
 -- the kind that a word names
 abbrev pub kind_of : List ℕ → Option GateKind
-kind_of word = if bytes_eq word (codes "NAND") then Some Nand else if bytes_eq word (codes "NOT") then Some Not else None
+kind_of word =
+    if spells word (codes "and") then Some And
+    else if spells word (codes "nand") then Some Nand
+    else if spells word (codes "or") then Some Or
+    else if spells word (codes "nor") then Some Nor
+    else if spells word (codes "xor") then Some Xor
+    else if spells word (codes "xnor") then Some Xnor
+    else if spells word (codes "not") then Some Not
+    else if spells word (codes "buff") || spells word (codes "buf") then Some Buff
+    else None
 
--- whether a gate of this kind may have so many fan-ins
+-- whether the word is the kind of a gate that is known and not taken
+abbrev pub is_unsupported : List ℕ → Bool
+is_unsupported word = spells word (codes "dff") || spells word (codes "mux") || spells word (codes "lut")
+
+-- whether the word is the name of a constant, which isn't taken
+abbrev pub is_constant : List ℕ → Bool
+is_constant word = spells word (codes "vdd") || spells word (codes "gnd")
+
+-- whether a gate of this kind may have so many fan-ins, of which there is one
 abbrev pub is_arity : GateKind → ℕ → Bool
 is_arity Not n = n == 1
 is_arity Buff n = n == 1
-is_arity _ n = nat_lt 0 n && nat_le n 255
+is_arity _ n = true
 
--- The names of NAME ) or of NAME , and more names.
-abbrev pub names_of : List (List ℕ) → Option (List (List ℕ))
-names_of (name ∷ mark ∷ []) = if is_name name && bytes_eq mark (codes ")") then Some (name ∷ []) else None
-names_of (name ∷ mark ∷ next ∷ more) =
-    if is_name name && bytes_eq mark (codes ",") then option_map (λ names. name ∷ names) (names_of (next ∷ more)) else None
-names_of _ = None
+-- whether the tokens are NAME ) or NAME , and more names
+abbrev pub are_names : List (List ℕ) → Bool
+are_names (name ∷ mark ∷ []) = is_name name && bytes_eq mark (codes ")")
+are_names (name ∷ mark ∷ next ∷ more) = is_name name && bytes_eq mark (codes ",") && are_names (next ∷ more)
+are_names _ = false
+
+-- the first token, the third, and so on: the names without the marks between them
+abbrev pub names_among : List (List ℕ) → List (List ℕ)
+names_among [] = []
+names_among (name ∷ []) = name ∷ []
+names_among (name ∷ mark ∷ tokens) = name ∷ names_among tokens
 
 -- what INPUT or OUTPUT says of a name
-abbrev pub declaration_of : List ℕ → List ℕ → Option LineForm
+abbrev pub declaration_of : List ℕ → List ℕ → LineForm
 declaration_of word name =
-    if bytes_eq word (codes "INPUT") then Some (SignalLine (record { name = name; form = NamedInput }))
-    else if bytes_eq word (codes "OUTPUT") then Some (OutputLine name)
-    else None
+    if spells word (codes "input") then InputLine name
+    else if spells word (codes "output") then OutputLine name
+    else FaultyLine syntax
 
 -- WORD ( NAME ), where the word and the first mark are taken off
-abbrev pub declared_by : List ℕ → List (List ℕ) → Option LineForm
-declared_by word (name ∷ mark ∷ []) = if is_name name && bytes_eq mark (codes ")") then declaration_of word name else None
-declared_by word _ = None
+abbrev pub declared_by : List ℕ → List (List ℕ) → LineForm
+declared_by word (name ∷ mark ∷ []) = if is_name name && bytes_eq mark (codes ")") then declaration_of word name else FaultyLine syntax
+declared_by word _ = FaultyLine syntax
 
--- a gate of this kind with these fan-ins, if it may have so many
-abbrev pub gate_with : List ℕ → GateKind → List (List ℕ) → Option LineForm
-gate_with name kind fan_in =
-    if is_name name && is_arity kind (length fan_in) then Some (SignalLine (record { name = name; form = NamedGate kind fan_in })) else None
+-- a gate whose kind this word names
+abbrev pub gate_of : List ℕ → List ℕ → List (List ℕ) → Option GateKind → LineForm
+gate_of name word fan_in (Some kind) = if is_arity kind (length fan_in) then GateLine name kind fan_in else FaultyLine arity
+gate_of name word fan_in None = if is_unsupported word then FaultyLine unsupported else FaultyLine unknown_kind
 
--- NAME = WORD ( NAMES, where the name and the first mark are taken off
-abbrev pub gate_by : List ℕ → List (List ℕ) → Option LineForm
+-- NAME = WORD ( NAMES, or NAME = CONSTANT, where the name and the first mark are taken off
+abbrev pub gate_by : List ℕ → List (List ℕ) → LineForm
+gate_by name [] = FaultyLine syntax
+gate_by name (word ∷ []) = if is_name name && is_constant word then FaultyLine unsupported else FaultyLine syntax
 gate_by name (word ∷ mark ∷ tokens) =
-    if bytes_eq mark (codes "(") then option_and_then (λ kind. option_and_then (gate_with name kind) (names_of tokens)) (kind_of word) else None
-gate_by name _ = None
+    if is_name name && is_word word && bytes_eq mark (codes "(") && are_names tokens then gate_of name word (names_among tokens) (kind_of word)
+    else FaultyLine syntax
 
--- what a line of these tokens says, if it has one of the forms
+-- the last time that a stimulus may have
+abbrev pub latest_stimulus : ℕ
+latest_stimulus = 1_000_000_000
+
+abbrev pub is_bit : ℕ → Bool
+is_bit byte = byte == 48 || byte == 49
+
+-- a stimulus at the time that a word says
+abbrev pub stimulus_at : Result ℕ NumFault → List ℕ → LineForm
+stimulus_at (Ok time) bits = if nat_le time latest_stimulus then StimulusLine time bits else FaultyLine bad_time
+stimulus_at (Err fault) bits = FaultyLine bad_time
+
+-- @ TIME BITS, where the '@' and the time are taken off
+abbrev pub stimulus_by : List ℕ → List (List ℕ) → LineForm
+stimulus_by time (bits ∷ []) = if list_all is_bit bits then stimulus_at (u64_of time) bits else FaultyLine syntax
+stimulus_by time _ = FaultyLine syntax
+
+-- what a line of these tokens says, of which the first is taken off
+abbrev pub form_by : List ℕ → List (List ℕ) → LineForm
+form_by first [] = FaultyLine syntax
+form_by first (second ∷ tokens) =
+    if bytes_eq first (codes "@") then stimulus_by second tokens
+    else if bytes_eq second (codes "(") then declared_by first tokens
+    else if bytes_eq second (codes "=") then gate_by first tokens
+    else FaultyLine syntax
+
+-- what a line of these tokens says; nothing without any
 abbrev pub form_of_tokens : List (List ℕ) → Option LineForm
-form_of_tokens (first ∷ mark ∷ tokens) =
-    if bytes_eq mark (codes "(") then declared_by first tokens
-    else if bytes_eq mark (codes "=") then gate_by first tokens
-    else None
-form_of_tokens _ = None
+form_of_tokens [] = None
+form_of_tokens (first ∷ tokens) = Some (form_by first tokens)
 
+-- what these bytes say, which stand before a comment
+abbrev pub form_of_text : List ℕ → Option LineForm
+form_of_text text = if list_all is_text_byte text then form_of_tokens (tokens_of marks text) else Some (FaultyLine syntax)
+
+-- what a line says
 abbrev pub form_of : List ℕ → Option LineForm
-form_of line = form_of_tokens (tokens_of marks line)
+form_of line = form_of_text (before_comment comment line)

@@ -1,37 +1,53 @@
--- What the reader's drafts stand for, and what its functions answer.
-use Rattle.std.specs.Prelude.{◌≡◌, ℕ, List, map, Option, None, Some, Result, Ok, Err}
-use Rattle.std.specs.Borrow.{Bor}
-use Rattle.kdg_text.specs.declared.fault.ReadFail.{ReadFail}
-use Rattle.kdg_text.specs.declared.fault.ReadFail.TheVariants.{Bad, NoRoom}
-use Rattle.bench_reader.specs.LineForms.{LineForm, SignalLine, OutputLine, NamedForm, NamedInput, NamedGate, NamedSignal}
-use Rattle.bench_reader.specs.Grammar.{not_a_deck}
-use Rattle.bench_reader.specs.declared.statement.Draft.{Draft}
-use Rattle.bench_reader.specs.declared.statement.DraftForm.{DraftForm}
-use Rattle.bench_reader.specs.declared.statement.DraftForm.TheVariants.{Input, Gate}
+-- What the reader's statements stand for, and what its functions answer.
+use Rattle.std.specs.Prelude.{◌≡◌, ℕ, ◌+◌, true, false, nat_lt, if◌then◌else◌, List, length, drop, Option, None, Some, Result, Ok, Err}
+use Rattle.std.specs.List.{list_any}
+use Rattle.kdg_text.specs.declared.fault.LineFault.{LineFault}
+use Rattle.kdg_text.specs.Faults.{Numbered}
+use Rattle.kdg_text.specs.Tokens.{tokens_of}
+use Rattle.bench_reader.specs.Faults.{syntax}
+use Rattle.bench_reader.specs.LineForms.{LineForm, InputLine, OutputLine, GateLine, StimulusLine, FaultyLine, marks, are_names, names_among}
+use Rattle.bench_reader.specs.Decks.{is_long, most_fan_ins, own_limit}
+use Rattle.bench_reader.specs.declared.names.Names.{Names}
 use Rattle.bench_reader.specs.declared.statement.Statement.{Statement}
-use Rattle.bench_reader.specs.declared.statement.Statement.TheVariants.{Signal, Output}
+use Rattle.bench_reader.specs.declared.statement.Statement.TheVariants.{Input, Output, Gate, Stimulus}
+use Rattle.bench_reader.specs.declared.statement.Said.{Said}
+use Rattle.bench_reader.specs.declared.statement.NumberedStatement.{NumberedStatement}
 
--- the names that pieces of the input spell
-abbrev pub spellings : List (Bor (List ℕ)) → List (List ℕ)
-spellings pieces = map (λ piece. piece.now) pieces
-
-abbrev pub named_form : DraftForm → NamedForm
-named_form Input = NamedInput
-named_form (Gate kind fan_in) = NamedGate kind (spellings fan_in.items)
-
-abbrev pub named : Draft → NamedSignal
-named draft = record { name = draft.name.now; form = named_form draft.form }
+-- the names of the fan-ins of a gate's line, behind NAME = WORD (
+abbrev pub fan_in_of : List ℕ → List (List ℕ)
+fan_in_of line = names_among (drop 4 (tokens_of marks line))
 
 abbrev pub line_form : Statement → LineForm
-line_form (Signal draft) = SignalLine (named draft)
+line_form (Input name) = InputLine name.now
 line_form (Output name) = OutputLine name.now
+line_form (Gate draft) = GateLine draft.name.now draft.kind (fan_in_of draft.line.now)
+line_form (Stimulus draft) = StimulusLine draft.time draft.bits.now
 
--- an error says that there is no value, unless memory ran out
-abbrev pub Fails : {Y : Type 0} → ReadFail → Option Y → Type 0
-Fails NoRoom value = Unit {0}
-Fails (Bad fault) value = (value ≡ None) × (fault ≡ not_a_deck)
+abbrev pub numbered_form : NumberedStatement → Numbered LineForm
+numbered_form line = record { number = line.number; form = line_form line.statement }
 
--- What a function returned, seen by view, is the value, and an error says that there is none, unless memory ran out.
-abbrev pub Gives : {X Y : Type 0} → (X → Y) → Result X ReadFail → Option Y → Type 0
-Gives view (Ok x) value = value ≡ Some (view x)
-Gives view (Err error) value = Fails error value
+-- so many, or one more than a gate may have
+abbrev pub capped : ℕ → ℕ
+capped n = if nat_lt most_fan_ins n then most_fan_ins + 1 else n
+
+-- what was counted of the names behind a gate's mark
+pub record Counts (names : Names) (tokens : List (List ℕ)) : Type 0 where
+  pub taken : are_names tokens ≡ true
+  pub counted : names.count ≡ capped (length (names_among tokens))
+  pub longest : names.has_long ≡ list_any is_long (names_among tokens)
+
+-- the tokens are names that were counted, or else a fault of syntax
+abbrev pub CountsNames : Result Names LineFault → List (List ℕ) → Type 0
+CountsNames (Ok names) tokens = Counts names tokens
+CountsNames (Err fault) tokens = (are_names tokens ≡ false) × (fault ≡ syntax)
+
+-- what was said is this form, with the limit that it goes beyond
+abbrev pub SaysForm : Result Said LineFault → LineForm → Type 0
+SaysForm (Ok said) form = (form ≡ line_form said.statement) × (said.limit ≡ own_limit (line_form said.statement))
+SaysForm (Err fault) form = form ≡ FaultyLine fault
+
+-- the same of a line that may say nothing
+abbrev pub Says : Result (Option Said) LineFault → Option LineForm → Type 0
+Says (Ok None) form = form ≡ None
+Says (Ok (Some said)) form = (form ≡ Some (line_form said.statement)) × (said.limit ≡ own_limit (line_form said.statement))
+Says (Err fault) form = form ≡ Some (FaultyLine fault)

@@ -2,9 +2,13 @@
 #![tactic(auto)]
 
 mod deck;
+mod faults;
+mod making;
+mod names;
 mod outline;
 mod reader;
 mod statement;
+mod words;
 
 pub use deck::{Deck, Form, GateKind, Signal, SignalList, Stim, StimList};
 pub use reader::read_deck;

@@ -1,157 +1,204 @@
-ghost use Rattle.std.specs.Prelude.{◌≡◌, ◌<◌, true, [], ◌∷◌, ◌++◌, length, map, IfOk, IfErr, OnOk};
-ghost use Rattle.std.specs.List.{list_all};
-ghost use Rattle.bench_reader.specs.Decks.{signal_names, is_among, place_of, firsts, is_known, are_apart, numbered, deck_of_parts};
-ghost use Rattle.bench_reader.specs.Outlines.{with_line, some_if, number_of, Clashes};
-ghost use Rattle.bench_reader.specs.Statements.{Gives, line_form, named, spellings};
+ghost use Rattle.std.specs.Prelude.{◌≡◌, ◌≤◌, ◌∷◌, ◌++◌, [], None, map, IfErr, OnOk, OnErr};
+ghost use Rattle.std.specs.BTreeMap.{IsUnchanged};
+ghost use Rattle.std.specs.Option.{option_map};
+ghost use Rattle.kdg_text.specs.Faults.{StopsAt};
+ghost use Rattle.bench_reader.specs.Decks.{signal_names, defined_by, double_fault, own_limit, count_limit, early_fault};
+ghost use Rattle.bench_reader.specs.Outlines.{Defines, IsTotal, number_of, totals_with};
+ghost use Rattle.bench_reader.specs.Statements.{line_form, numbered_form};
 
-use crate::statement::{Draft, DraftForm, NOT_A_DECK, Statement};
-use crate::{Deck, Form, Signal, SignalList, StimList};
-use kdg_text::{NumList, ReadFail, Text};
+use crate::faults::{DOUBLE, beyond};
+use crate::statement::{NumberedStatement, Said, Statement};
+use kdg_text::{LineFault, NoRoom, ReadFail};
 use std::alloc::Global;
 use std::collections::BTreeMap;
 use std::marker::Model;
 
-const MOST_SIGNALS: usize = 4096;
+const MOST_SIGNALS: u32 = 4096;
 
-/// What the lines so far say together.
+const MOST_STIMULI: u32 = 65536;
+
+/// How many of each the lines have.
+#[derive(Clone, Copy)]
+pub(crate) struct Totals {
+    pub(crate) signals: u32,
+    pub(crate) inputs: u32,
+    pub(crate) stimuli: u32,
+}
+
+/// What the lines so far say together. None of them has a fault by itself or beside earlier ones.
 #[derive(Drop)]
 pub(crate) struct Outline<'a> {
-    drafts: Vec<Draft<'a>>,
-    outputs: Vec<&'a [u8]>,
-    /// The place of each draft by its name.
+    lines: Vec<NumberedStatement<'a>>,
+    /// The number of each signal by its name.
     numbers: BTreeMap<&'a [u8], u32>,
+    totals: Totals,
 }
 
 impl<'a> Model for Outline<'a> {
-    ghost use Rattle.std.specs.Prelude.{◌≡◌, true, map};
-    ghost use Rattle.bench_reader.specs.Decks.{signal_names};
-    ghost use Rattle.bench_reader.specs.Outlines.{Outlined, IsTable, IsIndexed};
-    ghost use Rattle.bench_reader.specs.Statements.{named, spellings};
+    ghost use Rattle.std.specs.Prelude.{List, map};
+    ghost use Rattle.kdg_text.specs.Faults.{Numbered};
+    ghost use Rattle.bench_reader.specs.LineForms.{LineForm};
+    ghost use Rattle.bench_reader.specs.Outlines.{IsIndexed};
+    ghost use Rattle.bench_reader.specs.Statements.{numbered_form};
 
-    ghost Value = { Outlined };
+    ghost Value = { List (Numbered LineForm) };
 
-    ghost view = { λ o. record { signals = map named o.drafts.items; outputs = spellings o.outputs.items } };
+    ghost view = { λ o. map numbered_form o.lines.items };
 
-    ghost invariant = { λ o. IsIndexed o.numbers (map named o.drafts.items) };
+    ghost invariant = { λ o. IsIndexed o.numbers o.totals (map numbered_form o.lines.items) };
 }
 
 impl<'a> Outline<'a> {
     pub(crate) fn new(alloc: Global) -> Outline<'a>
-        ensures { result ≡ record { signals = []; outputs = [] } }
+        ensures { result ≡ [] }
     {
         Outline {
-            drafts: Vec::new(alloc),
-            outputs: Vec::new(alloc),
+            lines: Vec::new(alloc),
             numbers: BTreeMap::new(alloc),
+            totals: Totals {
+                signals: 0,
+                inputs: 0,
+                stimuli: 0,
+            },
         }
     }
 
-    /// Adds what one more line says.
-    pub(crate) fn add(&mut self, statement: Statement<'a>) -> Result<(), ReadFail>
-        ensures added { OnOk result (self.new ≡ with_line self.old (line_form statement.entry)) }
-        ensures refused { IfErr result (Clashes (with_line self.old (line_form statement.entry)).signals) }
+    /// Adds what one more line says, unless that is wrong beside the lines before it.
+    pub(crate) fn add(&mut self, number: u64, said: Said<'a>) -> Result<(), ReadFail>
+        requires { said.limit ≡ own_limit (line_form said.statement) }
+        ensures fits { OnOk result (early_fault self.old (line_form said.entry.statement) ≡ None) }
+        ensures added { OnOk result (self.new ≡ self.old ++ record { number = number; form = line_form said.entry.statement } ∷ []) }
+        ensures refused { IfErr result (StopsAt number (early_fault self.old (line_form said.entry.statement))) }
     {
-        match statement {
-            Statement::Signal(draft) => self.add_draft(draft),
-            Statement::Output(name) => Ok(self.outputs.push(name)?),
+        if let Some(fault) = self.early_fault(&said) {
+            return Err(ReadFail::Bad(fault.on_line(number)));
         }
-    }
-
-    fn add_draft(&mut self, draft: Draft<'a>) -> Result<(), ReadFail>
-        ensures added { OnOk result (self.new ≡ record self.old { signals = self.old.signals ++ named draft.entry ∷ [] }) }
-        ensures refused { IfErr result (Clashes (self.old.signals ++ named draft.entry ∷ [])) }
-    {
-        if !self.has_place_for(&draft) {
-            return Err(NOT_A_DECK);
-        }
-        let number = self.drafts.len() as u32;
-        self.drafts.reserve(1)?;
-        self.numbers.insert(draft.name, number)?;
-        self.drafts.push_reserved(draft);
+        let statement = said.statement;
+        self.keep(NumberedStatement { number, statement })?;
         Ok(())
     }
 
-    /// Whether the name is new, and there are fewer signals than a deck may have.
-    fn has_place_for(&self, draft: &Draft<'a>) -> bool
-        ensures { result ≡ are_apart (self.now.signals ++ named draft.now ∷ []) }
+    /// What is wrong with a line beside those before it.
+    fn early_fault(&self, said: &Said<'a>) -> Option<LineFault>
+        requires { said.now.limit ≡ own_limit (line_form said.now.statement) }
+        ensures { result ≡ early_fault self.now (line_form said.now.statement) }
     {
-        self.drafts.len() < MOST_SIGNALS && !self.numbers.contains_key(draft.name)
+        self.double_fault(&said.statement)
+            .or(said.limit)
+            .or(self.count_limit(&said.statement))
     }
 
-    /// The deck, once each line has been added.
-    pub(crate) fn deck(&self, alloc: Global) -> Result<Deck, ReadFail>
-        ensures { Gives (λ deck. deck) result (deck_of_parts self.now.signals self.now.outputs) }
+    fn double_fault(&self, statement: &Statement<'a>) -> Option<LineFault>
+        ensures { result ≡ double_fault self.now (defined_by (line_form statement.now)) }
     {
-        let signals = self.signals(alloc)?;
-        let outputs = self.output_numbers(alloc)?;
-        let stimuli = StimList::new(alloc);
-        Ok(Deck {
-            signals,
-            outputs,
-            stimuli,
-        })
-    }
-
-    fn signals(&self, alloc: Global) -> Result<SignalList, ReadFail>
-        ensures apart { are_apart self.now.signals ≡ true }
-        ensures numbered { let all = signal_names self.now.signals in
-            Gives (λ signals. signals) result (some_if (list_all (is_known all) self.now.signals) (map (numbered all) self.now.signals)) }
-    {
-        let mut signals = SignalList::new(alloc);
-        for draft in &self.drafts {
-            signals.push(self.signal(alloc, draft)?)?;
+        let name = defined_name(statement)?;
+        if self.numbers.contains_key(name) {
+            Some(DOUBLE)
+        } else {
+            None
         }
-        Ok(signals)
     }
 
-    fn signal(&self, alloc: Global, draft: &Draft<'a>) -> Result<Signal, ReadFail>
-        ensures { let all = signal_names self.now.signals in
-            Gives (λ signal. signal) result (some_if (is_known all (named draft.now)) (numbered all (named draft.now))) }
+    fn count_limit(&self, statement: &Statement<'a>) -> Option<LineFault>
+        ensures { result ≡ count_limit self.now (line_form statement.now) }
     {
-        let mut name = Text::new(alloc);
-        name.push_all(draft.name)?;
-        let form = match &draft.form {
-            DraftForm::Input => Form::Input,
-            DraftForm::Gate { kind, fan_in } => Form::Gate {
-                kind: *kind,
-                fan_in: self.numbers_of(alloc, fan_in)?,
-            },
-        };
-        Ok(Signal { name, form })
-    }
-
-    fn numbers_of(&self, alloc: Global, names: &[&'a [u8]]) -> Result<NumList, ReadFail>
-        ensures { let all = signal_names self.now.signals in
-            Gives (λ numbers. numbers) result (some_if (list_all (is_among all) (spellings names.now)) (map (place_of all) (spellings names.now))) }
-    {
-        let mut numbers = NumList::new(alloc);
-        for name in names {
-            numbers.push(self.number_of(name)?)?;
-        }
-        Ok(numbers)
-    }
-
-    /// Each output once.
-    fn output_numbers(&self, alloc: Global) -> Result<NumList, ReadFail>
-        ensures { let all = signal_names self.now.signals in
-            Gives (λ numbers. numbers) result (some_if (list_all (is_among all) self.now.outputs) (firsts (map (place_of all) self.now.outputs))) }
-    {
-        let mut declared = vec![in alloc; false; self.drafts.len()]?;
-        let mut outputs = NumList::new(alloc);
-        for name in &self.outputs {
-            let number = self.number_of(name)?;
-            if !declared[number as usize] {
-                declared[number as usize] = true;
-                outputs.push(number)?;
+        match statement {
+            Statement::Input(_) | Statement::Gate(_) if self.totals.signals >= MOST_SIGNALS => {
+                Some(beyond(u64::from(MOST_SIGNALS)))
             }
+            Statement::Stimulus(_) if self.totals.stimuli >= MOST_STIMULI => {
+                Some(beyond(u64::from(MOST_STIMULI)))
+            }
+            _ => None,
         }
-        Ok(outputs)
     }
 
-    fn number_of(&self, name: &[u8]) -> Result<u32, ReadFail>
-        ensures number { Gives (λ number. number) result (number_of (signal_names self.now.signals) name.now) }
-        ensures within { IfOk result (λ number. number < length self.now.signals) }
+    /// Keeps what a line says that is right.
+    fn keep(&mut self, line: NumberedStatement<'a>) -> Result<(), NoRoom>
+        requires { early_fault self.old (line_form line.statement) ≡ None }
+        ensures ok { OnOk result (self.new ≡ self.old ++ numbered_form line.entry ∷ []) }
+        ensures err { OnErr result (self.new ≡ self.old) }
     {
-        self.numbers.get(name).copied().ok_or(NOT_A_DECK)
+        self.lines.reserve(1)?;
+        define(&mut self.numbers, &line.statement, self.totals.signals)?;
+        self.totals = self.totals.with(&line.statement);
+        self.lines.push_reserved(line);
+        Ok(())
+    }
+
+    /// The lines so far.
+    pub(crate) fn lines(&self) -> &[NumberedStatement<'a>]
+        ensures { map numbered_form result.now ≡ self.now }
+    {
+        &self.lines
+    }
+
+    /// How many of each the lines have.
+    pub(crate) fn totals(&self) -> Totals
+        ensures { IsTotal result self.now }
+    {
+        self.totals
+    }
+
+    /// The number of a signal.
+    pub(crate) fn number_of(&self, name: &[u8]) -> Option<u32>
+        ensures { result ≡ number_of (signal_names self.now) name.now }
+    {
+        self.numbers.get(name).copied()
+    }
+}
+
+impl Totals {
+    /// With one more line.
+    fn with(self, statement: &Statement) -> Totals
+        requires signals { self.signals ≤ 4096 }
+        requires inputs { self.inputs ≤ 4096 }
+        requires stimuli { self.stimuli ≤ 65536 }
+        ensures { result ≡ totals_with self (line_form statement.now) }
+    {
+        match statement {
+            Statement::Input(_) => Totals {
+                signals: self.signals + 1,
+                inputs: self.inputs + 1,
+                stimuli: self.stimuli,
+            },
+            Statement::Gate(_) => Totals {
+                signals: self.signals + 1,
+                inputs: self.inputs,
+                stimuli: self.stimuli,
+            },
+            Statement::Stimulus(_) => Totals {
+                signals: self.signals,
+                inputs: self.inputs,
+                stimuli: self.stimuli + 1,
+            },
+            Statement::Output(_) => self,
+        }
+    }
+}
+
+/// Gives the name that a line defines the next number.
+fn define<'a>(
+    numbers: &mut BTreeMap<&'a [u8], u32>,
+    statement: &Statement<'a>,
+    number: u32,
+) -> Result<(), NoRoom>
+    ensures ok { OnOk result (Defines numbers.old number (line_form statement.now) numbers.new) }
+    ensures err { OnErr result (IsUnchanged numbers.old numbers.new) }
+{
+    if let Some(name) = defined_name(statement) {
+        numbers.insert(name, number)?;
+    }
+    Ok(())
+}
+
+/// The name that a line defines.
+fn defined_name<'a>(statement: &Statement<'a>) -> Option<&'a [u8]>
+    ensures { option_map (λ name. name.now) result ≡ defined_by (line_form statement.now) }
+{
+    match statement {
+        Statement::Input(name) => Some(name),
+        Statement::Gate(gate) => Some(gate.name),
+        _ => None,
     }
 }

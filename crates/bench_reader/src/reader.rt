@@ -1,7 +1,7 @@
 ghost use Rattle.std.specs.Prelude.{◌≡◌, IfOk, IfErr};
+ghost use Rattle.kdg_text.specs.Faults.{Answers};
 ghost use Rattle.bench_reader.specs.Decks.{IsDeck};
 ghost use Rattle.bench_reader.specs.Grammar.{deck_of, Refuses};
-ghost use Rattle.bench_reader.specs.Statements.{Gives};
 
 use crate::Deck;
 use crate::outline::Outline;
@@ -9,13 +9,12 @@ use crate::statement::statement_of;
 use kdg_text::{Lines, ReadFail};
 use std::alloc::Global;
 
-/// Reads a deck. Each line is `INPUT(name)`, `OUTPUT(name)`, `name = NAND(name, ..)` or
-/// `name = NOT(name)`, with spaces and tabs between as one likes. A name has 1 to 64 printable bytes
-/// without `( ) , = #`, doesn't begin with `@`, and is defined by one INPUT or gate line, before or
-/// after it is used. There are at most 4,096 signals, and at most 255 fan-ins to a gate. All else is
-/// refused with the fault of line 0 and kind 1.
+/// Reads a deck in the ISCAS `.bench` format. What begins with `#` is a comment. A line is
+/// `INPUT(name)`, `OUTPUT(name)`, `name = KIND(name, ..)` or `@ TIME BITS`, with spaces and tabs
+/// between as one likes and with words in letters of any case. The first fault is answered with its
+/// line; one that a line has by itself or beside earlier lines comes before any by later lines.
 pub fn read_deck(alloc: Global, input: &[u8]) -> Result<Deck, ReadFail>
-    ensures found { IfOk result (λ deck. deck_of input.now ≡ Some deck) }
+    ensures found { IfOk result (λ deck. deck_of input.now ≡ Ok deck) }
     ensures deck { IfOk result IsDeck }
     ensures refused { IfErr result (Refuses input.now) }
 {
@@ -23,12 +22,16 @@ pub fn read_deck(alloc: Global, input: &[u8]) -> Result<Deck, ReadFail>
 }
 
 fn deck_in(alloc: Global, input: &[u8]) -> Result<Deck, ReadFail>
-    ensures { Gives (λ deck. deck) result (deck_of input.now) }
+    ensures { Answers result (deck_of input.now) }
 {
     let mut outline = Outline::new(alloc);
     let mut lines = Lines::new(input);
     while let Some(line) = lines.next_line() {
-        outline.add(statement_of(alloc, line.bytes)?)?;
+        match statement_of(line.bytes) {
+            Ok(None) => {}
+            Ok(Some(said)) => outline.add(line.number, said)?,
+            Err(fault) => return Err(ReadFail::Bad(fault.on_line(line.number))),
+        }
     }
     outline.deck(alloc)
 }

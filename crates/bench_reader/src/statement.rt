@@ -1,186 +1,207 @@
-ghost use Rattle.std.specs.Prelude.{◌≡◌, [], ◌∷◌, IfOk, IfErr};
-ghost use Rattle.std.specs.List.{list_all};
-ghost use Rattle.bench_reader.specs.LineForms.{kind_of, is_name, is_name_byte, is_name_length, is_arity, names_of, declared_by, gate_by, form_of};
-ghost use Rattle.bench_reader.specs.Statements.{Gives, line_form, spellings};
+ghost use Rattle.std.specs.Prelude.{◌≡◌, ◌∷◌, [], nat_lt, if◌then◌else◌};
+ghost use Rattle.std.specs.Option.{option_or};
+ghost use Rattle.kdg_text.specs.Numbers.{u64_of};
+ghost use Rattle.kdg_text.specs.Tokens.{tokens_of};
+ghost use Rattle.bench_reader.specs.Decks.{fault_where};
+ghost use Rattle.bench_reader.specs.Faults.{beyond, unsupported, unknown_kind};
+ghost use Rattle.bench_reader.specs.LineForms.{FaultyLine, marks, form_of, form_by, declared_by, gate_by, is_unsupported, stimulus_at, stimulus_by};
+ghost use Rattle.bench_reader.specs.Statements.{Says, SaysForm};
 
 use crate::GateKind;
-use kdg_text::{Fault, ReadFail, Tokens};
-use std::alloc::Global;
+use crate::faults::{ARITY, BAD_TIME, SYNTAX, UNKNOWN_KIND, UNSUPPORTED, beyond};
+use crate::names::{
+    CLOSING, MOST_FAN_INS, MOST_NAME_BYTES, Names, OPENING, count_names, is_long, token,
+};
+use crate::words::{
+    MARKS, is_arity, is_bits, is_constant, is_name, is_text, is_unsupported, is_word, kind_of,
+    spells,
+};
+use kdg_text::{LineFault, Tokens, read_u64, without_comment};
 
-/// The answer to every input that isn't a deck.
-pub(crate) const NOT_A_DECK: ReadFail = ReadFail::Bad(Fault {
-    line: 0,
-    kind: 1,
-    bound: 0,
-});
+const COMMENT: u8 = b'#';
 
-const MOST_NAME_BYTES: usize = 64;
-
-const MARKS: &[u8] = b"(),=";
-
-const OPENING: &[u8] = b"(";
-
-const CLOSING: &[u8] = b")";
-
-const COMMA: &[u8] = b",";
+const AT: &[u8] = b"@";
 
 const EQUALS: &[u8] = b"=";
 
-const INPUT: &[u8] = b"INPUT";
+const LATEST_STIMULUS: u64 = 1_000_000_000;
 
-const OUTPUT: &[u8] = b"OUTPUT";
-
-const NAND: &[u8] = b"NAND";
-
-const NOT: &[u8] = b"NOT";
-
-/// What drives a signal, with the names of the fan-ins as they stand in the input.
-#[derive(Drop)]
-pub(crate) enum DraftForm<'a> {
-    Input,
-    Gate {
-        kind: GateKind,
-        fan_in: Vec<&'a [u8]>,
-    },
+/// A gate as its line defines it.
+#[derive(Clone, Copy)]
+pub(crate) struct GateDraft<'a> {
+    pub(crate) name: &'a [u8],
+    pub(crate) kind: GateKind,
+    /// The whole line, which has the names of the fan-ins.
+    pub(crate) line: &'a [u8],
 }
 
-/// A signal as its line defines it.
-#[derive(Drop)]
-pub(crate) struct Draft<'a> {
-    pub(crate) name: &'a [u8],
-    pub(crate) form: DraftForm<'a>,
+/// A stimulus as its line gives it.
+#[derive(Clone, Copy)]
+pub(crate) struct StimDraft<'a> {
+    pub(crate) time: u64,
+    pub(crate) bits: &'a [u8],
 }
 
 /// What a line says.
-#[derive(Drop)]
+#[derive(Clone, Copy)]
 pub(crate) enum Statement<'a> {
-    Signal(Draft<'a>),
+    Input(&'a [u8]),
     Output(&'a [u8]),
+    Gate(GateDraft<'a>),
+    Stimulus(StimDraft<'a>),
 }
 
-/// What a line says, where it has one of the forms.
-pub(crate) fn statement_of<'a>(alloc: Global, line: &'a [u8]) -> Result<Statement<'a>, ReadFail>
-    ensures { Gives line_form result (form_of line.now) }
+/// What a line says, with the limit that its own bytes go beyond.
+#[derive(Clone, Copy)]
+pub(crate) struct Said<'a> {
+    pub(crate) statement: Statement<'a>,
+    pub(crate) limit: Option<LineFault>,
+}
+
+/// What the line of that number says.
+#[derive(Clone, Copy)]
+pub(crate) struct NumberedStatement<'a> {
+    pub(crate) number: u64,
+    pub(crate) statement: Statement<'a>,
+}
+
+/// What a line says, or nothing where it has no token.
+pub(crate) fn statement_of(line: &[u8]) -> Result<Option<Said>, LineFault>
+    ensures { Says result (form_of line.now) }
 {
-    let mut tokens = Tokens::new(line, MARKS);
-    let first = token(&mut tokens)?;
-    let mark = token(&mut tokens)?;
-    if mark == OPENING {
-        declaration(first, &mut tokens)
-    } else if mark == EQUALS {
-        gate(alloc, first, &mut tokens)
-    } else {
-        Err(NOT_A_DECK)
+    let text = without_comment(line, COMMENT);
+    if !is_text(text) {
+        return Err(SYNTAX);
+    }
+    let mut tokens = Tokens::new(text, MARKS);
+    match tokens.next_token() {
+        None => Ok(None),
+        Some(first) => Ok(Some(statement_by(text, first, &mut tokens)?)),
     }
 }
 
-/// The next token of a line that has to have one.
-fn token<'a>(tokens: &mut Tokens<'a>) -> Result<&'a [u8], ReadFail>
-    ensures found { IfOk result (λ token. tokens.old ≡ token.now ∷ tokens.new) }
-    ensures none { IfErr result (λ error. (error ≡ NOT_A_DECK) × (tokens.old ≡ [])) }
+/// What the line says, behind its first token.
+fn statement_by<'a>(
+    line: &'a [u8],
+    first: &'a [u8],
+    tokens: &mut Tokens<'a>,
+) -> Result<Said<'a>, LineFault>
+    requires { tokens_of marks line.now ≡ first.now ∷ tokens.old }
+    ensures { SaysForm result (form_by first.now tokens.old) }
 {
-    tokens.next_token().ok_or(NOT_A_DECK)
+    let second = token(tokens)?;
+    if first == AT {
+        stimulus(second, tokens)
+    } else if second == OPENING {
+        declaration(first, tokens)
+    } else if second == EQUALS {
+        gate(line, first, tokens)
+    } else {
+        Err(SYNTAX)
+    }
 }
 
 /// `WORD ( NAME )` behind the first mark.
-fn declaration<'a>(word: &'a [u8], tokens: &mut Tokens<'a>) -> Result<Statement<'a>, ReadFail>
-    ensures { Gives line_form result (declared_by word.now tokens.old) }
+fn declaration<'a>(word: &'a [u8], tokens: &mut Tokens<'a>) -> Result<Said<'a>, LineFault>
+    ensures { SaysForm result (declared_by word.now tokens.old) }
 {
     let name = token(tokens)?;
     let mark = token(tokens)?;
     if !is_name(name) || mark != CLOSING || tokens.next_token().is_some() {
-        return Err(NOT_A_DECK);
+        return Err(SYNTAX);
     }
-    if word == INPUT {
-        let form = DraftForm::Input;
-        Ok(Statement::Signal(Draft { name, form }))
-    } else if word == OUTPUT {
-        Ok(Statement::Output(name))
+    let limit = limit_of(is_long(name), 0);
+    if spells(word, b"input") {
+        let statement = Statement::Input(name);
+        Ok(Said { statement, limit })
+    } else if spells(word, b"output") {
+        let statement = Statement::Output(name);
+        Ok(Said { statement, limit })
     } else {
-        Err(NOT_A_DECK)
+        Err(SYNTAX)
     }
 }
 
-/// `NAME = WORD ( NAME , NAME .. )` behind the first mark.
-fn gate<'a>(
-    alloc: Global,
-    name: &'a [u8],
-    tokens: &mut Tokens<'a>,
-) -> Result<Statement<'a>, ReadFail>
-    ensures { Gives line_form result (gate_by name.now tokens.old) }
+/// The limit that a line goes beyond, where one of its names is too long, or there are too many.
+fn limit_of(has_long: bool, fan_ins: usize) -> Option<LineFault>
+    ensures { result ≡ option_or (fault_where has_long (beyond 64)) (fault_where (nat_lt 255 fan_ins) (beyond 255)) }
 {
-    let kind = kind_of(token(tokens)?).ok_or(NOT_A_DECK)?;
-    if token(tokens)? != OPENING || !is_name(name) {
-        return Err(NOT_A_DECK);
-    }
-    let fan_in = names(alloc, tokens)?;
-    if !is_arity(kind, fan_in.len()) {
-        return Err(NOT_A_DECK);
-    }
-    let form = DraftForm::Gate { kind, fan_in };
-    Ok(Statement::Signal(Draft { name, form }))
-}
-
-/// Names with a comma between each two, up to the closing mark that ends the line.
-fn names<'a>(alloc: Global, tokens: &mut Tokens<'a>) -> Result<Vec<&'a [u8]>, ReadFail>
-    ensures { Gives (λ names. spellings names.items) result (names_of tokens.old) }
-{
-    let mut names = Vec::new(alloc);
-    loop {
-        let name = token(tokens)?;
-        let mark = token(tokens)?;
-        if !is_name(name) {
-            return Err(NOT_A_DECK);
-        }
-        names.push(name)?;
-        if mark != COMMA {
-            let at_end = mark == CLOSING && tokens.next_token().is_none();
-            return if at_end { Ok(names) } else { Err(NOT_A_DECK) };
-        }
-    }
-}
-
-fn kind_of(word: &[u8]) -> Option<GateKind>
-    ensures { result ≡ kind_of word.now }
-{
-    if word == NAND {
-        Some(GateKind::Nand)
-    } else if word == NOT {
-        Some(GateKind::Not)
+    if has_long {
+        Some(beyond(MOST_NAME_BYTES as u64))
+    } else if MOST_FAN_INS < fan_ins {
+        Some(beyond(MOST_FAN_INS as u64))
     } else {
         None
     }
 }
 
-fn is_arity(kind: GateKind, fan_ins: usize) -> bool
-    ensures { result ≡ is_arity kind fan_ins }
+/// `NAME = WORD ( NAME , NAME .. )` or `NAME = CONSTANT` behind the first mark.
+fn gate<'a>(line: &'a [u8], name: &'a [u8], tokens: &mut Tokens<'a>) -> Result<Said<'a>, LineFault>
+    requires { tokens_of marks line.now ≡ name.now ∷ EQUALS.now ∷ tokens.old }
+    ensures { SaysForm result (gate_by name.now tokens.old) }
 {
-    match kind {
-        GateKind::Not | GateKind::Buff => fan_ins == 1,
-        _ => 0 < fan_ins && fan_ins <= 255,
+    let word = token(tokens)?;
+    match tokens.next_token() {
+        None => Err(constant_fault(name, word)),
+        Some(mark) => {
+            if !is_name(name) || !is_word(word) || mark != OPENING {
+                return Err(SYNTAX);
+            }
+            let names = count_names(tokens)?;
+            let kind = kind_of(word).ok_or(kind_fault(word))?;
+            if !is_arity(kind, names.count) {
+                return Err(ARITY);
+            }
+            Ok(Said {
+                statement: Statement::Gate(GateDraft { name, kind, line }),
+                limit: limit_of(is_long(name) || names.has_long, names.count),
+            })
+        }
     }
 }
 
-fn is_name(word: &[u8]) -> bool
-    ensures { result ≡ is_name word.now }
+/// What is wrong with `NAME = WORD`.
+fn constant_fault(name: &[u8], word: &[u8]) -> LineFault
+    ensures { gate_by name.now (word.now ∷ []) ≡ FaultyLine result }
 {
-    has_name_length(word.len()) && !matches!(word, [b'@', ..]) && has_name_bytes(word)
+    if is_name(name) && is_constant(word) {
+        UNSUPPORTED
+    } else {
+        SYNTAX
+    }
 }
 
-fn has_name_length(len: usize) -> bool
-    ensures { result ≡ is_name_length len }
+/// What is wrong with a word that names no kind.
+fn kind_fault(word: &[u8]) -> LineFault
+    ensures { result ≡ (if is_unsupported word.now then unsupported else unknown_kind) }
 {
-    0 < len && len <= MOST_NAME_BYTES
+    if is_unsupported(word) {
+        UNSUPPORTED
+    } else {
+        UNKNOWN_KIND
+    }
 }
 
-fn has_name_bytes(word: &[u8]) -> bool
-    ensures { result ≡ list_all is_name_byte word.now }
+/// `@ TIME BITS` behind the time.
+fn stimulus<'a>(time: &'a [u8], tokens: &mut Tokens<'a>) -> Result<Said<'a>, LineFault>
+    ensures { SaysForm result (stimulus_by time.now tokens.old) }
 {
-    word.iter().all(|byte| is_name_byte(*byte))
+    let bits = token(tokens)?;
+    if tokens.next_token().is_some() || !is_bits(bits) {
+        return Err(SYNTAX);
+    }
+    stimulus_at(time, bits)
 }
 
-fn is_name_byte(byte: u8) -> bool
-    ensures { result ≡ is_name_byte byte }
+/// A stimulus at the time that a word says.
+fn stimulus_at<'a>(time: &'a [u8], bits: &'a [u8]) -> Result<Said<'a>, LineFault>
+    ensures { SaysForm result (stimulus_at (u64_of time.now) bits.now) }
 {
-    33 <= byte && byte <= 126 && !MARKS.contains(&byte) && byte != b'#'
+    match read_u64(time) {
+        Ok(time) if time <= LATEST_STIMULUS => Ok(Said {
+            statement: Statement::Stimulus(StimDraft { time, bits }),
+            limit: None,
+        }),
+        _ => Err(BAD_TIME),
+    }
 }

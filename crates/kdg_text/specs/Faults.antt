@@ -1,8 +1,10 @@
 -- Lines in order, each judged beside those before it, and the first that has a fault.
-use Rattle.std.specs.Prelude.{◌≡◌, ◌==◌, ℕ, ◌+◌, if◌then◌else◌, List, [], ◌∷◌, ◌++◌, Option, None, Some, Result, Err}
+use Rattle.std.specs.Prelude.{◌≡◌, ◌==◌, ℕ, ◌+◌, if◌then◌else◌, List, [], ◌∷◌, ◌++◌, Option, None, Some, Result, Ok, Err}
 use Rattle.std.specs.Option.{option_or, option_map, option_map_or}
 use Rattle.kdg_text.specs.declared.fault.Fault.{Fault}
 use Rattle.kdg_text.specs.declared.fault.LineFault.{LineFault}
+use Rattle.kdg_text.specs.declared.fault.ReadFail.{ReadFail}
+use Rattle.kdg_text.specs.declared.fault.ReadFail.TheVariants.{Bad, NoRoom}
 
 -- what a line says, with the line's number
 pub record Numbered (L : Type 0) : Type 0 where
@@ -53,3 +55,14 @@ pub record IsFirstFault {L : Type 0} (judge : List (Numbered L) → L → Option
   pub faultless : IsFaultless judge before
   pub judged : judge before line.form ≡ Some wrong
   pub answer : fault ≡ fault_on line.number wrong
+
+-- a reader's answer is this one, unless memory ran out
+abbrev pub Answers : {V : Type 0} → Result V ReadFail → Result V Fault → Type 0
+Answers (Ok value) answer = answer ≡ Ok value
+Answers (Err NoRoom) answer = Unit {0}
+Answers (Err (Bad fault)) answer = answer ≡ Err fault
+
+-- a reader stops at a line of that number for what is wrong with it, unless memory ran out
+abbrev pub StopsAt : ℕ → Option LineFault → ReadFail → Type 0
+StopsAt number wrong NoRoom = Unit {0}
+StopsAt number wrong (Bad fault) = option_map (fault_on number) wrong ≡ Some fault

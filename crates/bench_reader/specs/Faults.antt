@@ -1,0 +1,43 @@
+-- The faults of a line.
+use Rattle.std.specs.Prelude.{ℕ}
+use Rattle.kdg_text.specs.declared.fault.LineFault.{LineFault}
+
+-- a fault of this kind that is no limit
+abbrev pub fault_of_kind : ℕ → LineFault
+fault_of_kind kind = record { kind = kind; bound = 0 }
+
+-- the line has none of the forms, or a byte that isn't allowed
+abbrev pub syntax : LineFault
+syntax = fault_of_kind 1
+
+-- a gate's word names no kind
+abbrev pub unknown_kind : LineFault
+unknown_kind = fault_of_kind 2
+
+-- a form that is known and not taken
+abbrev pub unsupported : LineFault
+unsupported = fault_of_kind 3
+
+-- a gate of this kind has one fan-in
+abbrev pub arity : LineFault
+arity = fault_of_kind 4
+
+-- the name is defined by an earlier line
+abbrev pub double : LineFault
+double = fault_of_kind 5
+
+-- no line defines the name
+abbrev pub undefined : LineFault
+undefined = fault_of_kind 6
+
+-- a stimulus has another number of bits than there are primary inputs
+abbrev pub bit_count : LineFault
+bit_count = fault_of_kind 7
+
+-- the time of a stimulus is no number, or too great
+abbrev pub bad_time : LineFault
+bad_time = fault_of_kind 8
+
+-- the line goes beyond this limit
+abbrev pub beyond : ℕ → LineFault
+beyond bound = record { kind = 9; bound = bound }

@@ -1,0 +1,161 @@
+ghost use Rattle.std.specs.Prelude.{◌≡◌, ◌<◌, ◌-◌, ◌++◌, [], ◌∷◌, None, length, map, drop, IfOk, IfErr, OnOk};
+ghost use Rattle.kdg_text.specs.Faults.{Answers, StopsAt};
+ghost use Rattle.kdg_text.specs.Tokens.{tokens_of};
+ghost use Rattle.bench_reader.specs.Decks.{late_fault, signal_names};
+ghost use Rattle.bench_reader.specs.Grammar.{deck_of_lines};
+ghost use Rattle.bench_reader.specs.LineForms.{marks};
+ghost use Rattle.bench_reader.specs.Outlines.{IsMarked, deck_plus, numbers_of, with_first};
+ghost use Rattle.bench_reader.specs.Statements.{fan_in_of, line_form};
+
+use crate::faults::{BIT_COUNT, UNDEFINED};
+use crate::outline::Outline;
+use crate::statement::{GateDraft, NumberedStatement, Statement, StimDraft};
+use crate::words::MARKS;
+use crate::{Deck, Form, Signal, SignalList, Stim, StimList};
+use kdg_text::{LineFault, NoRoom, NumList, ReadFail, Text, Tokens};
+use std::alloc::Global;
+
+/// A deck that is being made, line by line.
+#[derive(Drop)]
+pub(crate) struct Making {
+    pub(crate) deck: Deck,
+    /// For each signal whether it is among the outputs.
+    pub(crate) declared: Vec<bool>,
+}
+
+impl<'a> Outline<'a> {
+    /// The deck, once each line has been added, or the first late fault.
+    pub(crate) fn deck(&self, alloc: Global) -> Result<Deck, ReadFail>
+        ensures { Answers result (deck_of_lines self.now) }
+    {
+        let mut making = Making::new(alloc, self.totals().signals)?;
+        for line in self.lines() {
+            self.make(alloc, &mut making, line)?;
+        }
+        Ok(making.deck)
+    }
+
+    /// Makes the part of the deck that a line describes.
+    fn make(
+        &self,
+        alloc: Global,
+        making: &mut Making,
+        line: &NumberedStatement<'a>,
+    ) -> Result<(), ReadFail>
+        requires marked { IsMarked (length (signal_names self.now)) making.old }
+        ensures fits { OnOk result (late_fault self.now (line_form line.now.statement) ≡ None) }
+        ensures made { OnOk result (making.new.deck ≡ deck_plus (signal_names self.now) making.old.deck (line_form line.now.statement)) }
+        ensures marked { OnOk result (IsMarked (length (signal_names self.now)) making.new) }
+        ensures refused { IfErr result (StopsAt line.now.number (late_fault self.now (line_form line.now.statement))) }
+    {
+        match &line.statement {
+            Statement::Input(name) => making.add_signal(alloc, name, Form::Input)?,
+            Statement::Gate(gate) => match self.fan_in_of(alloc, gate)? {
+                Some(fan_in) => making.add_signal(
+                    alloc,
+                    gate.name,
+                    Form::Gate {
+                        kind: gate.kind,
+                        fan_in,
+                    },
+                )?,
+                None => return Err(ReadFail::Bad(UNDEFINED.on_line(line.number))),
+            },
+            Statement::Output(name) => match self.number_of(name) {
+                Some(number) => making.declare(number)?,
+                None => return Err(ReadFail::Bad(UNDEFINED.on_line(line.number))),
+            },
+            Statement::Stimulus(stimulus) => {
+                if stimulus.bits.len() != self.totals().inputs as usize {
+                    return Err(ReadFail::Bad(BIT_COUNT.on_line(line.number)));
+                }
+                making.add_stimulus(alloc, stimulus)?;
+            }
+        }
+        Ok(())
+    }
+
+    /// The numbers of a gate's fan-ins, where each is a signal.
+    fn fan_in_of(&self, alloc: Global, gate: &GateDraft<'a>) -> Result<Option<NumList>, NoRoom>
+        ensures { IfOk result (λ numbers. numbers ≡ numbers_of (signal_names self.now) (fan_in_of gate.now.line.now)) }
+    {
+        let mut numbers = NumList::new(alloc);
+        let mut names = names_behind(gate.line);
+        while let Some(name) = names.next_token() {
+            match self.number_of(name) {
+                Some(number) => numbers.push(number)?,
+                None => return Ok(None),
+            }
+            let _mark = names.next_token();
+        }
+        Ok(Some(numbers))
+    }
+}
+
+/// The tokens of a gate's line behind `NAME = WORD (`.
+fn names_behind(line: &[u8]) -> Tokens
+    ensures { result ≡ drop 4 (tokens_of marks line.now) }
+{
+    let mut tokens = Tokens::new(line, MARKS);
+    for skipped in 0..4usize {
+        let _token = tokens.next_token();
+    }
+    tokens
+}
+
+impl Making {
+    /// An empty deck of so many signals.
+    fn new(alloc: Global, signals: u32) -> Result<Making, NoRoom>
+        ensures deck { IfOk result (λ making. making.deck ≡ record { signals = []; outputs = []; stimuli = [] }) }
+        ensures marked { IfOk result (IsMarked signals) }
+    {
+        Ok(Making {
+            deck: Deck {
+                signals: SignalList::new(alloc),
+                outputs: NumList::new(alloc),
+                stimuli: StimList::new(alloc),
+            },
+            declared: vec![in alloc; false; signals as usize]?,
+        })
+    }
+
+    fn add_signal(&mut self, alloc: Global, name: &[u8], form: Form) -> Result<(), NoRoom>
+        ensures { OnOk result (self.new ≡ record self.old { deck = record self.old.deck { signals = self.old.deck.signals ++ record { name = name.now; form = form } ∷ [] } }) }
+    {
+        let mut text = Text::new(alloc);
+        text.push_all(name)?;
+        self.deck.signals.push(Signal { name: text, form })
+    }
+
+    /// Adds an output, unless it is there.
+    fn declare(&mut self, number: u32) -> Result<(), NoRoom>
+        requires marked { IsMarked (length self.old.declared.items) self.old }
+        requires within { number < length self.old.declared.items }
+        ensures deck { OnOk result (self.new.deck ≡ record self.old.deck { outputs = with_first self.old.deck.outputs number }) }
+        ensures marked { OnOk result (IsMarked (length self.old.declared.items) self.new) }
+    {
+        if !self.declared[number as usize] {
+            self.deck.outputs.push(number)?;
+            self.declared[number as usize] = true;
+        }
+        Ok(())
+    }
+
+    fn add_stimulus(&mut self, alloc: Global, stimulus: &StimDraft) -> Result<(), NoRoom>
+        ensures { OnOk result (self.new ≡ record self.old { deck = record self.old.deck { stimuli = self.old.deck.stimuli ++ record { time = stimulus.now.time; bits = map (λ byte. byte - 48) stimulus.now.bits.now } ∷ [] } }) }
+    {
+        let bits = bits_of(alloc, stimulus.bits)?;
+        self.deck.stimuli.push(Stim {
+            time: stimulus.time,
+            bits,
+        })
+    }
+}
+
+/// The numbers that zeros and ones stand for.
+fn bits_of(alloc: Global, bits: &[u8]) -> Result<NumList, NoRoom>
+    ensures { IfOk result (λ numbers. numbers ≡ map (λ byte. byte - 48) bits.now) }
+{
+    let numbers = bits.iter().map(|byte| u32::from(byte.saturating_sub(b'0')));
+    Ok(NumList::from_vec(numbers.collect(alloc)?))
+}
