@@ -1,12 +1,12 @@
 -- Why there is no print for an input.
 use Rattle.std.proofs.Common.{◌≡◌, ℕ, List, Some, Option, Ok, Err, sym, ◌∙◌, ap, subst, inl, inr}
 use Rattle.std.specs.Prelude.{IfOk, IfErr, IsErrAnd, Result}
-use Rattle.std.specs.Option.{ok_or}
 use Rattle.app_laws.specs.Serial.{IsFault, FirstPasses}
 use Rattle.app_laws.specs.declared.serial_run.SerialFault.{SerialFault}
 use Rattle.app_laws.specs.declared.serial_run.SerialFault.TheVariants.{Budget, NoRoom}
+use Rattle.kdg_text.specs.declared.fault.Fault.{Fault}
 use Rattle.bench_reader.specs.declared.deck.Deck.{Deck}
-use Rattle.bench_reader.specs.Grammar.{deck_of, not_a_deck}
+use Rattle.bench_reader.specs.Grammar.{deck_of}
 use Rattle.app_laws.specs.Execution.{start_of}
 use Rattle.logic_sim.specs.Circuit.{start_cells, start_tasks}
 use Rattle.logic_sim.specs.Event.{Simulation, act_of}
@@ -17,15 +17,15 @@ use Rattle.kdg_prog.specs.declared.words.Options.{Options}
 use Rattle.kdg_prog.specs.Answer.{answer_by_deck, answer_by_end, operator_of, simulation_of, start_for}
 use Rattle.kdg_prog.specs.Refusals.{IsRefusal, AnswersSerial}
 
-refusal_from_fault : (options : Options) (input : List ℕ) (deck : Deck) (fault : SerialFault) (answer : Status) → deck_of input ≡ Some deck
+refusal_from_fault : (options : Options) (input : List ℕ) (deck : Deck) (fault : SerialFault) (answer : Status) → deck_of input ≡ Ok deck
     → IsFault (operator_of options deck) options.budget (start_for deck) fault → AnswersSerial fault answer → IsRefusal options input answer
 refusal_from_fault options input deck (Budget created limit) answer spelled over told =
     inr (inl (record {
       created = created;
       is = told ∙ ap (status.Budget created) over.limit_is;
       above = over.first_passes.passes;
-      over = ap (λ (found : Option Deck). answer_by_deck options (ok_or found not_a_deck)) spelled ∙ ap (answer_by_end deck) over.too_long;
-      first = subst (λ (found : Option Deck). IfOk (ok_or found not_a_deck) (λ deck. FirstPasses (operator_of options deck) options.budget (start_for deck) created)) (sym spelled) over.first_passes;
+      over = ap (answer_by_deck options) spelled ∙ ap (answer_by_end deck) over.too_long;
+      first = subst (λ (found : Result Deck Fault). IfOk found (λ deck. FirstPasses (operator_of options deck) options.budget (start_for deck) created)) (sym spelled) over.first_passes;
     }))
 refusal_from_fault options input deck NoRoom answer spelled over told = inr (inr told)
 
@@ -34,7 +34,7 @@ refused_with (Ok bytes) P Q implies is = tt
 refused_with (Err answer) P Q implies is = implies answer is
 
 -- the refusal of a serial run of a deck's circuit
-pub refusal_from_serial : (options : Options) (input : List ℕ) (deck : Deck) (circuit : Simulation) (cells : List ℕ) (tasks : List Start) (fault : SerialFault) (result : Result (List ℕ) Status) → deck_of input ≡ Some deck
+pub refusal_from_serial : (options : Options) (input : List ℕ) (deck : Deck) (circuit : Simulation) (cells : List ℕ) (tasks : List Start) (fault : SerialFault) (result : Result (List ℕ) Status) → deck_of input ≡ Ok deck
     → circuit ≡ simulation_of options deck → cells ≡ start_cells deck → tasks ≡ start_tasks deck
     → IsFault (act_of circuit) options.budget (start_of cells tasks) fault → IsErrAnd result (AnswersSerial fault) → IfErr result (IsRefusal options input)
 refusal_from_serial options input deck circuit cells tasks fault result spelled is-circuit is-cells is-tasks over told =

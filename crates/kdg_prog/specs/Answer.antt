@@ -1,10 +1,9 @@
 -- What an input is answered: a function of the options and of the input's bytes.
 use Rattle.std.specs.Prelude.{ℕ, List, ◌++◌, length, codes, Option, Some, None, Result, Ok, Err, IfOk}
-use Rattle.std.specs.Option.{ok_or}
 use Rattle.std.specs.Fmt.{decimal}
 use Rattle.kdg_text.specs.declared.fault.Fault.{Fault}
 use Rattle.bench_reader.specs.declared.deck.Deck.{Deck}
-use Rattle.bench_reader.specs.Grammar.{deck_of, not_a_deck}
+use Rattle.bench_reader.specs.Grammar.{deck_of}
 use Rattle.app_laws.specs.Execution.{Execution, Operator, start_of, run_to_end, joined}
 use Rattle.app_laws.specs.Serial.{FirstPasses}
 use Rattle.logic_sim.specs.Circuit.{start_cells, start_tasks, finals_of}
@@ -45,10 +44,6 @@ print_of deck end = joined end.log ++ finals_of deck end.cells ++ tasks_line (le
 
 -- ---- every command
 
--- the deck that an input spells, or its fault
-abbrev pub deck_or_fault : List ℕ → Result Deck Fault
-deck_or_fault input = ok_or (deck_of input) not_a_deck
-
 -- by the end of the execution, where there is one
 abbrev pub answer_by_end : Deck → Option (Execution ℕ) → Answer
 answer_by_end deck None = over_budget
@@ -60,8 +55,8 @@ answer_by_deck options (Ok deck) = answer_by_end deck (end_of options deck)
 
 -- what an input is answered
 abbrev pub answer_of : Options → List ℕ → Answer
-answer_of options input = answer_by_deck options (deck_or_fault input)
+answer_of options input = answer_by_deck options (deck_of input)
 
 -- this many tasks have been created when first there are more than the budget
 abbrev pub FirstPassesBudget : Options → List ℕ → ℕ → Type 0
-FirstPassesBudget options input created = IfOk (deck_or_fault input) (λ deck. FirstPasses (operator_of options deck) options.budget (start_for deck) created)
+FirstPassesBudget options input created = IfOk (deck_of input) (λ deck. FirstPasses (operator_of options deck) options.budget (start_for deck) created)

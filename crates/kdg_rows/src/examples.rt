@@ -2,7 +2,7 @@
 
 ghost use Rattle.std.specs.Prelude.{◌≤◌};
 
-use crate::decks::{C17, C17_CUT, C17_PRINT};
+use crate::decks::{C17, C17_CUT, C17_PRINT, C17_SHORT_STIMULUS, C17_WITH_HEADER};
 use kdg_prog::{Status, fault_line, run};
 use kdg_text::NoRoom;
 use outer_edge::{CleanSink, CleanSource};
@@ -35,7 +35,6 @@ fn answer(
 
 #[test]
 fn answers_and_prints(rt: HostRuntime) -> Result<(), Fail> {
-    let bad = Status::BadInput { line: 0, kind: 1 };
     for (words, input, status, print) in [
         ("sim", C17, Status::Ok, C17_PRINT),
         ("sim --budget 20 --until 2", C17, Status::Ok, C17_PRINT),
@@ -76,7 +75,7 @@ fn answers_and_prints(rt: HostRuntime) -> Result<(), Fail> {
             "",
         ),
         ("sim --budget 0", "", Status::Ok, "tasks 0\n"),
-        ("sim", C17_CUT, bad, ""),
+        ("sim", C17_WITH_HEADER, Status::Ok, C17_PRINT),
         (
             "sim",
             "OUTPUT(x)\nx = NOT(a)\nINPUT(a)",
@@ -98,10 +97,7 @@ fn answers_and_prints(rt: HostRuntime) -> Result<(), Fail> {
             },
             "",
         ),
-        ("sim", "INPUT(1)\nINPUT(1)\n", bad, ""),
-        ("sim", "x = NOT(y)\n", bad, ""),
-        ("sim", "# c17\n", bad, ""),
-        ("sim", "INPUT(a)\n\n", bad, ""),
+        ("sim", "# c17\n", Status::Ok, "tasks 0\n"),
     ] {
         for step in [1usize, 3, 4096] {
             let (answered, sink) = answer(rt.alloc(), words, input, step)?;
@@ -109,6 +105,40 @@ fn answers_and_prints(rt: HostRuntime) -> Result<(), Fail> {
             assert_eq!(rt; sink.held(), print.as_bytes(), "{words} {input}");
         }
     }
+    Ok(())
+}
+
+#[test]
+fn bad_decks_are_told_by_line_and_fault(rt: HostRuntime) -> Result<(), Fail> {
+    for (input, line, kind) in [
+        (C17_CUT, 7, 6),
+        ("INPUT(1)\nOUTPUT(x)\nx = NAND(1, y)\n", 3, 6),
+        ("INPUT(1)\nINPUT(1)\n", 2, 5),
+        (C17_SHORT_STIMULUS, 14, 7),
+        ("INPUT(a)\nx = DFF(a)\n", 2, 3),
+    ] {
+        for step in [1usize, 3, 4096] {
+            let (answered, sink) = answer(rt.alloc(), "sim", input, step)?;
+            assert_eq!(rt; answered, Status::BadInput { line, kind }, "{input}");
+            assert_eq!(rt; sink.held(), b"".as_slice(), "{input}");
+        }
+    }
+    Ok(())
+}
+
+#[test]
+fn a_deck_has_at_most_4096_signals(rt: HostRuntime) -> Result<(), Fail> {
+    let mut deck = String::new(rt.alloc());
+    for number in 0..4097 {
+        deck.push_str(&format!(in rt.alloc(); "INPUT({number})\n")?)?;
+    }
+    let (answered, sink) = answer(rt.alloc(), "sim", &deck, 4096)?;
+    let want = Status::TooLarge {
+        line: 4097,
+        bound: 4096,
+    };
+    assert_eq!(rt; answered, want);
+    assert_eq!(rt; sink.held(), b"".as_slice());
     Ok(())
 }
 
@@ -140,7 +170,7 @@ fn faults_are_told_with_their_codes(rt: HostRuntime) -> Result<(), Fail> {
     for (words, input, code, told) in [
         ("sim", C17, 0u8, ""),
         ("sim --workers 0", C17, 2, "usage: word 3"),
-        ("sim", C17_CUT, 3, "bad input: line 0: fault 1"),
+        ("sim", C17_CUT, 3, "bad input: line 7: fault 6"),
         ("sim --budget 19", C17, 5, "budget: more than 19 tasks"),
     ] {
         let (status, _) = answer(rt.alloc(), words, input, 5)?;

@@ -66,21 +66,22 @@ fn a_print_may_fill_the_room(rt: HostRuntime) -> Result<(), Fail> {
 #[test]
 fn an_input_may_be_too_large(rt: HostRuntime) -> Result<(), Fail> {
     let options = plain_options();
-    for (len, want) in [
-        (16_777_216usize, Status::BadInput { line: 0, kind: 1 }),
+    for (len, want, print) in [
+        (16_777_216usize, Status::Ok, "tasks 0\n"),
         (
             16_777_217,
             Status::TooLarge {
                 line: 0,
                 bound: 16_777_216,
             },
+            "",
         ),
     ] {
         let mut source = CleanSource::new(vec![in rt.alloc(); b' '; len]?, 1 << 20);
         let mut sink = CleanSink::with_room(rt.alloc(), 64, 4096)?;
         let status = run_in_memory(rt.alloc(), &options, &mut source, &mut sink);
         assert_eq!(rt; status, want);
-        assert_eq!(rt; sink.held(), b"".as_slice());
+        assert_eq!(rt; sink.held(), print.as_bytes());
     }
     Ok(())
 }

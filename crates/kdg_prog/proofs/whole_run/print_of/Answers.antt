@@ -1,4 +1,4 @@
-use Rattle.std.proofs.Common.{◌≡◌, ◌∙◌, Some, ap, sym, rules}
+use Rattle.std.proofs.Common.{◌≡◌, ◌∙◌, Ok, ap, sym, rules}
 use Rattle.bench_reader.specs.Grammar.{deck_of}
 use Rattle.logic_sim.specs.Circuit.{start_cells, start_tasks}
 use Rattle.kdg_prog.specs.Answer.{simulation_of}
@@ -8,7 +8,7 @@ use Rattle.kdg_prog.proofs.whole_run.print_of.Goals as goal
 pub returns-in_err-cells-2-clause-refusal : goal.returns-in_err-cells-2-clause-refusal
 returns-in_err-cells-2-clause-refusal c =
     let deck = c.in_ok-deck.deck in
-    let spelled : deck_of c.args.input ≡ Some deck = sym (ap deck_of c.bytes.ensures) ∙ c.in_ok-deck.ensures.found in
+    let spelled : deck_of c.args.input ≡ Ok deck = sym (ap deck_of c.bytes.ensures) ∙ c.in_ok-deck.ensures.found in
     let circuit : c.in_ok-circuit.circuit ≡ simulation_of c.args.options.now deck = search rules in
     let cells : c.in_ok-cells.cells.items ≡ start_cells deck = search rules in
     let tasks : c.in_ok-tasks.tasks ≡ start_tasks deck = search rules in
