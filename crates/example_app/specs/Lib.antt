@@ -1,0 +1,3 @@
+pub mod Introduction
+pub mod Lawful
+pub mod Sets
