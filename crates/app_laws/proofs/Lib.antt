@@ -1,3 +1,4 @@
+pub mod Acting
 pub mod Apart
 pub mod Lists
 pub mod Ordered

@@ -8,13 +8,12 @@ use Rattle.task_order.specs.declared.task.Body.{Body}
 use Rattle.task_order.specs.declared.task.Task.{Task}
 use Rattle.task_order.specs.Key.{key_cmp, key_cmp_total, child_key}
 use Rattle.task_order.specs.TaskList.{IsAscending, IsNewKey, put_in, put_all}
-use Rattle.task_order.proofs.KeyOrder.{children_come_later}
-use Rattle.task_order.proofs.TaskLists.{AllByRecursion-put_in, AllByRecursion-put_all, IsAscending-put_in}
 use Rattle.app_laws.specs.Execution.{Operator, Execution, children_from, first_from, start_of, acts, after_steps}
 use Rattle.app_laws.specs.Laws.{AllFit, NoneEarlier, IsFitOutcome, IsFit}
+use Rattle.app_laws.specs.Lower.{LowerLaws}
 use Rattle.app_laws.specs.Order.{is_prefix, Pairwise, IsOrderly}
 use Rattle.app_laws.proofs.Apart.{TasksApart, TasksApart-turned, apart_longer, is_prefix-longer, is_prefix-longer_self, differ_from_no_prefix, All-children, All-first, children_apart, first_apart}
-use Rattle.app_laws.proofs.Lists.{All-weaker, All-joined, All-push, Pairwise-push, Pairwise-put_in}
+use Rattle.app_laws.proofs.Lists.{All-weaker, All-joined, All-push, All-put_in, All-put_all, Pairwise-push, Pairwise-put_in}
 use Rattle.app_laws.proofs.Steps.{after_none, after_one_more}
 
 -- tasks that are apart have other keys
@@ -27,20 +26,20 @@ record IsSpread (tasks : List Task) : Type 0 where
   ascending : IsAscending tasks
   apart : Pairwise TasksApart tasks
 
-spread-put_in : (task : Task) (tasks : List Task) → AllByRecursion (TasksApart task) tasks → IsSpread tasks → IsSpread (put_in task tasks)
-spread-put_in task tasks apart spread = record {
-  ascending = IsAscending-put_in task tasks (new_key_from_apart task tasks apart) spread.ascending;
+spread-put_in : LowerLaws → (task : Task) (tasks : List Task) → AllByRecursion (TasksApart task) tasks → IsSpread tasks → IsSpread (put_in task tasks)
+spread-put_in lower task tasks apart spread = record {
+  ascending = lower.puts_ascend task tasks (new_key_from_apart task tasks apart) spread.ascending;
   apart = Pairwise-put_in TasksApart TasksApart-turned task tasks apart spread.apart;
 }
 
-spread-put_all : (new tasks : List Task) → Pairwise TasksApart new → AllByRecursion (λ task. AllByRecursion (TasksApart task) tasks) new → IsSpread tasks → IsSpread (put_all new tasks)
-spread-put_all [] tasks pairs apart spread = spread
-spread-put_all (task ∷ new) tasks pairs apart spread =
-    spread-put_all new (put_in task tasks) pairs.1
+spread-put_all : LowerLaws → (new tasks : List Task) → Pairwise TasksApart new → AllByRecursion (λ task. AllByRecursion (TasksApart task) tasks) new → IsSpread tasks → IsSpread (put_all new tasks)
+spread-put_all lower [] tasks pairs apart spread = spread
+spread-put_all lower (task ∷ new) tasks pairs apart spread =
+    spread-put_all lower new (put_in task tasks) pairs.1
     (All-joined (TasksApart task) (λ later. AllByRecursion (TasksApart later) tasks) (λ later. AllByRecursion (TasksApart later) (put_in task tasks))
-    (λ later pair all. AllByRecursion-put_in (TasksApart later) task tasks (TasksApart-turned task later pair) all)
+    (λ later pair all. All-put_in (TasksApart later) task tasks (TasksApart-turned task later pair) all)
     new pairs.0 apart.1)
-    (spread-put_in task tasks apart.0 spread)
+    (spread-put_in lower task tasks apart.0 spread)
 
 -- a start is orderly
 all_apart_from_none : (new : List Task) → AllByRecursion (λ task. AllByRecursion (TasksApart task) []) new
@@ -51,10 +50,10 @@ none_logged : (P : Task → Key × List ℕ → Type 0) (tasks : List Task) → 
 none_logged P [] = tt
 none_logged P (task ∷ tasks) = (tt, none_logged P tasks)
 
-pub start_orderly : {V : Type 0} (cells : List V) (first : List Start) → IsOrderly (start_of cells first)
-start_orderly cells first =
+pub start_orderly : LowerLaws → {V : Type 0} (cells : List V) (first : List Start) → IsOrderly (start_of cells first)
+start_orderly lower cells first =
     let tasks = first_from 0 first in
-    let spread = spread-put_all tasks [] (first_apart 0 first) (all_apart_from_none tasks) (record { ascending = tt; apart = tt }) in
+    let spread = spread-put_all lower tasks [] (first_apart 0 first) (all_apart_from_none tasks) (record { ascending = tt; apart = tt }) in
     record {
       ascending = spread.ascending;
       apart = spread.apart;
@@ -70,13 +69,13 @@ start_fit is_fit_cells is_fit_task cells first fit-cells fit-first =
     let P = λ (task : Task). is_fit_task task.key.prio task.body in
     record {
       cells = fit-cells;
-      pending = AllByRecursion-put_all P (first_from 0 first) [] (All-first P (λ start. is_fit_task start.prio start.body) (λ number start fit. fit) 0 first fit-first) tt;
+      pending = All-put_all P (first_from 0 first) [] (All-first P (λ start. is_fit_task start.prio start.body) (λ number start fit. fit) 0 first fit-first) tt;
     }
 
 -- a task that acts keeps the order
-pub acts_orderly : {V : Type 0} (act : Operator V) (e : Execution V) (task : Task) (others : List Task) → e.pending ≡ task ∷ others
+pub acts_orderly : LowerLaws → {V : Type 0} (act : Operator V) (e : Execution V) (task : Task) (others : List Task) → e.pending ≡ task ∷ others
     → NoneEarlier task.key.prio (act task e.cells).children → IsOrderly e → IsOrderly (acts act e (task ∷ others))
-acts_orderly act e task others pending not_earlier orderly =
+acts_orderly lower act e task others pending not_earlier orderly =
     let path = task.key.path in
     let children = (act task e.cells).children in
     let new = children_from task.key 0 children in
@@ -90,7 +89,7 @@ acts_orderly act e task others pending not_earlier orderly =
     let unlogged = subst (λ ts. AllByRecursion (λ t. AllByRecursion (Logged t) e.log) ts) pending orderly.unlogged in
     let after_log = subst (λ ts. AllByRecursion (λ t. AllByRecursion (After t) e.log) ts) pending orderly.after_log in
     let spread =
-    spread-put_all new others (children_apart task.key 0 children)
+    spread-put_all lower new others (children_apart task.key 0 children)
     (All-children (λ t. AllByRecursion (TasksApart t) others) UpTo task.key
     (λ number child up_to. All-weaker (TasksApart task) (TasksApart (child_of number child)) (λ other. apart_longer path other.key.path number) others apart.0)
     0 children not_earlier)
@@ -99,7 +98,7 @@ acts_orderly act e task others pending not_earlier orderly =
       ascending = spread.ascending;
       apart = spread.apart;
       unlogged =
-          AllByRecursion-put_all (λ t. AllByRecursion (Logged t) (e.log ++ entry ∷ [])) new others
+          All-put_all (λ t. AllByRecursion (Logged t) (e.log ++ entry ∷ [])) new others
           (All-children (λ t. AllByRecursion (Logged t) (e.log ++ entry ∷ [])) UpTo task.key
           (λ number child up_to. All-push (Logged (child_of number child)) e.log entry
           (All-weaker (Logged task) (Logged (child_of number child)) (λ old. is_prefix-longer path old.0.path number) e.log unlogged.0)
@@ -109,10 +108,10 @@ acts_orderly act e task others pending not_earlier orderly =
           (λ other pair all. All-push (Logged other) e.log entry all pair.not_after)
           others apart.0 unlogged.1);
       after_log =
-          AllByRecursion-put_all (λ t. AllByRecursion (After t) (e.log ++ entry ∷ [])) new others
+          All-put_all (λ t. AllByRecursion (After t) (e.log ++ entry ∷ [])) new others
           (All-children (λ t. AllByRecursion (After t) (e.log ++ entry ∷ [])) UpTo task.key
           (λ number child up_to.
-          let less = children_come_later task.key number child.prio up_to in
+          let less = lower.children_later task.key number child.prio up_to in
           All-push (After (child_of number child)) e.log entry
           (All-weaker (After task) (After (child_of number child)) (λ old earlier. key_cmp_total.trans old.0 task.key (child_key task.key number child.prio) earlier less) e.log after_log.0)
           less)
@@ -142,7 +141,7 @@ acts_fit is_fit_cells is_fit_task act e task others pending outcome fit =
     record {
       cells = outcome.cells;
       pending =
-          AllByRecursion-put_all P (children_from task.key 0 (act task e.cells).children) others
+          All-put_all P (children_from task.key 0 (act task e.cells).children) others
           (All-children P Q task.key (λ number child fit-child. fit-child) 0 (act task e.cells).children outcome.children)
           (subst (λ ts. AllByRecursion P ts) pending fit.pending).1;
     }
@@ -167,20 +166,20 @@ stays_fit is_fit_cells is_fit_task act keeps e fit (suc steps) =
     let after = after_steps act steps e in
     rw after_one_more (acts_stay_fit is_fit_cells is_fit_task act keeps after after.pending refl (stays_fit is_fit_cells is_fit_task act keeps e fit steps))
 
-acts_stay_orderly : {V : Type 0} (is_fit_cells : List V → Type 0) (is_fit_task : ℕ → Body → Type 0) (act : Operator V) → ChildrenNotEarlier is_fit_cells is_fit_task act
+acts_stay_orderly : LowerLaws → {V : Type 0} (is_fit_cells : List V → Type 0) (is_fit_task : ℕ → Body → Type 0) (act : Operator V) → ChildrenNotEarlier is_fit_cells is_fit_task act
     → (e : Execution V) (tasks : List Task) → e.pending ≡ tasks → IsFit is_fit_cells is_fit_task e → IsOrderly e → IsOrderly (acts act e tasks)
-acts_stay_orderly is_fit_cells is_fit_task act not_earlier e [] pending fit orderly = orderly
-acts_stay_orderly is_fit_cells is_fit_task act not_earlier e (task ∷ others) pending fit orderly =
-    acts_orderly act e task others pending
+acts_stay_orderly lower is_fit_cells is_fit_task act not_earlier e [] pending fit orderly = orderly
+acts_stay_orderly lower is_fit_cells is_fit_task act not_earlier e (task ∷ others) pending fit orderly =
+    acts_orderly lower act e task others pending
     (not_earlier task e.cells fit.cells (fit_first is_fit_cells is_fit_task e task others pending fit)) orderly
 
-pub stays_orderly : {V : Type 0} (is_fit_cells : List V → Type 0) (is_fit_task : ℕ → Body → Type 0) (act : Operator V) → KeepsFit is_fit_cells is_fit_task act
+pub stays_orderly : LowerLaws → {V : Type 0} (is_fit_cells : List V → Type 0) (is_fit_task : ℕ → Body → Type 0) (act : Operator V) → KeepsFit is_fit_cells is_fit_task act
     → ChildrenNotEarlier is_fit_cells is_fit_task act
     → (e : Execution V) → IsFit is_fit_cells is_fit_task e → IsOrderly e → (steps : ℕ) → IsOrderly (after_steps act steps e)
-stays_orderly is_fit_cells is_fit_task act keeps not_earlier e fit orderly zero = rw after_none orderly
-stays_orderly is_fit_cells is_fit_task act keeps not_earlier e fit orderly (suc steps) =
+stays_orderly lower is_fit_cells is_fit_task act keeps not_earlier e fit orderly zero = rw after_none orderly
+stays_orderly lower is_fit_cells is_fit_task act keeps not_earlier e fit orderly (suc steps) =
     let after = after_steps act steps e in
     rw after_one_more
-    (acts_stay_orderly is_fit_cells is_fit_task act not_earlier after after.pending refl
+    (acts_stay_orderly lower is_fit_cells is_fit_task act not_earlier after after.pending refl
     (stays_fit is_fit_cells is_fit_task act keeps e fit steps)
-    (stays_orderly is_fit_cells is_fit_task act keeps not_earlier e fit orderly steps))
+    (stays_orderly lower is_fit_cells is_fit_task act keeps not_earlier e fit orderly steps))

@@ -1,53 +1,46 @@
 -- Where a serial run stands after some steps.
-use Rattle.std.proofs.Common.{◌≡◌, ◌≢◌, ℕ, suc, ◌+◌, ◌-◌, ◌<◌, ◌≤◌, true, false, not, List, [], ◌∷◌, ◌++◌, length, Option, Some, None, refl, sym, ap, ◌∙◌, ⊎_elim, arith, add-one, append-nil}
+use Rattle.std.proofs.Common.{◌≡◌, ◌≢◌, ℕ, suc, ◌+◌, ◌-◌, ◌<◌, ◌≤◌, true, false, not, List, [], ◌∷◌, ◌++◌, length, Option, Some, None, refl, sym, ap, ◌∙◌, ⊎_elim, arith, add-one}
 use Rattle.std.specs.Prelude.{MatchOption}
 use Rattle.std.specs.List.{list_any}
 use Rattle.std.specs.Option.{option_map}
 use Rattle.std.proofs.lemmas.Bool.{cases_lt, cases_order, true≢false}
-use Rattle.std.proofs.lemmas.List.Concat.{flat_map-append}
-use Rattle.task_order.specs.declared.key.Key.{Key}
 use Rattle.task_order.specs.declared.start.Start.{Start}
 use Rattle.task_order.specs.declared.task.Task.{Task}
 use Rattle.task_order.specs.Key.{end, is_before}
 use Rattle.task_order.specs.TaskList.{put_all}
-use Rattle.task_order.proofs.TaskLists.{length-put_all}
-use Rattle.app_laws.specs.Execution.{Operator, Execution, children_from, first_from, start_of, acts, after_steps, is_clear_before, steps_until, run_to_end, created_by, created_after, joined}
+use Rattle.app_laws.specs.Execution.{Operator, Execution, children_from, first_from, start_of, acts, after_steps, is_clear_before, steps_until, run_to_end, created_by, created_after}
 use Rattle.app_laws.specs.Laws.{IsFirstClear}
 use Rattle.app_laws.specs.Serial.{IsOverBudget}
 use Rattle.app_laws.proofs.Apart.{length-first_from}
+use Rattle.app_laws.proofs.Lists.{length-put_all}
 use Rattle.app_laws.proofs.Steps.{after_none, after_one_more, stops_when_clear, none_before_end, created_by_task, logs_while_pending, created_never_falls, ends_within_limit}
 
 -- the execution after count steps, each of which had a task to run
-pub record IsReached {V : Type 0} (act : Operator V) (budget : ℕ) (start : Execution V) (cells : List V) (pending : List Task) (text : List ℕ) (count created : ℕ) : Type 0 where
+pub record IsReached {V : Type 0} (act : Operator V) (budget : ℕ) (start : Execution V) (cells : List V) (pending : List Task) (count created : ℕ) : Type 0 where
   pub cells-are : cells ≡ (after_steps act count start).cells
   pub pending-are : pending ≡ (after_steps act count start).pending
-  pub text-is : text ≡ joined (after_steps act count start).log
   pub created-are : created ≡ created_after act count start
   pub within : created ≤ budget
   pub busy : (fewer : ℕ) → fewer < count → (after_steps act fewer start).pending ≢ []
 
-pub reached_at_start : {V : Type 0} (act : Operator V) (budget : ℕ) (cells : List V) (first : List Start) (pending : List Task) (text : List ℕ) (created : ℕ)
-    → pending ≡ put_all (first_from 0 first) [] → text ≡ [] → created ≡ length first → created ≤ budget
-    → IsReached act budget (start_of cells first) cells pending text 0 created
-reached_at_start act budget cells first pending text created puts none many within =
+pub reached_at_start : {V : Type 0} (act : Operator V) (budget : ℕ) (cells : List V) (first : List Start) (pending : List Task) (created : ℕ)
+    → pending ≡ put_all (first_from 0 first) [] → created ≡ length first → created ≤ budget
+    → IsReached act budget (start_of cells first) cells pending 0 created
+reached_at_start act budget cells first pending created puts many within =
     let start = start_of cells first in
     let same = after_none act start in
     record {
       cells-are = sym (ap (λ e. e.cells) same);
       pending-are = puts ∙ sym (ap (λ e. e.pending) same);
-      text-is = none ∙ sym (ap (λ e. joined e.log) same);
       created-are = rw after_none (omega (arith, length-put_all (first_from 0 first) [], length-first_from 0 first));
       within = within;
       busy = λ fewer below. absurd (omega arith);
     }
 
-joined-push : (log : List (Key × List ℕ)) (key : Key) (text : List ℕ) → joined (log ++ (key, text) ∷ []) ≡ joined log ++ text
-joined-push log key text = flat_map-append (λ (entry : Key × List ℕ). entry.1) log ((key, text) ∷ []) ∙ ap (λ t. joined log ++ t) (append-nil text)
-
 not_empty : (task : Task) (tasks : List Task) → task ∷ tasks ≢ []
 not_empty task tasks same = absurd (cc)
 
-module _ {V : Type 0} {act : Operator V} {budget : ℕ} {start : Execution V} {cells : List V} {pending : List Task} {text : List ℕ} {count created : ℕ} (reached : IsReached act budget start cells pending text count created) where
+module _ {V : Type 0} {act : Operator V} {budget : ℕ} {start : Execution V} {cells : List V} {pending : List Task} {count created : ℕ} (reached : IsReached act budget start cells pending count created) where
   -- the task that acts next
   step_is : (task : Task) (others : List Task) → pending ≡ task ∷ others → after_steps act (suc count) start ≡ acts act (after_steps act count start) (task ∷ others)
   step_is task others is = after_one_more act count start ∙ ap (acts act (after_steps act count start)) (sym reached.pending-are ∙ is)
@@ -64,21 +57,16 @@ module _ {V : Type 0} {act : Operator V} {budget : ℕ} {start : Execution V} {c
         ap (λ cs. length (act task cs).children) reached.cells-are,
       )
 
-  pub reached_next : (task : Task) (others : List Task) (cells' : List V) (pending' : List Task) (text' : List ℕ) (created' : ℕ) → pending ≡ task ∷ others
+  pub reached_next : (task : Task) (others : List Task) (cells' : List V) (pending' : List Task) (created' : ℕ) → pending ≡ task ∷ others
       → cells' ≡ (act task cells).cells
       → pending' ≡ put_all (children_from task.key 0 (act task cells).children) others
-      → text' ≡ text ++ (act task cells).text
       → created' ≡ created + length (act task cells).children → created' ≤ budget
-      → IsReached act budget start cells' pending' text' (count + 1) created'
-  reached_next task others cells' pending' text' created' is cells-are pending-are text-is created-are within =
-      let e = after_steps act count start in
+      → IsReached act budget start cells' pending' (count + 1) created'
+  reached_next task others cells' pending' created' is cells-are pending-are created-are within =
       let next = step_is task others is in
       rw add-one (record {
         cells-are = cells-are ∙ ap (λ cs. (act task cs).cells) reached.cells-are ∙ sym (ap (λ x. x.cells) next);
         pending-are = pending-are ∙ ap (λ cs. put_all (children_from task.key 0 (act task cs).children) others) reached.cells-are ∙ sym (ap (λ x. x.pending) next);
-        text-is =
-            text-is ∙ ap (λ t. t ++ (act task cells).text) reached.text-is ∙ ap (λ cs. joined e.log ++ (act task cs).text) reached.cells-are
-            ∙ sym (joined-push e.log task.key (act task e.cells).text) ∙ sym (ap (λ x. joined x.log) next);
         created-are = created-are ∙ sym (created_next task others is);
         within = within;
         busy = λ fewer below.
@@ -89,6 +77,13 @@ module _ {V : Type 0} {act : Operator V} {budget : ℕ} {start : Execution V} {c
             not_empty task others (sym is ∙ reached.pending-are ∙ sym (ap (λ n. (after_steps act n start).pending) last) ∙ none))
             (cases_lt fewer count);
       })
+
+  -- what the task logs
+  pub log_next : (task : Task) (others : List Task) → pending ≡ task ∷ others
+      → (after_steps act (count + 1) start).log ≡ (after_steps act count start).log ++ (task.key, (act task cells).text) ∷ []
+  log_next task others is =
+      rw add-one
+      (ap (λ x. x.log) (step_is task others is) ∙ ap (λ cs. (after_steps act count start).log ++ (task.key, (act task cs).text) ∷ []) (sym reached.cells-are))
 
   module _ (fresh : length start.log ≡ 0) where
     count_within : count + length pending ≤ budget

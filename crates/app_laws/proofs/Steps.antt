@@ -9,7 +9,7 @@ use Rattle.task_order.specs.Key.{Bound, end, is_before}
 use Rattle.app_laws.specs.Execution.{Operator, Execution, children_from, acts, step, after_steps, is_clear_before, steps_until, created_by, created_after}
 use Rattle.app_laws.specs.Laws.{IsFirstClear, StopsWhenClear, LogsEachStep, CreatedNeverFalls, EndsWithinLimit, StepsAdd}
 use Rattle.app_laws.proofs.Apart.{length-children_from}
-use Rattle.task_order.proofs.TaskLists.{length-put_all}
+use Rattle.app_laws.proofs.Lists.{length-put_all}
 
 pub after_none : {V : Type 0} (act : Operator V) (e : Execution V) → after_steps act 0 e ≡ e
 unfolding after_steps

@@ -43,6 +43,10 @@ IsWholeLines [] = Unit {0}
 IsWholeLines (byte ∷ []) = byte ≡ 10
 IsWholeLines (byte ∷ next ∷ text) = IsWholeLines (next ∷ text)
 
+-- the children without their sets
+abbrev pub starts_of : List Child → List Start
+starts_of children = map (λ child. record { prio = child.prio; body = child.body }) children
+
 module _ {V : Type 0} (app : Application V) where
   abbrev pub IsFitTask : Task → Type 0
   IsFitTask task = app.is_fit_task task.key.prio task.body

@@ -1,12 +1,14 @@
 -- The sequential execution of an ordered algorithm: the earliest pending task acts, until none is pending.
 use Rattle.std.specs.Prelude.{ℕ, zero, suc, ◌+◌, List, [], ◌∷◌, ◌++◌, length, Bool, not, if◌then◌else◌, Option, Some, None}
-use Rattle.std.specs.List.{list_any, flat_map}
+use Rattle.std.specs.List.{list_any}
 use Rattle.std.specs.Option.{option_map, option_or}
 use Rattle.task_order.specs.declared.key.Key.{Key}
 use Rattle.task_order.specs.declared.start.Start.{Start}
 use Rattle.task_order.specs.declared.task.Task.{Task}
 use Rattle.task_order.specs.Key.{Bound, end, is_before, child_key}
 use Rattle.task_order.specs.TaskList.{put_all}
+use Rattle.output_log.specs.Entries.{Entry}
+pub use Rattle.output_log.specs.Entries.{joined_texts as joined}
 
 -- what a task does: the cells after it, its children in order, and the text that it writes
 pub record Outcome (V : Type 0) : Type 0 where
@@ -22,7 +24,7 @@ Operator V = Task → List V → Outcome V
 pub record Execution (V : Type 0) : Type 0 where
   pub cells : List V
   pub pending : List Task
-  pub log : List (Key × List ℕ)
+  pub log : List Entry
 
 -- the children as tasks, numbered from a number on: each has its parent's path, and then its number
 abbrev pub children_from : Key → ℕ → List Start → List Task
@@ -82,7 +84,3 @@ created_by e = length e.log + length e.pending
 
 abbrev pub created_after : {V : Type 0} → Operator V → ℕ → Execution V → ℕ
 created_after act steps e = created_by (after_steps act steps e)
-
--- the texts of a log, one after another
-abbrev pub joined : List (Key × List ℕ) → List ℕ
-joined log = flat_map (λ entry. entry.1) log

@@ -4,6 +4,7 @@ use Rattle.std.specs.List.{AllByRecursion}
 use Rattle.task_order.specs.declared.start.Start.{Start}
 use Rattle.task_order.specs.declared.task.Body.{Body}
 use Rattle.task_order.specs.Key.{Bound}
+use Rattle.app_laws.specs.Applications.{Application}
 use Rattle.app_laws.specs.Execution.{Operator, Outcome, Execution, after_steps, is_clear_before, steps_until, run_to_end, created_after}
 
 -- each start is a task of the application
@@ -24,6 +25,10 @@ pub record IsFitOutcome {V : Type 0} (is_fit_cells : List V → Type 0) (is_fit_
 pub record IsFit {V : Type 0} (is_fit_cells : List V → Type 0) (is_fit_task : ℕ → Body → Type 0) (e : Execution V) : Type 0 where
   pub cells : is_fit_cells e.cells
   pub pending : AllByRecursion (λ task. is_fit_task task.key.prio task.body) e.pending
+
+-- the cells and the pending tasks are those of this application
+abbrev pub IsFitExecution : {V : Type 0} → Application V → Execution V → Type 0
+IsFitExecution app e = IsFit app.is_fit_cells app.is_fit_task e
 
 -- after these steps, and not before, no pending task is earlier than the bound
 pub record IsFirstClear {V : Type 0} (act : Operator V) (bound : Bound) (e : Execution V) (steps : ℕ) : Type 0 where

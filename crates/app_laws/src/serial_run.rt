@@ -1,22 +1,30 @@
-ghost use Rattle.std.specs.Prelude.{◌≡◌, ◌<◌, ◌≤◌, ◌^◌, [], length, IfOk, IfErr, OnOk};
+ghost use Rattle.std.specs.Prelude.{◌≡◌, ◌<◌, ◌≤◌, ◌^◌, [], length, map, IfOk, IfErr, OnOk};
 ghost use Rattle.std.specs.List.{AllByRecursion};
 ghost use Rattle.task_order.specs.TaskList.{IsNewKey, put_in, put_all};
+ghost use Rattle.cell_store.specs.Values.{homes, values_of};
+ghost use Rattle.app_laws.specs.Applications.{AreFitStarts, IsFitTask, handed, starts_of};
 ghost use Rattle.app_laws.specs.Execution.{start_of, children_from, first_from};
-ghost use Rattle.app_laws.specs.Laws.{AllFit, NoneEarlier};
+ghost use Rattle.app_laws.specs.Lower.{LowerLaws};
 ghost use Rattle.app_laws.specs.Serial.{IsRun, IsFault};
 
-use crate::PlainApp;
-use kdg_text::{NoRoom, Text};
+use crate::{App, Child, ChildList, Effect, SetAnswer, lawful};
+use cell_store::{Held, Store, value_laws};
+use kdg_text::{NoRoom, Steps, Text};
+use output_log::{Log, put_laws};
 use std::alloc::Global;
-use task_order::{Key, Path, Start, StartList, Task, TaskList};
+use std::marker::Brand;
+use std::sync::ledger::{Blank, Ledger};
+use task_order::{
+    Body, Key, Path, Start, StartList, Task, TaskList, earlier_laws, key_order, put_in_laws,
+};
 
-/// A run that has ended.
+/// What a run leaves that has ended.
 #[derive(Drop)]
-pub struct PlainRun<V: Drop> {
-    /// The cells after the last task.
-    pub cells: Vec<V>,
-    /// What the tasks wrote, in key order.
-    pub text: Text,
+pub struct Finals<V: Held> {
+    /// The cells after the last task, all of them home.
+    pub store: Store<V>,
+    /// What the tasks wrote, in the order of their keys.
+    pub log: Log,
     /// How many tasks ran.
     pub count: u64,
 }
@@ -48,43 +56,78 @@ impl From<NoRoom> for SerialFault {
 
 /// Runs the earliest pending task, until none is pending or more than `budget` were created. What
 /// was handed in is dropped after a fault.
-pub fn serial<A: PlainApp>(
+pub fn serial<A: App>(
     alloc: Global,
     app: &A,
-    mut cells: Vec<A::Val>,
+    cells: Vec<A::Val>,
     first: StartList,
     budget: u64,
-) -> Result<PlainRun<A::Val>, SerialFault>
-    requires fit_cells { A.is_fit_cells app.now cells.items }
-    requires fit_first { AllFit (A.is_fit_task app.now) first }
+) -> Result<Finals<A::Val>, SerialFault>
+    requires fit_cells { (A.meaning app.now).is_fit_cells cells.items }
+    requires fit_first { AreFitStarts (A.meaning app.now) first }
     requires few { length first < 2 ^ 32 }
     requires budget { budget ≤ 1_000_000_000 }
-    ensures run { IfOk result (IsRun (A.act app.now) budget (start_of cells.items first)) }
-    ensures fit { IfOk result (λ run. A.is_fit_cells app.now run.cells.items) }
-    ensures fault { IfErr result (IsFault (A.act app.now) budget (start_of cells.items first)) }
+    ensures run { IfOk result (IsRun (A.meaning app.now).act budget (start_of cells.items first)) }
+    ensures fit { IfOk result (λ finals. (A.meaning app.now).is_fit_cells (values_of finals.store)) }
+    ensures fault { IfErr result (IsFault (A.meaning app.now).act budget (start_of cells.items first)) }
 {
+    counted_run::<A, Brand>(alloc, app, cells, first, budget, Blank::new(1))
+}
+
+/// The run, with a count of the sets that it asks for.
+fn counted_run<A: App, L: Ledger>(
+    alloc: Global,
+    app: &A,
+    cells: Vec<A::Val>,
+    first: StartList,
+    budget: u64,
+    blank: Blank,
+) -> Result<Finals<A::Val>, SerialFault>
+    requires name { blank.name ≡ L.name }
+    requires parts { blank.parts ≡ L.parts }
+    requires some { 0 < blank.parts }
+    requires fit_cells { (A.meaning app.now).is_fit_cells cells.items }
+    requires fit_first { AreFitStarts (A.meaning app.now) first }
+    requires few { length first < 2 ^ 32 }
+    requires budget { budget ≤ 1_000_000_000 }
+    ensures run { IfOk result (IsRun (A.meaning app.now).act budget (start_of cells.items first)) }
+    ensures fit { IfOk result (λ finals. (A.meaning app.now).is_fit_cells (values_of finals.store)) }
+    ensures fault { IfErr result (IsFault (A.meaning app.now).act budget (start_of cells.items first)) }
+{
+    lower_laws();
+    lawful::<A>();
+    value_laws::<A::Val>();
+    let mut steps = Steps::<L>::new(blank);
     let starts = first.items();
     let mut created = within(starts.len() as u64, budget)?;
     let mut pending = first_tasks(alloc, starts)?;
-    let mut text = Text::new(alloc);
+    let mut store = store_of(alloc, app, cells)?;
+    let mut log = Log::new(alloc);
     let mut count = 0u64;
-    let mut children = StartList::new(alloc);
-    let mut written = Text::new(alloc);
     while let Some(task) = pending.take_first() {
-        children.clear();
-        written.clear();
-        app.act(&task, &mut cells, &mut children, &mut written)?;
+        log.reserve(1)?;
+        let (children, text) = act(app, &task, &mut store, &mut steps)?;
         let made = children.items();
         created = within(created + made.len() as u64, budget)?;
         put_children(&mut pending, &task.key, made)?;
-        text.push_all(written.bytes())?;
+        log.put(task.key, text);
         count += 1;
     }
-    Ok(PlainRun { cells, text, count })
+    Ok(Finals { store, log, count })
+}
+
+/// What the crates below promise of keys, lists of tasks and logs, as one.
+pub(crate) fn lower_laws()
+    ensures { LowerLaws }
+{
+    key_order();
+    earlier_laws();
+    put_in_laws();
+    put_laws();
 }
 
 /// That number of created tasks, where it is within the limit.
-fn within(created: u64, limit: u64) -> Result<u64, SerialFault>
+pub(crate) fn within(created: u64, limit: u64) -> Result<u64, SerialFault>
     ensures ok { IfOk result (λ same. (same ≡ created) × (created ≤ limit)) }
     ensures over { IfErr result (λ fault. (fault ≡ SerialFault.Budget created limit) × (limit < created)) }
 {
@@ -95,8 +138,57 @@ fn within(created: u64, limit: u64) -> Result<u64, SerialFault>
     }
 }
 
+/// A store of the application's cells, all of them home.
+fn store_of<A: App>(alloc: Global, app: &A, cells: Vec<A::Val>) -> Result<Store<A::Val>, NoRoom>
+    requires { (A.meaning app.now).is_fit_cells cells.items }
+    ensures { IfOk result (λ store. store ≡ homes cells.items) }
+{
+    let _count: u32 = app.cells();
+    Store::new(alloc, cells)
+}
+
+/// Lets a task act on the cells, which are all home: finds out its set, and runs it on its bundle,
+/// which comes home again.
+fn act<A: App, L: Ledger>(
+    app: &A,
+    task: &Task,
+    store: &mut Store<A::Val>,
+    steps: &mut Steps<L>,
+) -> Result<(ChildList, Text), NoRoom>
+    requires fit { IsFitTask (A.meaning app.now) task.now }
+    requires home { store.old ≡ homes (values_of store.old) }
+    requires cells { (A.meaning app.now).is_fit_cells (values_of store.old) }
+    ensures store { let outcome = (A.meaning app.now).act task.now (values_of store.old) in
+        OnOk result (store.new ≡ homes outcome.cells) }
+    ensures children { let outcome = (A.meaning app.now).act task.now (values_of store.old) in
+        IfOk result (λ made. made.0 ≡ map (handed (A.meaning app.now) outcome.cells) outcome.children) }
+    ensures text { let outcome = (A.meaning app.now).act task.now (values_of store.old) in
+        IfOk result (λ made. made.1 ≡ outcome.text) }
+{
+    lawful::<A>();
+    value_laws::<A::Val>();
+    let set = match app.sets(&task.body, store, steps)? {
+        SetAnswer::Known(set) => set,
+        SetAnswer::Out(_) => unreachable!(),
+    };
+    let bundle = store.take_owned(set)?;
+    match app.run(task, bundle) {
+        Ok(
+            Effect {
+                bundle,
+                children,
+                text,
+            },
+        ) => {
+            let _ = store.give(bundle);
+            Ok((children, text))
+        }
+        Err(_) => Err(NoRoom),
+    }
+}
+
 /// The first tasks, with their keys.
-fn first_tasks(alloc: Global, first: &[Start]) -> Result<TaskList, NoRoom>
+pub(crate) fn first_tasks(alloc: Global, first: &[Start]) -> Result<TaskList, NoRoom>
     requires few { length first.now < 2 ^ 32 }
     ensures tasks { IfOk result (λ tasks. tasks ≡ put_all (first_from 0 first.now) []) }
 {
@@ -106,32 +198,32 @@ fn first_tasks(alloc: Global, first: &[Start]) -> Result<TaskList, NoRoom>
             prio: start.prio,
             path: Path::root(alloc, number as u32)?,
         };
-        put(&mut pending, key, start)?;
+        put(&mut pending, key, start.body)?;
     }
     Ok(pending)
 }
 
 /// Puts the children of a task among the pending ones.
-fn put_children(pending: &mut TaskList, parent: &Key, children: &[Start]) -> Result<(), NoRoom>
+fn put_children(pending: &mut TaskList, parent: &Key, children: &[Child]) -> Result<(), NoRoom>
     requires few { length children.now < 2 ^ 32 }
-    requires not_earlier { NoneEarlier parent.now.prio children.now }
-    requires new { AllByRecursion (λ task. IsNewKey task.key pending.old) (children_from parent.now 0 children.now) }
-    ensures put { OnOk result (pending.new ≡ put_all (children_from parent.now 0 children.now) pending.old) }
+    requires not_earlier { AllByRecursion (λ child. parent.now.prio ≤ child.prio) children.now }
+    requires new { AllByRecursion (λ task. IsNewKey task.key pending.old) (children_from parent.now 0 (starts_of children.now)) }
+    ensures put { OnOk result (pending.new ≡ put_all (children_from parent.now 0 (starts_of children.now)) pending.old) }
 {
     for (number, child) in children.iter().enumerate() {
-        put(pending, parent.child(number as u32, child.prio)?, child)?;
+        put(
+            pending,
+            parent.child(number as u32, child.prio)?,
+            child.body,
+        )?;
     }
     Ok(())
 }
 
 /// Puts a task with a new key among the pending ones.
-fn put(pending: &mut TaskList, key: Key, start: &Start) -> Result<(), NoRoom>
+pub(crate) fn put(pending: &mut TaskList, key: Key, body: Body) -> Result<(), NoRoom>
     requires new { IsNewKey key pending.old }
-    ensures put { OnOk result (pending.new ≡ put_in (record { key = key; body = start.now.body }) pending.old) }
+    ensures put { OnOk result (pending.new ≡ put_in (record { key = key; body = body }) pending.old) }
 {
-    let task = Task {
-        key,
-        body: start.body,
-    };
-    pending.insert(task).map_err(|_| NoRoom)
+    pending.insert(Task { key, body }).map_err(|_| NoRoom)
 }

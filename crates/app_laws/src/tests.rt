@@ -2,6 +2,8 @@ ghost use Rattle.std.specs.Prelude.{◌≡◌, IfOk};
 
 use super::*;
 use kdg_text::{NoRoom, Text};
+use rw_sets::Access::{Read, Write};
+use rw_sets::RwSet;
 use std::alloc::Global;
 use std::test::Fail;
 use task_order::{Body, Start, StartList, Task};
@@ -86,14 +88,14 @@ fn starts(alloc: Global, first: &[Start]) -> Result<StartList, NoRoom>
 fn tasks_run_in_key_order(rt: HostRuntime) -> Result<(), Fail> {
     let tied = [letter(5, 0, 0, 1), letter(5, 1, 1, 0)];
     let cells = vec![in rt.alloc(); 25, 25, 25]?;
-    let run = serial(rt.alloc(), &Letters, cells, starts(rt.alloc(), &tied)?, 4)?;
+    let run = plain_serial(rt.alloc(), &Letters, cells, starts(rt.alloc(), &tied)?, 4)?;
     assert_eq!(rt; run.text.bytes(), b"a1a0b0a0".as_slice());
     assert_eq!(rt; run.cells.as_slice(), [0, 1, 25].as_slice());
     assert_eq!(rt; run.count, 4);
 
     let crossed = [letter(7, 0, 0, 1), letter(3, 1, 0, 1)];
     let cells = vec![in rt.alloc(); 25, 25, 25]?;
-    let run = serial(
+    let run = plain_serial(
         rt.alloc(),
         &Letters,
         cells,
@@ -111,7 +113,7 @@ fn the_budget_bounds_what_is_created(rt: HostRuntime) -> Result<(), Fail> {
     let first = [letter(7, 0, 0, 1), letter(3, 1, 0, 1)];
     for (limit, created) in [(0, 2), (1, 2), (2, 4), (3, 4), (4, 6), (5, 6)] {
         let cells = vec![in rt.alloc(); 25, 25, 25]?;
-        let fault = serial(
+        let fault = plain_serial(
             rt.alloc(),
             &Letters,
             cells,
@@ -127,7 +129,7 @@ fn the_budget_bounds_what_is_created(rt: HostRuntime) -> Result<(), Fail> {
 #[test]
 fn nothing_to_do(rt: HostRuntime) -> Result<(), Fail> {
     let cells = vec![in rt.alloc(); 1, 2, 3]?;
-    let run = serial(rt.alloc(), &Letters, cells, StartList::new(rt.alloc()), 0)?;
+    let run = plain_serial(rt.alloc(), &Letters, cells, StartList::new(rt.alloc()), 0)?;
     assert_eq!(rt; run.text.bytes(), [].as_slice());
     assert_eq!(rt; run.cells.as_slice(), [1, 2, 3].as_slice());
     assert_eq!(rt; run.count, 0);
@@ -135,7 +137,31 @@ fn nothing_to_do(rt: HostRuntime) -> Result<(), Fail> {
 }
 
 #[test]
-fn laws_hold_of_letters() {
+fn children_are_listed_in_order(rt: HostRuntime) -> Result<(), Fail> {
+    let mut set = RwSet::new(rt.alloc());
+    for (loc, access) in [(5, Write), (2, Write), (3, Read)] {
+        set.add(loc, access)?;
+    }
+    let body = Body {
+        kind: 1,
+        at: 4,
+        arg: 7,
+    };
+    let mut children = ChildList::new(rt.alloc());
+    assert!(rt; children.push(Child { prio: 8, body, set }).is_ok());
+    assert_eq!(rt; children.items().len(), 1);
+    let child = &children.items()[0];
+    assert_eq!(rt; (child.prio, child.body), (8, body));
+    assert_eq!(rt;
+        child.set.items(),
+        [(2, Write), (3, Read), (5, Write)].as_slice()
+    );
+    assert_eq!(rt; children.into_vec().len(), 1);
+    Ok(())
+}
+
+#[test]
+fn laws_hold_of_executions() {
     execution_laws::<u8>();
-    orderly_laws::<Letters>();
+    family_laws();
 }

@@ -5,3 +5,6 @@
 mod introductions;
 
 pub use introductions::Introductions;
+
+#[cfg(test)]
+mod tests;

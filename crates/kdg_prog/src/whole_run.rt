@@ -6,7 +6,7 @@ ghost use Rattle.kdg_prog.specs.Refusals.{IsRefusal};
 ghost use Rattle.kdg_prog.specs.Words.{IsAllowed, options_of};
 
 use crate::{Options, Status, read_words};
-use app_laws::{PlainRun, serial};
+use app_laws::{PlainRun, plain_serial as serial};
 use bench_reader::read_deck;
 use kdg_text::{NoRoom, Text, push_u64};
 use logic_sim::Circuit;

@@ -1,7 +1,7 @@
 use super::Circuit;
 use crate::event::{change_start, eval_start};
 use crate::gate::output_of;
-use app_laws::{PlainRun, SerialFault, serial};
+use app_laws::{PlainRun, SerialFault, plain_serial as serial};
 use bench_reader::{Form, GateKind, read_deck};
 use kdg_text::Text;
 use std::alloc::Global;

@@ -1,0 +1,132 @@
+use Rattle.std.proofs.Common.{◌≡◌, ◌≤◌, ℕ, List, [], ◌+◌, Option, Some, None, length, refl, sym, ap, ◌∙◌, subst, arith}
+use Rattle.std.specs.Prelude.{IfNone}
+use Rattle.std.specs.List.{AllByRecursion}
+use Rattle.std.proofs.lemmas.Result.{err_from_is_err_and}
+use Rattle.task_order.specs.declared.task.Task.{Task}
+use Rattle.task_order.specs.declared.start.Start.{Start}
+use Rattle.task_order.specs.TaskList.{IsNewKey, put_all}
+use Rattle.output_log.specs.Entries.{IsNewEntry, with_entry}
+use Rattle.cell_store.specs.Values.{homes, values_of}
+use Rattle.app_laws.specs.Applications.{AreFitStarts, IsLawful, starts_of}
+use Rattle.app_laws.specs.Execution.{children_from, first_from, start_of, after_steps}
+use Rattle.app_laws.specs.Lower.{LowerLaws}
+use Rattle.app_laws.proofs.Reached.{IsReached, reached_at_start, reached_next, log_next, count_below, over_budget, over_at_start, ends_here, counted}
+use Rattle.app_laws.proofs.Running.{IsRunning, keeps_fit, not_earlier, cells_fit, task_fit, none_earlier, children_new, log_earlier, log_new, starts_of_handed, length-handed, handed_not_earlier}
+use Rattle.app_laws.proofs.Steps.{after_none}
+use Rattle.app_laws.proofs.serial_run.counted_run.Given.{Over}
+use Rattle.app_laws.proofs.serial_run.counted_run.Goals as goal
+
+running : (g : Over) → LowerLaws → (app : g.row.A.Denot) → IsLawful (g.A.App.meaning app) → (cells : List g.row.A-Val.Denot) (first : List Start) → (g.A.App.meaning app).is_fit_cells cells → AreFitStarts (g.A.App.meaning app) first
+    → IsRunning (g.A.App.meaning app).is_fit_cells (g.A.App.meaning app).is_fit_task (g.A.App.meaning app).act cells first
+running g lower app lawful cells first fit-cells fit-first = record {
+  lower = lower;
+  keeps = keeps_fit (g.A.App.meaning app) lawful;
+  not_earlier = not_earlier (g.A.App.meaning app) lawful;
+  fit_cells = fit-cells;
+  fit_first = fit-first;
+}
+
+at_none : (o : Option Task) (P : Type 0) → ((x : Task) → o ≡ Some x → ⊥) → IfNone o P → P
+at_none None P never here = here
+at_none (Some x) P never here = absurd (never x refl)
+
+pub returns-in_err-created-clause-fault : goal.returns-in_err-created-clause-fault
+returns-in_err-created-clause-fault g c =
+    let over = c.in_err-created.ensures.over in
+    let e = err_from_is_err_and c.from_residual.result c.from_residual.ensures.1 in
+    rw (e.1, e.2, over.0) (over_at_start _ _ _ _ _ (ap length c.items-starts.ensures) over.1)
+
+pub loop-task-init : goal.loop-task-init
+loop-task-init g c =
+    let values : values_of c.in_ok-store.store ≡ c.args.cells.items = ap values_of c.in_ok-store.ensures ∙ c.value_laws.ensures.values.values_of_homes c.args.cells.items in
+    record {
+      reached = subst (λ cells. IsReached (g.A.App.meaning c.args.app.now).act c.args.budget (start_of c.args.cells.items c.args.first) cells c.in_ok-pending.pending 0 c.in_ok-created.created) (sym values)
+          (reached_at_start _ _ _ _ _ _ (c.in_ok-pending.ensures.tasks ∙ ap (λ first. put_all (first_from 0 first) []) c.items-starts.ensures)
+          (c.in_ok-created.ensures.ok.0 ∙ ap length c.items-starts.ensures) (rw c.in_ok-created.ensures.ok.0 c.in_ok-created.ensures.ok.1));
+      home = c.in_ok-store.ensures ∙ ap homes (sym values);
+      log = c.new-log.ensures ∙ sym (ap (λ e. e.log) (after_none _ _));
+    }
+
+pub act-requires-clause-fit : goal.act-requires-clause-fit
+act-requires-clause-fit g c κs within =
+    task_fit (running g c.lower_laws.ensures c.args.app.now (c.lawful.ensures c.args.app.now) c.args.cells.items c.args.first c.requires.fit_cells c.requires.fit_first) c.loop-task.invariant.reached c.in-Some.ensures.first
+
+pub act-requires-clause-cells : goal.act-requires-clause-cells
+act-requires-clause-cells g c κs within =
+    cells_fit (running g c.lower_laws.ensures c.args.app.now (c.lawful.ensures c.args.app.now) c.args.cells.items c.args.first c.requires.fit_cells c.requires.fit_first) c.loop-task.invariant.reached
+
+pub returns-clause-fit : goal.returns-clause-fit
+returns-clause-fit g c =
+    cells_fit (running g c.lower_laws.ensures c.args.app.now (c.lawful.ensures c.args.app.now) c.args.cells.items c.args.first c.requires.fit_cells c.requires.fit_first) c.loop-task.invariant.reached
+
+pub returns-in_err-created-2-clause-fault : goal.returns-in_err-created-2-clause-fault
+returns-in_err-created-2-clause-fault g c =
+    let over = c.in_err-created-2.ensures.over in
+    let e = err_from_is_err_and c.from_residual-in_err-created-2.result c.from_residual-in_err-created-2.ensures.1 in
+    let app = g.A.App.meaning c.args.app.now in
+    let outcome = app.act c.in-Some.task (values_of c.loop-task.store) in
+    rw (e.1, e.2, over.0)
+    (over_budget c.loop-task.invariant.reached refl c.in-Some.task c.take_first.new.self _ c.in-Some.ensures.first
+    (ap (λ (n : ℕ). c.loop-task.created + n) (ap length (c.items-made.ensures.all ∙ c.in_ok-children.ensures.children) ∙ length-handed app outcome.cells outcome.children)) over.1)
+
+pub put_children-requires-clause-not_earlier : goal.put_children-requires-clause-not_earlier
+put_children-requires-clause-not_earlier g c =
+    let app = g.A.App.meaning c.args.app.now in
+    let outcome = app.act c.in-Some.task (values_of c.loop-task.store) in
+    subst (λ made. AllByRecursion (λ child. c.in-Some.task.key.prio ≤ child.prio) made) (sym (c.items-made.ensures.all ∙ c.in_ok-children.ensures.children))
+    (handed_not_earlier app outcome.cells c.in-Some.task.key.prio outcome.children
+    (none_earlier (running g c.lower_laws.ensures c.args.app.now (c.lawful.ensures c.args.app.now) c.args.cells.items c.args.first c.requires.fit_cells c.requires.fit_first) c.loop-task.invariant.reached c.in-Some.ensures.first))
+
+pub put_children-requires-clause-new : goal.put_children-requires-clause-new
+put_children-requires-clause-new g c =
+    let app = g.A.App.meaning c.args.app.now in
+    let outcome = app.act c.in-Some.task (values_of c.loop-task.store) in
+    subst (λ starts. AllByRecursion (λ task. IsNewKey task.key c.take_first.new.self) (children_from c.in-Some.task.key 0 starts))
+    (sym (ap starts_of (c.items-made.ensures.all ∙ c.in_ok-children.ensures.children) ∙ starts_of_handed app outcome.cells outcome.children))
+    (children_new (running g c.lower_laws.ensures c.args.app.now (c.lawful.ensures c.args.app.now) c.args.cells.items c.args.first c.requires.fit_cells c.requires.fit_first) c.loop-task.invariant.reached c.in-Some.ensures.first)
+
+pub put-requires-clause-new : goal.put-requires-clause-new
+put-requires-clause-new g c =
+    subst (IsNewEntry c.in-Some.task.key) (sym (c.reserve.ensures.entries ∙ c.loop-task.invariant.log))
+    (log_new (running g c.lower_laws.ensures c.args.app.now (c.lawful.ensures c.args.app.now) c.args.cells.items c.args.first c.requires.fit_cells c.requires.fit_first) c.loop-task.invariant.reached c.in-Some.ensures.first)
+
+pub overflow_add-count : goal.overflow_add-count
+overflow_add-count g c =
+    omega (arith, count_below c.loop-task.invariant.reached refl c.in-Some.task c.take_first.new.self c.in-Some.ensures.first, c.requires.budget)
+
+pub loop-task-smaller : goal.loop-task-smaller
+loop-task-smaller g c =
+    omega (arith, count_below c.loop-task.invariant.reached refl c.in-Some.task c.take_first.new.self c.in-Some.ensures.first)
+
+pub loop-task-preserved : goal.loop-task-preserved
+loop-task-preserved g c =
+    let app = g.A.App.meaning c.args.app.now in
+    let outcome = app.act c.in-Some.task (values_of c.loop-task.store) in
+    let values : values_of c.act.new.store ≡ outcome.cells = ap values_of c.in_ok-children.ensures.store ∙ c.value_laws.ensures.values.values_of_homes outcome.cells in
+    let children = c.items-made.ensures.all ∙ c.in_ok-children.ensures.children in
+    let entries = (after_steps app.act c.loop-task.count (start_of c.args.cells.items c.args.first)).log in
+    record {
+      reached = reached_next c.loop-task.invariant.reached c.in-Some.task c.take_first.new.self _ _ _ c.in-Some.ensures.first
+          values
+          (c.in_ok-put_children.ensures.put ∙ ap (λ starts. put_all (children_from c.in-Some.task.key 0 starts) c.take_first.new.self) (ap starts_of children ∙ starts_of_handed app outcome.cells outcome.children))
+          (c.in_ok-created-2.ensures.ok.0 ∙ ap (λ (n : ℕ). c.loop-task.created + n) (ap length children ∙ length-handed app outcome.cells outcome.children))
+          (rw c.in_ok-created-2.ensures.ok.0 c.in_ok-created-2.ensures.ok.1);
+      home = c.in_ok-children.ensures.store ∙ ap homes (sym values);
+      log =
+          c.put.ensures.entries
+          ∙ ap (with_entry c.in-Some.task.key c.in_ok-children.text) (c.reserve.ensures.entries ∙ c.loop-task.invariant.log)
+          ∙ ap (λ text. with_entry c.in-Some.task.key text entries) c.in_ok-children.ensures.text
+          ∙ c.lower_laws.ensures.last_appends c.in-Some.task.key outcome.text entries
+          (log_earlier (running g c.lower_laws.ensures c.args.app.now (c.lawful.ensures c.args.app.now) c.args.cells.items c.args.first c.requires.fit_cells c.requires.fit_first) c.loop-task.invariant.reached c.in-Some.ensures.first)
+          ∙ sym (log_next c.loop-task.invariant.reached c.in-Some.task c.take_first.new.self c.in-Some.ensures.first);
+    }
+
+pub returns-clause-run : goal.returns-clause-run
+returns-clause-run g c =
+    record {
+      end = _;
+      ends = ends_here c.loop-task.invariant.reached refl (at_none c.take_first.result (c.loop-task.pending ≡ []) c.in_default.not-Some c.take_first.ensures.empty);
+      store = c.loop-task.invariant.home ∙ ap homes c.loop-task.invariant.reached.cells-are;
+      log = c.loop-task.invariant.log;
+      count = counted c.loop-task.invariant.reached refl;
+    }
