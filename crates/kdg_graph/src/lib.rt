@@ -16,3 +16,6 @@ pub use graph::Graph;
 pub use laws::{later_laws, node_laws, put_laws, rewrite_laws, source_laws};
 pub use node_id::NodeId;
 pub use walk::{Laters, Sources};
+
+#[cfg(test)]
+mod tests;

@@ -121,8 +121,8 @@ impl NodeList {
     {
         let _ascending = set.items();
         let place = place_of(&self.entries, id);
-        let entry = &mut self.entries[place];
-        entry.set = set;
+        let named = &mut self.entries[place];
+        named.set = set;
     }
 
     // Replaces the sets that are named.

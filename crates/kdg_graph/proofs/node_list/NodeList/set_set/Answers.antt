@@ -12,20 +12,20 @@ pub invariant_of-self : goal.invariant_of-self
 invariant_of-self c =
     let nodes = c.self.inside.entries.items in
     let place = c.place_of-place.result in
-    let node : Node = record { id = c.entry.inside.id; task = c.entry.inside.task; set = c.entry.inside.set; running = c.entry.inside.running } in
+    let node : Node = record { id = c.named.inside.id; task = c.named.inside.task; set = c.named.inside.set; running = c.named.inside.running } in
     let own : HaveOwnIds nodes = own_ids nodes c.self.inside.free.items c.self.invariant.dealt in
     let at : IsPlaceOf c.args.id nodes place = subst (λ l. IsPlaceOf c.args.id l place) c.deref.ensures.value c.place_of-place.ensures.place in
-    let here : get_or nodes place node ≡ node = subst (λ (n : Node). get_or nodes place n ≡ n) (sym c.entry.view_is) (sym c.index_mut-entry.ensures.value) in
+    let here : get_or nodes place node ≡ node = subst (λ (n : Node). get_or nodes place n ≡ n) (sym c.named.view_is) (sym c.index_mut-named.ensures.value) in
     subst (λ (l : List Node). IsKept l c.self.inside.free.items (vec_capacity c.self.inside.free)) (sym (with_sets-place c.args.id c.args.set nodes place node own at here)) (kept_with_set c.args.id c.args.set c.items-ascending.ensures.ascending nodes _ _ c.self.invariant)
 
 pub returns-clause-nodes : goal.returns-clause-nodes
 returns-clause-nodes c =
     let nodes = c.self.inside.entries.items in
     let place = c.place_of-place.result in
-    let node : Node = record { id = c.entry.inside.id; task = c.entry.inside.task; set = c.entry.inside.set; running = c.entry.inside.running } in
+    let node : Node = record { id = c.named.inside.id; task = c.named.inside.task; set = c.named.inside.set; running = c.named.inside.running } in
     let own : HaveOwnIds nodes = own_ids nodes c.self.inside.free.items c.self.invariant.dealt in
     let at : IsPlaceOf c.args.id nodes place = subst (λ l. IsPlaceOf c.args.id l place) c.deref.ensures.value c.place_of-place.ensures.place in
-    let here : get_or nodes place node ≡ node = subst (λ (n : Node). get_or nodes place n ≡ n) (sym c.entry.view_is) (sym c.index_mut-entry.ensures.value) in
+    let here : get_or nodes place node ≡ node = subst (λ (n : Node). get_or nodes place n ≡ n) (sym c.named.view_is) (sym c.index_mut-named.ensures.value) in
     with_sets-place c.args.id c.args.set nodes place node own at here ∙ ap (λ (stock : NodeStock). with_sets (record { node = c.args.id; set = c.args.set } ∷ []) stock.nodes) c.self.view_is
 
 pub returns-clause-graph : goal.returns-clause-graph
