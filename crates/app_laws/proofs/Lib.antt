@@ -5,4 +5,5 @@ pub mod Ordered
 pub mod Putting
 pub mod Reached
 pub mod Running
+pub mod Runs
 pub mod Steps

@@ -147,7 +147,7 @@ acts_fit is_fit_cells is_fit_task act e task others pending outcome fit =
     }
 
 -- a first pending task is fit
-fit_first : {V : Type 0} (is_fit_cells : List V → Type 0) (is_fit_task : ℕ → Body → Type 0) (e : Execution V) (task : Task) (others : List Task)
+pub fit_first : {V : Type 0} (is_fit_cells : List V → Type 0) (is_fit_task : ℕ → Body → Type 0) (e : Execution V) (task : Task) (others : List Task)
     → e.pending ≡ task ∷ others → IsFit is_fit_cells is_fit_task e → is_fit_task task.key.prio task.body
 fit_first is_fit_cells is_fit_task e task others pending fit =
     (subst (λ ts. AllByRecursion (λ (t : Task). is_fit_task t.key.prio t.body) ts) pending fit.pending).0

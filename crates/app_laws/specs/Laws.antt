@@ -1,11 +1,12 @@
 -- What is asked of an application's operator, and what holds of each execution.
-use Rattle.std.specs.Prelude.{ℕ, ◌≡◌, ◌+◌, ◌<◌, ◌≤◌, ◌^◌, ◌↔◌, List, length, true, false, None, IfSome, MatchOption}
+use Rattle.std.specs.Prelude.{ℕ, suc, ◌≡◌, ◌+◌, ◌<◌, ◌≤◌, ◌^◌, ◌↔◌, List, ◌++◌, length, true, false, Some, None, IfSome, MatchOption}
 use Rattle.std.specs.List.{AllByRecursion}
 use Rattle.task_order.specs.declared.start.Start.{Start}
 use Rattle.task_order.specs.declared.task.Body.{Body}
 use Rattle.task_order.specs.Key.{Bound}
+use Rattle.output_log.specs.Entries.{Entry, is_entry_before, entries_before}
 use Rattle.app_laws.specs.Applications.{Application}
-use Rattle.app_laws.specs.Execution.{Operator, Outcome, Execution, after_steps, is_clear_before, steps_until, run_to_end, created_after}
+use Rattle.app_laws.specs.Execution.{Operator, Outcome, Execution, step, after_steps, is_clear_before, steps_until, run_until, run_to_end, created_after}
 
 -- each start is a task of the application
 abbrev pub AllFit : (ℕ → Body → Type 0) → List Start → Type 0
@@ -59,3 +60,22 @@ EndsWithinLimit act e = (limit : ℕ) →
 -- what comes after some steps goes on as the whole does
 abbrev pub StepsAdd : {V : Type 0} → Operator V → Execution V → Type 0
 StepsAdd act e = (steps more : ℕ) → after_steps act (steps + more) e ≡ after_steps act more (after_steps act steps e)
+
+-- a run to a bound has come there, or begins with one step, which needs one of its limit
+abbrev pub RunsBeginWithAStep : {V : Type 0} → Operator V → Execution V → Type 0
+RunsBeginWithAStep act e = (bound : Bound) →
+    (is_clear_before bound e ≡ true → (limit : ℕ) → run_until act limit bound e ≡ Some e)
+    × (is_clear_before bound e ≡ false → (run_until act 0 bound e ≡ None) × ((limit : ℕ) → run_until act (suc limit) bound e ≡ run_until act limit bound (step act e)))
+
+-- where a limit is enough, a greater one gives the same answer
+abbrev pub GreaterLimitsAgree : {V : Type 0} → Operator V → Execution V → Type 0
+GreaterLimitsAgree {V} act e = (limit more : ℕ) (bound : Bound) (last : Execution V) → run_until act limit bound e ≡ Some last → run_until act (limit + more) bound e ≡ Some last
+
+-- what was logged stays in front
+abbrev pub LogsGrowAtTheEnd : {V : Type 0} → Operator V → Execution V → Type 0
+LogsGrowAtTheEnd act e = (steps more : ℕ) → (rest : List Entry) × ((after_steps act (steps + more) e).log ≡ (after_steps act steps e).log ++ rest)
+
+-- where all that was logged is before a bound, the run to that bound logs the part of the whole log that is before it
+abbrev pub BoundedRunsLogAPart : {V : Type 0} → Operator V → Execution V → Type 0
+BoundedRunsLogAPart {V} act e = (bound : Bound) (limit total : ℕ) (part whole : Execution V) → AllByRecursion (λ entry. is_entry_before bound entry ≡ true) e.log →
+    run_until act limit bound e ≡ Some part → run_to_end act total e ≡ Some whole → part.log ≡ entries_before bound whole.log

@@ -2,7 +2,7 @@ ghost use Rattle.std.specs.Prelude.{List, ℕ};
 ghost use Rattle.task_order.specs.declared.start.Start.{Start};
 ghost use Rattle.app_laws.specs.Execution.{Operator, Execution, start_of, after_steps};
 ghost use Rattle.app_laws.specs.Applications.{IsLawful, AreFitStarts};
-ghost use Rattle.app_laws.specs.Laws.{IsFitExecution, StopsWhenClear, LogsEachStep, CreatedNeverFalls, EndsWithinLimit, StepsAdd};
+ghost use Rattle.app_laws.specs.Laws.{IsFitExecution, StopsWhenClear, LogsEachStep, CreatedNeverFalls, EndsWithinLimit, StepsAdd, RunsBeginWithAStep, GreaterLimitsAgree, LogsGrowAtTheEnd, BoundedRunsLogAPart};
 ghost use Rattle.app_laws.specs.Order.{IsOrderly};
 
 use crate::App;
@@ -15,6 +15,9 @@ pub fn execution_laws<V>()
     ensures logs { (act : Operator V) (e : Execution V) → LogsEachStep act e }
     ensures created { (act : Operator V) (e : Execution V) → CreatedNeverFalls act e }
     ensures ends { (act : Operator V) (e : Execution V) → EndsWithinLimit act e }
+    ensures begins { (act : Operator V) (e : Execution V) → RunsBeginWithAStep act e }
+    ensures greater_limits { (act : Operator V) (e : Execution V) → GreaterLimitsAgree act e }
+    ensures grows { (act : Operator V) (e : Execution V) → LogsGrowAtTheEnd act e }
 {}
 
 /// The laws of an application, as one.
@@ -34,6 +37,8 @@ pub fn orderly_laws<A: App>()
     ensures stays_orderly { (app : A) (e : Execution A.Val) →
         IsFitExecution (A.meaning app) e → IsOrderly e → (steps : ℕ) →
         IsOrderly (after_steps (A.meaning app).act steps e) }
+    ensures logs_a_part { (app : A) (e : Execution A.Val) →
+        IsFitExecution (A.meaning app) e → IsOrderly e → BoundedRunsLogAPart (A.meaning app).act e }
 {
     lower_laws();
     lawful::<A>();
