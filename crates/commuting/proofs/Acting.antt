@@ -200,8 +200,8 @@ module _ {V : Type 0} {app : Application V} (basis : Basis app) where
       all_after_bound : (tasks : List Task) → AllByRecursion (λ other. key_cmp task.key other.key ≡ Less) tasks → AllByRecursion (λ other. is_before other.key bound ≡ false) tasks
       all_after_bound tasks = all-weaker (λ other. key_cmp task.key other.key ≡ Less) (λ other. is_before other.key bound ≡ false) (λ other later. not_before_later task.key other.key bound later is) tasks
 
-      children_after_bound : (cells : List V) (others : State V) → IsBeside app task others → AllByRecursion (λ other. is_before other.key bound ≡ false) (children_of app others.cells task)
-      children_after_bound cells others beside = all_after_bound (children_of app others.cells task) (children_later basis task others.cells beside.ready.cells beside.fit)
+      children_after_bound : (others : State V) → IsBeside app task others → AllByRecursion (λ other. is_before other.key bound ≡ false) (children_of app others.cells task)
+      children_after_bound others beside = all_after_bound (children_of app others.cells task) (children_later basis task others.cells beside.ready.cells beside.fit)
 
       -- neither run has anything to do
       both_done : (limit : ℕ) (cells : List V) (pending others : List Task) → IsBeside app task (state_of cells others)
@@ -210,7 +210,7 @@ module _ {V : Type 0} {app : Application V} (basis : Basis app) where
       both_done limit cells pending others beside done rest =
           let here : Execution V = execution_from (state_of cells pending) in
           let there : Execution V = execution_from (turn app.act task (state_of cells others)) in
-          let children = children_after_bound cells (state_of cells others) beside in
+          let children = children_after_bound (state_of cells others) beside in
           subst (λ run. BothEnd (λ e other. e.log ≡ other.log) run (run_until app.act limit bound there)) (sym (run_clear app.act limit bound here (none_before_all bound pending done)))
           (subst (λ run. BothEnd (λ e other. e.log ≡ other.log) (Some here) run)
           (sym (run_clear app.act limit bound there (none_before_all bound there.pending (all-put_all (λ other. is_before other.key bound ≡ false) (children_of app cells task) others children rest))))
