@@ -11,7 +11,8 @@ use Rattle.commuting.specs.States.{State, state_of, run_from, after_task, entry_
 use Rattle.commuting.specs.Clear.{IsReady, IsClear, IsUnblocked}
 use Rattle.commuting.specs.Commuting.{BothEnd, IsSameButLogsMore, ClearTasksMayActAtOnce}
 use Rattle.commuting.specs.Basis.{Basis}
-use Rattle.commuting.proofs.Acting.{IsClearBeside, to_later_bound, to_other_bound}
+use Rattle.commuting.proofs.Acting.{to_later_bound, to_other_bound}
+use Rattle.commuting.proofs.Behind.{IsClearBeside}
 use Rattle.commuting.proofs.Pending.{TasksApart, all-filter, pairwise-filter, apart_from_put_in}
 use Rattle.commuting.proofs.Turns.{IsBeside}
 

@@ -1,4 +1,5 @@
 pub mod Acting
+pub mod Behind
 pub mod Cells
 pub mod Clearing
 pub mod Ends
