@@ -6,10 +6,10 @@ use Rattle.std.proofs.lemmas.List.{map-append, take_more}
 use Rattle.std.proofs.lemmas.List.Elements.{filter-append}
 use Rattle.std.proofs.lemmas.Map.Views.{any-filter_same}
 use Rattle.std.specs.List.{list_any}
-use Rattle.std.specs.Option.{option_map_or, option_map}
+use Rattle.std.specs.Option.{option_map_or}
 use Rattle.kdg_text.specs.declared.fault.Fault.{Fault}
 use Rattle.kdg_text.specs.declared.fault.LineFault.{LineFault}
-use Rattle.kdg_text.specs.Faults.{Numbered, fault_on, first_fault_after}
+use Rattle.kdg_text.specs.Faults.{Numbered, first_fault_after}
 use Rattle.bench_reader.specs.declared.deck.Deck.{Deck}
 use Rattle.bench_reader.specs.LineForms.{LineForm}
 use Rattle.bench_reader.specs.Decks.{said, output_by, stimulus_by, signal_by, place_of, firsts, deck_among}
@@ -60,11 +60,6 @@ Judge = List (Numbered LineForm) → LineForm → Option LineFault
 pub first_fault-fits : (judge : Judge) (before rest : List (Numbered LineForm)) (line : Numbered LineForm) → judge before line.form ≡ None
     → first_fault_after judge before (line ∷ rest) ≡ first_fault_after judge (before ++ line ∷ []) rest
 first_fault-fits judge before rest line fits = rw fits refl
-
--- a line with a fault is the first where those before it have none
-pub first_fault-stops : (judge : Judge) (before rest : List (Numbered LineForm)) (line : Numbered LineForm) (fault : Fault) → option_map (fault_on line.number) (judge before line.form) ≡ Some fault
-    → first_fault_after judge before (line ∷ rest) ≡ Some fault
-first_fault-stops judge before rest line fault stops = rw stops refl
 
 -- the lines up to one more
 lines-more : (items : List NumberedStatement) (k : ℕ) (d : NumberedStatement) → k < length items → map numbered_form (take (k + 1) items) ≡ map numbered_form (take k items) ++ numbered_form (get_or items k d) ∷ []
