@@ -115,13 +115,13 @@ take_more [] at inside = absurd (omega (arith, inside))
 take_more (block ∷ blocks) zero inside = append-nil block
 take_more (block ∷ blocks) (suc at) inside = ap (λ l. block ++ l) (take_more blocks at (omega (arith, inside))) ∙ sym (append_assoc block (tasks_in (take at blocks)) (block_at blocks at))
 
-take-all : {X : Type 0} (xs : List X) (n : ℕ) → n ≡ length xs → take n xs ≡ xs
+pub take-all : {X : Type 0} (xs : List X) (n : ℕ) → n ≡ length xs → take n xs ≡ xs
 take-all [] zero is = refl
 take-all [] (suc n) is = refl
 take-all (x ∷ xs) zero is = absurd (omega (arith, is))
 take-all (x ∷ xs) (suc n) is = ap (λ l. x ∷ l) (take-all xs n (omega (arith, is)))
 
-drop-all : {X : Type 0} (xs : List X) (n : ℕ) → n ≡ length xs → drop n xs ≡ []
+pub drop-all : {X : Type 0} (xs : List X) (n : ℕ) → n ≡ length xs → drop n xs ≡ []
 drop-all [] zero is = refl
 drop-all [] (suc n) is = refl
 drop-all (x ∷ xs) zero is = absurd (omega (arith, is))

@@ -9,3 +9,4 @@ pub mod SharedBytes
 pub mod Places
 pub mod Cuts
 pub mod Found
+pub mod Ends

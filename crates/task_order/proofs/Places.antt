@@ -38,9 +38,10 @@ ascending_parts (task ∷ tasks) others up =
 
 pub ascending_from_parts : (tasks others : List Task) → IsAscendingParts tasks others → IsAscending (tasks ++ others)
 ascending_from_parts [] others parts = parts.second
-ascending_from_parts (task ∷ tasks) others parts =
-    (All-append (λ other. key_cmp task.key other.key ≡ Less) tasks others parts.first.0 parts.turn.0,
-     ascending_from_parts tasks others (record { first = parts.first.1; second = parts.second; turn = parts.turn.1 }))
+ascending_from_parts (task ∷ tasks) others parts = (
+  All-append (λ other. key_cmp task.key other.key ≡ Less) tasks others parts.first.0 parts.turn.0,
+  ascending_from_parts tasks others (record { first = parts.first.1; second = parts.second; turn = parts.turn.1 }),
+)
 
 -- ---- the search in a block
 

@@ -2,7 +2,6 @@
 use Rattle.std.specs.Prelude.{◌≡◌, ℕ, ◌*◌, ◌%◌, ◌≤◌, List, [], length, Option, Some, None}
 use Rattle.std.specs.declared.sync.Arc.{Arc}
 use Rattle.std.specs.declared.alloc.Global.{Global}
-
 use Rattle.task_order.specs.declared.path.node.TheConstants.{IN_PLACE, FULL_NODE}
 
 -- the bytes of the nodes, each seen as its own and those before it

@@ -109,7 +109,9 @@ impl Block {
         ensures returned { IfErr result (λ back. back ≡ task) }
         ensures unchanged { OnErr result (self.new ≡ self.old) }
     {
-        self.tasks.insert(place, task).map_err(|failed| failed.value)
+        self.tasks
+            .insert(place, task)
+            .map_err(|failed| failed.value)
     }
 
     /// Takes the task at a place out.

@@ -48,10 +48,43 @@ impl Blocks {
         requires gapless { IsGapless self.now }
         ensures { IsPlace key.now self.now result.0 result.1 }
     {
+        match self.end_for(key) {
+            Some(end) => end,
+            None => self.search(key),
+        }
+    }
+
+    /// The end of the last block, where its last task is earlier than the key.
+    fn end_for(&self, key: &Key) -> Option<(usize, usize)>
+        requires { IsAscending (tasks_in self.now) }
+        ensures { IfSome result (λ end. IsPlace key.now self.now end.0 end.1) }
+    {
+        let at = self.count().checked_sub(1)?;
+        let len = self.block_len(at);
+        let last = self.get(at, len.checked_sub(1)?)?;
+        if last.key.compare(key).is_lt() {
+            Some((at, len))
+        } else {
+            None
+        }
+    }
+
+    /// Where a key belongs, by a search.
+    fn search(&self, key: &Key) -> (usize, usize)
+        requires ascending { IsAscending (tasks_in self.now) }
+        requires gapless { IsGapless self.now }
+        ensures { IsPlace key.now self.now result.0 result.1 }
+    {
         match self.started_by(key).checked_sub(1) {
             Some(at) => (at, self.blocks[at].rank(key)),
             None => (0, 0),
         }
+    }
+
+    fn count(&self) -> usize
+        ensures { result ≡ length self.now }
+    {
+        self.blocks.len()
     }
 
     /// How many blocks have a first task that is not later than the key.

@@ -1,7 +1,7 @@
 use Rattle.std.proofs.Common.{◌∙◌, sym, ap, length, subst, arith}
 use Rattle.task_order.specs.TaskList.{IsAscending, tasks_before}
 use Rattle.task_order.proofs.Places.{place_before_all, place_found, block_ascends, block_read}
-use Rattle.task_order.proofs.blocks.Blocks.place_of.Goals as goal
+use Rattle.task_order.proofs.blocks.Blocks.search.Goals as goal
 
 pub rank-requires : goal.rank-requires
 rank-requires c =
