@@ -1,5 +1,5 @@
 -- What a meeting finds in its bundle, and what it leaves there.
-use Rattle.std.proofs.Common.{◌≡◌, ◌<◌, ◌-◌, ◌+◌, ◌⊎◌, ℕ, Bool, true, false, List, [], ◌∷◌, length, map, IsSome, IsTrue, arith, inl, inr, refl, sym, ap, ◌∙◌, subst, length-set}
+use Rattle.std.proofs.Common.{◌≡◌, ◌<◌, ◌-◌, ◌+◌, ◌⊎◌, ℕ, Bool, true, false, List, [], ◌∷◌, map, IsSome, IsTrue, arith, inl, inr, refl, sym, ap, ◌∙◌, subst, length-set}
 use Rattle.std.specs.Prelude.{◌==◌, if◌then◌else◌, slice_index, slice_set}
 use Rattle.task_order.specs.declared.task.Task.{Task}
 use Rattle.rw_sets.specs.Accesses.{access_at, writes}
@@ -11,7 +11,7 @@ use Rattle.cell_store.specs.Values.{homes, AgreesWith}
 use Rattle.cell_store.specs.Laws.{PartsByLocation, HomesByLocation}
 use Rattle.app_laws.specs.declared.app.Effect.{Effect}
 use Rattle.app_laws.specs.declared.child.Child.{Child}
-use Rattle.app_laws.specs.Applications.{handed, effect_of, IsTaken, IsEffect}
+use Rattle.app_laws.specs.Applications.{handed, IsTaken, IsEffect}
 use Rattle.example_app.specs.Introduction.{AreContacts, IsMeeting, meeting_set, set_among, introduced, contact_after, meetings_after, children_of, line_of, introductions}
 use Rattle.example_app.specs.Lawful.{IsAmong, named_from_among, written_from_guests, meeting_set-ascending, contact_is_one, home_is, met_fit, contact_of_guest, contact_of_other}
 

@@ -1,11 +1,10 @@
 -- The laws of the introductions.
-use Rattle.std.specs.Prelude.{◌≡◌, ◌≢◌, ◌==◌, ◌||◌, ◌+◌, ◌-◌, ◌<◌, ◌≤◌, ◌^◌, ℕ, zero, suc, Bool, true, false, if◌then◌else◌, List, [], ◌∷◌, ◌++◌, length, map, slice_get, slice_index, slice_set, Some, None, IsSome, IsFalse, IsTrue, refl}
+use Rattle.std.specs.Prelude.{◌≡◌, ◌≢◌, ◌==◌, ◌||◌, ◌<◌, ◌≤◌, ◌^◌, ℕ, Bool, true, List, [], ◌∷◌, ◌++◌, length, slice_get, slice_index, slice_set, Some, IsSome, IsFalse, IsTrue, refl}
 use Rattle.std.specs.List.{AllByRecursion, filter}
 use Rattle.std.specs.Option.{is_some}
 use Rattle.std.specs.Fmt.{decimal}
-use Rattle.std.proofs.Common.{arith, inl, inr, ◌⊎◌, length-set, lit<, sym, ap, ◌∙◌, subst, cond, eqb}
+use Rattle.std.proofs.Common.{arith, inl, inr, ◌⊎◌, length-set, lit<, sym, ap, ◌∙◌, subst}
 use Rattle.std.proofs.lemmas.Bool.{cases_Bool, cases_eq, cases_lt, or_cases, or_left, or_right, or_parts, eq-eqb, ne_eqb, eqb-true, eqb-false, cond_both, false_from_ne_true}
-use Rattle.std.proofs.lemmas.Bool.Decides.{nat_tests}
 use Rattle.std.proofs.lemmas.List.{get_or-set_same, get_or-set_other, get_or_past, get_or-map}
 use Rattle.std.proofs.lemmas.List.Elements.{All-set, All-get_or}
 use Rattle.std.proofs.lemmas.Option.{slice_get-get_or, slice_get_past, same_Some}
@@ -13,17 +12,21 @@ use Rattle.task_order.specs.declared.key.Key.{Key}
 use Rattle.task_order.specs.declared.start.Start.{Start}
 use Rattle.task_order.specs.declared.task.Body.{Body}
 use Rattle.task_order.specs.declared.task.Task.{Task}
-use Rattle.rw_sets.specs.Accesses.{Accesses, IsAscending, access_at, writes, allows_write, covers, joined, put_access, merged, Conflicts, IsWithin}
+use Rattle.rw_sets.specs.Accesses.{Accesses, IsAscending, access_at, writes, allows_write, joined, put_access, merged, Conflicts, IsWithin}
 use Rattle.rw_sets.specs.declared.access.Access.TheVariants.{Read, Write}
+use Rattle.rw_sets.specs.IndependenceLaws.{within_by_members}
+use Rattle.rw_sets.specs.LookupLaws.{merges_hold_both}
+use Rattle.rw_sets.specs.MergeLaws.{ascending_put}
+use Rattle.rw_sets.specs.PairLaws.{merges_write_what_one_does}
 use Rattle.cell_store.specs.declared.cell.Cell.{Cell}
 use Rattle.cell_store.specs.declared.cell.Cell.TheVariants.{Home, Out}
 use Rattle.cell_store.specs.Home.{IsHome}
 use Rattle.cell_store.specs.Cells.{cell_at}
 use Rattle.cell_store.specs.Values.{AgreesWith}
-use Rattle.app_laws.specs.Applications.{AgreeOn, IsFitTask, IsWholeLines, set_in, CellsAreCounted, SetsAreInRange, IsInRange, IsFitOutcome, ActsAreFit, SetsAreLocal, IsSameOutcome, ActsAreLocal, ChildrenComeNoEarlier, SetsStayWithin, IsTrueAnswer, WalksAreTrue, IsSafeAlone, SafeTasksStaySafe, StaysSafe}
+use Rattle.app_laws.specs.Applications.{AgreeOn, IsFitTask, IsWholeLines, set_in, CellsAreCounted, SetsAreInRange, ActsAreFit, SetsAreLocal, IsSameOutcome, ActsAreLocal, ChildrenComeNoEarlier, SetsStayWithin, IsTrueAnswer, WalksAreTrue, IsSafeAlone, SafeTasksStaySafe}
 use Rattle.app_laws.specs.Execution.{children_from}
-use Rattle.example_app.specs.Introduction.{AreContacts, IsMeeting, meeting_set, set_among, set_asked, introduced, contact_after, meetings_after, meeting_of, line_of, introductions}
-use Rattle.example_app.specs.Sets.{ascending_one, ascending_put, access_put, access_of, access_merged, access_among, is_some_among, writes_among, covers_from_parts, is_some_joined, allows_write_joined, some_from_writes, clash_grows, clash_where_written}
+use Rattle.example_app.specs.Introduction.{AreContacts, IsMeeting, meeting_set, set_asked, introduced, contact_after, meetings_after, meeting_of, introductions}
+use Rattle.example_app.specs.Sets.{ascending_one, access_put, access_of, access_among, is_some_among, writes_among, some_from_writes, clash_grows, clash_where_written}
 
 -- the set of a meeting, by locations
 pub meeting_set-ascending : (first second guest other : ℕ) → IsAscending (meeting_set first second guest other)
@@ -265,21 +268,15 @@ module _ (people : ℕ) where
 
   -- a set whose locations another has, and which writes what that one writes, lies within it
   within_from_parts : (a b : Accesses) → ((loc : ℕ) → IsSome (access_at a loc) → IsSome (access_at b loc)) → ((loc : ℕ) → IsTrue (writes a loc) → IsTrue (writes b loc)) → IsWithin a b
-  within_from_parts a b there written loc = covers_from_parts (access_at a loc) (access_at b loc) (there loc) (written loc)
+  within_from_parts a b there written = (within_by_members a b).1 (λ loc. (there loc, written loc))
 
   in_merge : (a b : Accesses) → IsAscending a → IsAscending b → (loc : ℕ) → IsSome (access_at a loc) ⊎ IsSome (access_at b loc) → IsSome (access_at (merged a b) loc)
-  in_merge a b up-a up-b loc one = ap is_some (access_merged a b up-a up-b loc) ∙ is_some_joined (access_at a loc) (access_at b loc) ∙ either one
-    where
-      either : IsSome (access_at a loc) ⊎ IsSome (access_at b loc) → (is_some (access_at a loc) || is_some (access_at b loc)) ≡ true
-      either (inl left) = or_left _ _ left
-      either (inr right) = or_right _ _ right
+  in_merge a b up-a up-b loc (inl left) = ((within_by_members a (merged a b)).0 (merges_hold_both a b up-a up-b).0 loc).0 left
+  in_merge a b up-a up-b loc (inr right) = ((within_by_members b (merged a b)).0 (merges_hold_both a b up-a up-b).1 loc).0 right
 
   written_in_merge : (a b : Accesses) → IsAscending a → IsAscending b → (loc : ℕ) → IsTrue (writes a loc) ⊎ IsTrue (writes b loc) → IsTrue (writes (merged a b) loc)
-  written_in_merge a b up-a up-b loc one = ap allows_write (access_merged a b up-a up-b loc) ∙ allows_write_joined (access_at a loc) (access_at b loc) ∙ either one
-    where
-      either : IsTrue (writes a loc) ⊎ IsTrue (writes b loc) → (writes a loc || writes b loc) ≡ true
-      either (inl left) = or_left _ _ left
-      either (inr right) = or_right _ _ right
+  written_in_merge a b up-a up-b loc (inl left) = merges_write_what_one_does a b up-a up-b loc ∙ or_left _ _ left
+  written_in_merge a b up-a up-b loc (inr right) = merges_write_what_one_does a b up-a up-b loc ∙ or_right _ _ right
 
   -- where two guests met, the set of any hosts lies within what it was and the set of that meeting
   set_moves_within : (first second guest other : ℕ) (host next : ℕ) (contacts : List ℕ) → AreContacts people contacts → guest < people → other < people

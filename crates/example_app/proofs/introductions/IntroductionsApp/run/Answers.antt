@@ -1,4 +1,4 @@
-use Rattle.std.proofs.Common.{rules, ◌<◌, inl, inr, refl, arith}
+use Rattle.std.proofs.Common.{inl, inr, refl, arith}
 use Rattle.example_app.proofs.Meetings.{from_taken, named_in_bundle, guest_fits, other_fits, guest_written, other_written, effect_found}
 use Rattle.example_app.proofs.introductions.IntroductionsApp.run.Goals as goal
 

@@ -1,4 +1,4 @@
-use Rattle.std.proofs.Common.{rules, arith}
+use Rattle.std.proofs.Common.{arith}
 use Rattle.example_app.proofs.Meetings.{seen_fits}
 use Rattle.example_app.proofs.introductions.IntroductionsApp.sets.Goals as goal
 
