@@ -4,7 +4,7 @@ ghost use Rattle.commuting.specs.Basis.{LowerLaws, Basis};
 ghost use Rattle.commuting.specs.Rounds.{ClearTasksAreListed, RoundsKeepReady, RoundsKeepStanding, EndsTakeRounds, RoundsEnd, RoundsAreOneNumber};
 ghost use Rattle.commuting.specs.Standing.{StartsAreReady, StartsStandForThemselves, ClearTasksKeepStanding, EarlierEntriesAreFirst, NothingPendingIsTheEnd, TooManyTasksNeverEnd};
 
-use app_laws::{App, execution_laws, family_laws};
+use app_laws::{App, execution_laws, family_laws, lawful};
 use output_log::{join_laws, part_laws, put_laws};
 use rw_sets::{conflict_laws, independence_laws};
 use task_order::{
@@ -35,6 +35,7 @@ fn basis<A: App>()
     ensures { (app : A) → Basis (A.meaning app) }
 {
     lower_laws();
+    lawful::<A>();
 }
 
 /// Pending tasks whose sets don't conflict may act in either order, and leave one another alone.

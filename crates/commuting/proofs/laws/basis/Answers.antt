@@ -1,18 +1,4 @@
 use Rattle.commuting.proofs.laws.basis.Goals as goal
 
 pub returns : goal.returns
-returns g c = λ app. record {
-  lower = c.lower_laws.ensures;
-  lawful = record {
-    cells_are_counted = g.met.A.App.cells_are_counted app;
-    sets_are_in_range = g.met.A.App.sets_are_in_range app;
-    acts_are_fit = g.met.A.App.acts_are_fit app;
-    sets_are_local = g.met.A.App.sets_are_local app;
-    acts_are_local = g.met.A.App.acts_are_local app;
-    children_come_no_earlier = g.met.A.App.children_come_no_earlier app;
-    sets_stay_within = g.met.A.App.sets_stay_within app;
-    walks_are_true = g.met.A.App.walks_are_true app;
-    safe_alone = g.met.A.App.safe_alone app;
-    safe_tasks_stay_safe = g.met.A.App.safe_tasks_stay_safe app;
-  };
-}
+returns g c = λ app. record { lawful = c.lawful.ensures app; lower = c.lower_laws.ensures }
