@@ -358,6 +358,7 @@ faultless (Some fault) answer value made = cc
 
 -- each deck that bytes spell is sound
 deck_of-sound : (input : List ℕ) (deck : Deck) → deck_of input ≡ Ok deck → IsDeck deck
+unfolding deck_of
 deck_of-sound input deck spelled =
     let lines = said_lines input in
     let early = faultless (first_fault early_fault lines) (deck_of_lines lines) deck spelled in

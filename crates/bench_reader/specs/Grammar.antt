@@ -22,7 +22,7 @@ abbrev pub answer_of : List (Numbered LineForm) → Result Deck Fault
 answer_of lines = unless_fault (first_fault early_fault lines) (deck_of_lines lines)
 
 -- the deck that the bytes spell, or their first fault
-abbrev pub deck_of : List ℕ → Result Deck Fault
+unfoldable pub deck_of : List ℕ → Result Deck Fault
 deck_of input = answer_of (said_lines input)
 
 -- bytes are refused only for the fault that they have

@@ -21,6 +21,7 @@ pub fn read_deck(alloc: Global, input: &[u8]) -> Result<Deck, ReadFail>
     deck_in(alloc, input)
 }
 
+#[tactic(auto, unfolding(crate::specs::Grammar::deck_of))]
 fn deck_in(alloc: Global, input: &[u8]) -> Result<Deck, ReadFail>
     ensures { Answers result (deck_of input.now) }
 {
