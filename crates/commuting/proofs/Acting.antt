@@ -42,11 +42,11 @@ module _ {V : Type 0} {app : Application V} (basis : Basis app) where
     both_take_first bound is R S more limit limit' both =
         let entry = entry_of app.act cells first in
         let here : run_from app.act (suc limit) bound (state_of cells (first ∷ put_in task others)) ≡ option_map (with_front (entry ∷ [])) (run_from app.act limit bound (state_of (next basis behind).cells (put_in task (next basis behind).pending))) =
-        run_task app.act limit bound cells first (put_in task others) (none_before_first bound first (put_in task others) is)
+        run_task basis.runs limit bound cells first (put_in task others) (none_before_first bound first (put_in task others) is)
         ∙ ap (λ e. option_map (with_front (entry ∷ [])) (run_until app.act limit bound e)) (first_then basis behind) in
         let there : run_from app.act (suc limit') bound (turn app.act task (state_of cells (first ∷ others))) ≡ option_map (with_front (entry ∷ [])) (run_from app.act limit' bound (turn app.act task (next basis behind))) =
         ap (λ s. run_from app.act (suc limit') bound s) (task_then basis behind)
-        ∙ run_task app.act limit' bound (app.act task cells).cells first (turn app.act task (rest basis behind)).pending (none_before_first bound first (turn app.act task (rest basis behind)).pending is)
+        ∙ run_task basis.runs limit' bound (app.act task cells).cells first (turn app.act task (rest basis behind)).pending (none_before_first bound first (turn app.act task (rest basis behind)).pending is)
         ∙ ap (λ entry. option_map (with_front (entry ∷ [])) (run_from app.act limit' bound (turn app.act first (turn app.act task (rest basis behind))))) (same_first_entry basis behind)
         ∙ ap (λ s. option_map (with_front (entry ∷ [])) (run_from app.act limit' bound s)) (sym (turns_commute basis first task (rest basis behind) (independent basis behind))) in
         subst (λ run. BothEnd S run (run_from app.act (suc limit') bound (turn app.act task (state_of cells (first ∷ others))))) (sym here)
@@ -59,10 +59,10 @@ module _ {V : Type 0} {app : Application V} (basis : Basis app) where
     pub both_refused : (bound : Bound) → is_before first.key bound ≡ true → (R : Execution V → Execution V → Type 0)
         → BothEnd R (run_from app.act zero bound (state_of cells (first ∷ put_in task others))) (run_from app.act zero bound (turn app.act task (state_of cells (first ∷ others))))
     both_refused bound is R =
-        let here = run_refused app.act bound (execution_from (state_of cells (first ∷ put_in task others))) (none_before_first bound first (put_in task others) is) in
+        let here = run_refused basis.runs bound (execution_from (state_of cells (first ∷ put_in task others))) (none_before_first bound first (put_in task others) is) in
         let there =
         ap (λ s. run_from app.act zero bound s) (task_then basis behind)
-        ∙ run_refused app.act bound (execution_from (state_of (app.act task cells).cells (first ∷ (turn app.act task (rest basis behind)).pending))) (none_before_first bound first (turn app.act task (rest basis behind)).pending is) in
+        ∙ run_refused basis.runs bound (execution_from (state_of (app.act task cells).cells (first ∷ (turn app.act task (rest basis behind)).pending))) (none_before_first bound first (turn app.act task (rest basis behind)).pending is) in
         subst (λ run. BothEnd R run (run_from app.act zero bound (turn app.act task (state_of cells (first ∷ others))))) (sym here)
         (subst (λ run. BothEnd R None run) (sym there) tt)
 
@@ -73,12 +73,12 @@ module _ {V : Type 0} {app : Application V} (basis : Basis app) where
         let entry = entry_of app.act cells first in
         let is-first = before_earlier first.key task.key bound behind.earlier is in
         let here =
-        run_task app.act zero bound cells first (put_in task others) (none_before_first bound first (put_in task others) is-first)
+        run_task basis.runs zero bound cells first (put_in task others) (none_before_first bound first (put_in task others) is-first)
         ∙ ap (λ e. option_map (with_front (entry ∷ [])) (run_until app.act zero bound e)) (first_then basis behind)
-        ∙ ap (option_map (with_front (entry ∷ []))) (run_refused app.act bound (execution_from (state_of (next basis behind).cells (put_in task (next basis behind).pending))) (none_before_put_in bound task (next basis behind).pending is)) in
+        ∙ ap (option_map (with_front (entry ∷ []))) (run_refused basis.runs bound (execution_from (state_of (next basis behind).cells (put_in task (next basis behind).pending))) (none_before_put_in bound task (next basis behind).pending is)) in
         let there =
         ap (λ s. run_from app.act zero bound s) (task_then basis behind)
-        ∙ run_refused app.act bound (execution_from (state_of (app.act task cells).cells (first ∷ (turn app.act task (rest basis behind)).pending))) (none_before_first bound first (turn app.act task (rest basis behind)).pending is-first) in
+        ∙ run_refused basis.runs bound (execution_from (state_of (app.act task cells).cells (first ∷ (turn app.act task (rest basis behind)).pending))) (none_before_first bound first (turn app.act task (rest basis behind)).pending is-first) in
         subst (λ run. BothEnd R run (run_from app.act zero bound (turn app.act task (state_of cells (first ∷ others))))) (sym here)
         (subst (λ run. BothEnd R None run) (sym there) tt)
 
@@ -137,9 +137,9 @@ module _ {V : Type 0} {app : Application V} (basis : Basis app) where
           let here : Execution V = execution_from (state_of cells pending) in
           let there : Execution V = execution_from (turn app.act task (state_of cells others)) in
           let children = children_after_bound (state_of cells others) beside in
-          subst (λ run. BothEnd (λ e other. e.log ≡ other.log) run (run_until app.act limit bound there)) (sym (run_clear app.act limit bound here (none_before_all bound pending done)))
+          subst (λ run. BothEnd (λ e other. e.log ≡ other.log) run (run_until app.act limit bound there)) (sym (run_clear basis.runs limit bound here (none_before_all bound pending done)))
           (subst (λ run. BothEnd (λ e other. e.log ≡ other.log) (Some here) run)
-          (sym (run_clear app.act limit bound there (none_before_all bound there.pending (all-put_all (λ other. is_before other.key bound ≡ false) (children_of app cells task) others children rest))))
+          (sym (run_clear basis.runs limit bound there (none_before_all bound there.pending (all-put_all (λ other. is_before other.key bound ≡ false) (children_of app cells task) others children rest))))
           refl)
 
       done_from_task : (limit : ℕ) (cells : List V) (others : List Task) → IsBeside app task (state_of cells others)

@@ -18,7 +18,7 @@ use Rattle.commuting.specs.Clear.{IsReady}
 use Rattle.commuting.specs.Commuting.{BothEnd, IsSameButLogsMore}
 use Rattle.commuting.specs.Basis.{Basis}
 use Rattle.commuting.proofs.Pending.{all-weaker, all-put_all, less_from_test}
-use Rattle.commuting.proofs.Runs.{none_before, with_front, turn, run_clear, run_zero, run_task}
+use Rattle.commuting.proofs.Runs.{none_before, with_front, turn, run_clear, run_refused, run_task}
 use Rattle.commuting.proofs.Turns.{IsBeside, children_of, children_later, ready_turn}
 
 -- ---- bounds
@@ -99,10 +99,6 @@ module _ {V : Type 0} {app : Application V} (basis : Basis app) where
     apart = ready.apart.0;
   }
 
-  later_choice : (key : Key) (e : Execution V) → LogsLater key e → (clear : Bool) → IfSome (cond clear (Some e) None) (LogsLater key)
-  later_choice key e later true = later
-  later_choice key e later false = tt
-
   later_mapped : (key : Key) (entry : Entry) → key_cmp key entry.0 ≡ Less → (run : Option (Execution V)) → IfSome run (LogsLater key) → IfSome (option_map (with_front (entry ∷ [])) run) (LogsLater key)
   later_mapped key entry later None logs = tt
   later_mapped key entry later (Some e) logs = (later, logs)
@@ -111,11 +107,13 @@ module _ {V : Type 0} {app : Application V} (basis : Basis app) where
   logs_later : (limit : ℕ) (bound : Bound) (cells : List V) (pending : List Task) (key : Key) → IsReady app (state_of cells pending)
       → AllByRecursion (λ task. key_cmp key task.key ≡ Less) pending
       → IfSome (run_from app.act limit bound (state_of cells pending)) (LogsLater key)
-  logs_later zero bound cells pending key ready later =
-      let e = execution_from (state_of cells pending) in
-      subst (λ run. IfSome run (LogsLater key)) (sym (run_zero app.act bound e)) (later_choice key e tt (none_before bound pending))
+  logs_later zero bound cells pending key ready later = by_case (none_before bound pending) refl
+    where
+      by_case : (clear : Bool) → none_before bound pending ≡ clear → IfSome (run_from app.act zero bound (state_of cells pending)) (LogsLater key)
+      by_case true clear = subst (λ run. IfSome run (LogsLater key)) (sym (run_clear basis.runs zero bound (execution_from (state_of cells pending)) clear)) tt
+      by_case false busy = subst (λ run. IfSome run (LogsLater key)) (sym (run_refused basis.runs bound (execution_from (state_of cells pending)) busy)) tt
   logs_later (suc limit) bound cells [] key ready later =
-      subst (λ run. IfSome run (LogsLater key)) (sym (run_clear app.act (suc limit) bound (execution_from (state_of cells [])) refl)) tt
+      subst (λ run. IfSome run (LogsLater key)) (sym (run_clear basis.runs (suc limit) bound (execution_from (state_of cells [])) refl)) tt
   logs_later (suc limit) bound cells (task ∷ others) key ready later =
       by_case (none_before bound (task ∷ others)) refl
       (logs_later limit bound next.cells next.pending key (ready_turn basis task rest beside)
@@ -136,9 +134,9 @@ module _ {V : Type 0} {app : Application V} (basis : Basis app) where
 
       by_case : (clear : Bool) → none_before bound (task ∷ others) ≡ clear → IfSome (run_from app.act limit bound next) (LogsLater key)
           → IfSome (run_from app.act (suc limit) bound (state_of cells (task ∷ others))) (LogsLater key)
-      by_case true clear logs = subst (λ run. IfSome run (LogsLater key)) (sym (run_clear app.act (suc limit) bound (execution_from (state_of cells (task ∷ others))) clear)) tt
+      by_case true clear logs = subst (λ run. IfSome run (LogsLater key)) (sym (run_clear basis.runs (suc limit) bound (execution_from (state_of cells (task ∷ others))) clear)) tt
       by_case false busy logs =
-          subst (λ run. IfSome run (LogsLater key)) (sym (run_task app.act limit bound cells task others busy))
+          subst (λ run. IfSome run (LogsLater key)) (sym (run_task basis.runs limit bound cells task others busy))
           (later_mapped key (entry_of app.act cells task) later.0 (run_from app.act limit bound next) logs)
 
   more_by_first : (cells : List V) (task : Task) (run : Option (Execution V)) → IfSome run (LogsLater task.key)
@@ -160,7 +158,7 @@ module _ {V : Type 0} {app : Application V} (basis : Basis app) where
       let rest : State V = state_of cells others in
       let next = turn app.act task rest in
       subst (λ run. BothEnd (IsSameButLogsMore (entry_of app.act cells task ∷ [])) run (run_from app.act limit bound next))
-      (sym (run_task app.act limit bound cells task others (none_before_first bound task others is)))
+      (sym (run_task basis.runs limit bound cells task others (none_before_first bound task others is)))
       (more_by_first cells task (run_from app.act limit bound next)
       (logs_later limit bound next.cells next.pending task.key (ready_turn basis task rest beside)
       (all-put_all (λ child. key_cmp task.key child.key ≡ Less) (children_of app cells task) others (children_later basis task cells beside.ready.cells beside.fit) later)))

@@ -2,18 +2,17 @@
 use Rattle.std.proofs.Common.{◌≡◌, ◌≢◌, ℕ, zero, suc, ◌+◌, ◌≤◌, ◌<◌, Bool, true, false, not, cond, List, [], ◌∷◌, ◌++◌, length, Option, Some, None, refl, sym, ap, subst, ◌∙◌, ⊎_elim, arith, append-nil}
 use Rattle.std.specs.Prelude.{IfSome, IsSome, ◌||◌, is_some}
 use Rattle.std.specs.List.{AllByRecursion, Contains, filter, list_any}
-use Rattle.std.specs.Option.{option_map, option_or}
 use Rattle.std.proofs.lemmas.Bool.{true≢false, and_parts, and_from, not-true}
 use Rattle.std.proofs.lemmas.List.Elements.{All-from_recursion, recursion_from_All, All-contains, All-contains_itself, Contains-append_cases, filter_passes}
 use Rattle.std.proofs.lemmas.List.Sorted.{Contains-permutation, IsPermutation-filter_both}
 use Rattle.task_order.specs.declared.task.Task.{Task}
 use Rattle.task_order.specs.declared.key.Key.{Key}
-use Rattle.task_order.specs.Key.{Bound, end, key_cmp}
+use Rattle.task_order.specs.Key.{end, key_cmp}
 use Rattle.task_order.specs.TaskList.{IsAscending, tasks_before}
 use Rattle.output_log.specs.Entries.{Entry, IsNewEntry, joined_by_key}
 use Rattle.rw_sets.specs.Accesses.{Conflicts, conflicts_with}
 use Rattle.app_laws.specs.Applications.{Application, set_in}
-use Rattle.app_laws.specs.Execution.{Operator, Execution, after_steps, is_clear_before, steps_until, run_until}
+use Rattle.app_laws.specs.Execution.{Execution, is_clear_before}
 use Rattle.commuting.specs.Basis.{Basis}
 use Rattle.commuting.specs.Clear.{IsReady, IsClear, IsUnblocked}
 use Rattle.commuting.specs.Commuting.{BothEnd, IsSameButLogsMore, AreClear, entries_of}
@@ -56,24 +55,6 @@ has-filter test xs x has passes =
     (λ here. here)
     (λ there. absurd (true≢false (sym (All-contains (λ y. not (test y) ≡ true) others x (filter_passes (λ y. not (test y)) xs) there) ∙ ap not passes)))
     (Contains-append_cases (filter test xs) others x (Contains-permutation xs (filter test xs ++ others) x (IsPermutation-filter_both test (λ y. not (test y)) (λ y. refl) xs) has))
-
--- ---- longer runs
-
-more_answers : {X Y : Type 0} (f : X → Y) (y : Y) (answer other : Option X) → option_map f answer ≡ Some y → option_map f (option_or answer other) ≡ Some y
-more_answers f y None other is = cc
-more_answers f y (Some x) other is = is
-
-run_one_more : {V : Type 0} (act : Operator V) (limit : ℕ) (bound : Bound) (e last : Execution V) → run_until act limit bound e ≡ Some last → run_until act (suc limit) bound e ≡ Some last
-unfolding steps_until
-run_one_more act limit bound e last is = more_answers (λ steps. after_steps act steps e) last (steps_until act limit bound e) _ is
-
-run_more : {V : Type 0} (act : Operator V) (more limit : ℕ) (bound : Bound) (e last : Execution V) → run_until act limit bound e ≡ Some last → run_until act (more + limit) bound e ≡ Some last
-run_more act zero limit bound e last is =
-    let none : 0 + limit ≡ limit = omega arith in
-    ap (λ n. run_until act n bound e) none ∙ is
-run_more act (suc more) limit bound e last is =
-    let one : suc more + limit ≡ suc (more + limit) = omega arith in
-    ap (λ n. run_until act n bound e) one ∙ run_one_more act (more + limit) bound e last (run_more act more limit bound e last is)
 
 module _ {V : Type 0} {app : Application V} (basis : Basis app) where
   -- ---- the clear tasks
@@ -177,7 +158,9 @@ module _ {V : Type 0} {app : Application V} (basis : Basis app) where
       let state = state_of cells (task ∷ others) in
       let round = clear_tasks app state in
       let entries = entries_of app.act cells round in
-      let longer = run_more app.act (length round) limit end (execution_from state) e is in
+      let turned : limit + length round ≡ length round + limit = omega arith in
+      let longer : run_from app.act (length round + limit) end state ≡ Some e =
+      subst (λ n. run_from app.act n end state ≡ Some e) turned (basis.runs.greater_limits (execution_from state) limit (length round) end e is) in
       let both = (clear_tasks_may_all_act_at_once basis state round ready (round_clear state ready)).to_end limit in
       shorter entries (run_from app.act limit end (after_round app state)) e
       (subst (λ run. BothEnd (IsSameButLogsMore entries) run (run_from app.act limit end (after_round app state))) longer both)
@@ -217,7 +200,7 @@ module _ {V : Type 0} {app : Application V} (basis : Basis app) where
   pub rounds_end : RoundsEnd app
   rounds_end state ready zero ended =
       let clear = ap (λ pending. is_clear_before end (execution_from (state_of state.cells pending))) ended in
-      (0, ap is_some (run_clear app.act 0 end (execution_from state) clear))
+      (0, ap is_some (run_clear basis.runs 0 end (execution_from state) clear))
   rounds_end state ready (suc rounds) takes =
       let round = clear_tasks app state in
       let rest = rounds_end (after_round app state) (rounds_keep_ready state ready) rounds takes.1 in

@@ -15,7 +15,6 @@ use Rattle.output_log.specs.Entries.{Entry, IsInKeyOrder, IsNewEntry, entries_be
 use Rattle.app_laws.specs.Applications.{Application, IsFitTask, AreFitTasks, AreFitStarts}
 use Rattle.app_laws.specs.Execution.{Operator, Execution, after_steps, is_clear_before, steps_until, created_after, first_from}
 use Rattle.app_laws.specs.Order.{is_prefix}
-use Rattle.app_laws.specs.Laws.{LogsEachStep, EndsWithinLimit}
 use Rattle.commuting.specs.Clear.{IsReady}
 use Rattle.commuting.specs.Commuting.{BothEnd}
 use Rattle.commuting.specs.Basis.{Basis}
@@ -140,13 +139,13 @@ module _ {V : Type 0} {app : Application V} (basis : Basis app) where
       let count : length done ≡ steps = omega (arith, ap length is, logs) in
       ap (λ n. (after_steps app.act n (execution_from start)).log) count ∙ is
 
-  pub earlier_entries_are_first : ((act : Operator V) (e : Execution V) → LogsEachStep act e) → EarlierEntriesAreFirst app
-  earlier_entries_are_first logs start now entries bound stands clear =
+  pub earlier_entries_are_first : EarlierEntriesAreFirst app
+  earlier_entries_are_first start now entries bound stands clear =
       let done = entries_before bound entries in
       first_answered start now done bound (basis.lower.parts_in_order bound entries stands.ordered).0
       (steps_until app.act (length done + 0) bound (execution_from start))
-      (logs app.act (execution_from start) (length done + 0) bound)
-      (subst (λ run. BothEnd (IsRestOf bound done) (run_from app.act (length done + 0) bound start) run) (run_clear app.act 0 bound (execution_from now) clear) (stands.same_rest bound 0))
+      (basis.runs.logs (execution_from start) (length done + 0) bound)
+      (subst (λ run. BothEnd (IsRestOf bound done) (run_from app.act (length done + 0) bound start) run) (run_clear basis.runs 0 bound (execution_from now) clear) (stands.same_rest bound 0))
 
   -- to the end, the entries are all of them
   to_end : (start now : State V) (entries : List Entry) → HasSameRest app.act start entries now → (limit rest : ℕ) → limit ≡ length entries + rest
@@ -158,16 +157,16 @@ module _ {V : Type 0} {app : Application V} (basis : Basis app) where
   pub nothing_pending_is_the_end : NothingPendingIsTheEnd app
   nothing_pending_is_the_end start now entries stands none limit up_to =
       let rest = limit - length entries in
-      let ended = run_clear app.act rest end (execution_from now) (ap (λ pending. is_clear_before end (execution_from (state_of now.cells pending))) none) in
+      let ended = run_clear basis.runs rest end (execution_from now) (ap (λ pending. is_clear_before end (execution_from (state_of now.cells pending))) none) in
       ended_both (IsRestOf end entries) (IsEndWith entries now.cells) (execution_from now)
       (λ e is. record { log-is = is.log-is ∙ (basis.lower.joins_with_none entries stands.ordered).1; cells-are = is.cells-are refl })
       (run_from app.act limit end start)
       (subst (λ run. BothEnd (IsRestOf end entries) (run_from app.act limit end start) run) ended (to_end start now entries stands.same_rest limit rest (omega arith)))
 
-  pub too_many_tasks_never_end : ((act : Operator V) (e : Execution V) → EndsWithinLimit act e) → TooManyTasksNeverEnd app
-  too_many_tasks_never_end ends start now entries stands limit up_to many =
+  pub too_many_tasks_never_end : TooManyTasksNeverEnd app
+  too_many_tasks_never_end start now entries stands limit up_to many =
       let rest = limit - length entries in
       let created : 0 + rest < created_after app.act 0 (execution_from now) = rw after_none (omega arith) in
-      let never = (ends app.act (execution_from now) rest).1 (0, created) in
+      let never = (basis.runs.ends (execution_from now) rest).1 (0, created) in
       given_up_both (IsRestOf end entries) (run_from app.act limit end start)
       (subst (λ run. BothEnd (IsRestOf end entries) (run_from app.act limit end start) run) never (to_end start now entries stands.same_rest limit rest (omega arith)))

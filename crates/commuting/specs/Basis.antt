@@ -4,7 +4,9 @@ use Rattle.task_order.specs.Laws as tasks
 use Rattle.rw_sets.specs.Laws as sets
 use Rattle.output_log.specs.Laws as logs
 use Rattle.app_laws.specs.Applications.{Application, IsLawful}
+use Rattle.app_laws.specs.Execution.{Operator, Execution}
 use Rattle.app_laws.specs.Family.{ChildrenAreApart, SiblingsAreApart, ChildrenAreNew, ChildrenGoOn, FirstTasksAreApart}
+use Rattle.app_laws.specs.Laws.{RunsBeginWithAStep, GreaterLimitsAgree, LogsEachStep, EndsWithinLimit}
 
 -- what the crates below promise of keys, lists of tasks, sets, children and logs
 pub record LowerLaws : Type 0 where
@@ -46,7 +48,15 @@ pub record LowerLaws : Type 0 where
   pub joins_take_puts : logs.JoinsTakePuts
   pub joins_add_lengths : logs.JoinsAddLengths
 
--- that, and the laws of an application
+-- what holds of the runs of an operator
+pub record RunLaws {V : Type 0} (act : Operator V) : Type 0 where
+  pub begins : (e : Execution V) → RunsBeginWithAStep act e
+  pub greater_limits : (e : Execution V) → GreaterLimitsAgree act e
+  pub logs : (e : Execution V) → LogsEachStep act e
+  pub ends : (e : Execution V) → EndsWithinLimit act e
+
+-- these, and the laws of an application
 pub record Basis {V : Type 0} (app : Application V) : Type 0 where
   pub lawful : IsLawful app
   pub lower : LowerLaws
+  pub runs : RunLaws app.act

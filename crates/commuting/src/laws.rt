@@ -30,12 +30,13 @@ fn lower_laws()
     join_laws();
 }
 
-/// That, and the laws of an application.
+/// That, the laws of an application, and those of its runs.
 fn basis<A: App>()
     ensures { (app : A) → Basis (A.meaning app) }
 {
     lower_laws();
     lawful::<A>();
+    execution_laws::<A::Val>();
 }
 
 /// Pending tasks whose sets don't conflict may act in either order, and leave one another alone.
@@ -86,7 +87,6 @@ pub fn standing_laws<A: App>()
     ensures too_many { (app : A) → TooManyTasksNeverEnd (A.meaning app) }
 {
     basis::<A>();
-    execution_laws::<A::Val>();
 }
 
 /// Rounds, in each of which all clear tasks act, lead to the end of an execution wherever it has
