@@ -46,37 +46,28 @@ impl Block {
         }
     }
 
+    /// How many tasks there are.
     pub(crate) fn len(&self) -> usize
         ensures { result ≡ length self.now }
     {
         self.tasks.len()
     }
 
-    pub(crate) fn is_empty(&self) -> bool
-        ensures { IsTrue result ↔ (self.now ≡ []) }
-    {
-        self.tasks.is_empty()
-    }
-
+    /// Whether no more tasks should come in.
     pub(crate) fn is_full(&self) -> bool
         ensures { IsTrue result ↔ (full_length ≤ length self.now) }
     {
         self.len() >= FULL
     }
 
+    /// The task at a place.
     pub(crate) fn get(&self, place: usize) -> Option<&Task>
         ensures { option_map deref result ≡ slice_get self.now place }
     {
         self.tasks.get(place)
     }
 
-    pub(crate) fn last(&self) -> Option<&Task>
-        ensures last { IfSome result (λ task. slice_get self.now (length self.now - 1) ≡ Some task.now) }
-        ensures none { IfNone result (self.now ≡ []) }
-    {
-        self.tasks.back()
-    }
-
+    /// The tasks, in order.
     pub(crate) fn iter(&self) -> vec_deque::Iter<'_, Task>
         ensures { deque_iter_rest result ≡ self.now }
     {
@@ -126,6 +117,7 @@ impl Block {
         }
     }
 
+    /// Takes the first task out.
     pub(crate) fn take_first(&mut self) -> Option<Task>
         ensures first { IfSome result (λ task. self.old ≡ task ∷ self.new) }
         ensures empty { IfNone result ((self.old ≡ []) × (self.new ≡ [])) }

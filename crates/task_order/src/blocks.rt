@@ -34,6 +34,7 @@ impl Model for Blocks {
 }
 
 impl Blocks {
+    /// No blocks, which take no memory.
     pub(crate) fn new(alloc: Global) -> Blocks
         ensures { result ≡ [] }
     {
@@ -81,6 +82,7 @@ impl Blocks {
         }
     }
 
+    /// How many blocks there are.
     fn count(&self) -> usize
         ensures { result ≡ length self.now }
     {
@@ -177,6 +179,7 @@ impl Blocks {
         }
     }
 
+    /// How many tasks a block has.
     fn block_len(&self, at: usize) -> usize
         requires { at < length self.now }
         ensures { result ≡ length (block_at self.now at) }
@@ -184,6 +187,7 @@ impl Blocks {
         self.blocks[at].len()
     }
 
+    /// Drops a block.
     fn remove_block(&mut self, at: usize)
         requires { at < length self.old }
         ensures { self.new ≡ remove self.old at }
@@ -320,6 +324,7 @@ impl Blocks {
         }
     }
 
+    /// The tasks, in order.
     pub(crate) fn iter(&self) -> Tasks<'_>
         ensures { result ≡ tasks_in self.now }
     {
