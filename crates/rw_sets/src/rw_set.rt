@@ -11,7 +11,7 @@ use kdg_text::NoRoom;
 use std::alloc::Global;
 use std::marker::Model;
 
-/// Locations in ascending order, each once, with the access to it. Up to four take no memory.
+/// Locations in ascending order, each once, with the access to it. A few of them stand in place.
 #[derive(Debug, Drop)]
 pub struct RwSet {
     pairs: Pairs,
