@@ -77,7 +77,7 @@ fn an_input_may_be_too_large(rt: HostRuntime) -> Result<(), Fail> {
             "",
         ),
     ] {
-        let mut source = CleanSource::new(vec![in rt.alloc(); b' '; len]?, 1 << 20);
+        let mut source = CleanSource::new(vec![in rt.alloc(); b'#'; len]?, 1 << 20);
         let mut sink = CleanSink::with_room(rt.alloc(), 64, 4096)?;
         let status = run_in_memory(rt.alloc(), &options, &mut source, &mut sink);
         assert_eq!(rt; status, want);
