@@ -2,7 +2,7 @@ use Rattle.std.proofs.Common.{◌≡◌, ℕ, ◌+◌, ◌*◌, ◌<◌, ◌≤�
 use Rattle.std.specs.Option.{option_and_then, option_or}
 use Rattle.std.specs.Str.{bytes_eq}
 use Rattle.kdg_prog.specs.Words.{Word, settings_of, given_value, name_of, is_bad, is_value, workers_value, mode_value, seed_value, until_value, budget_value, switch_value, options_of, options_given, option_named, command_of}
-use Rattle.kdg_prog.specs.Draft.{is_given, with_value, options_drafted}
+use Rattle.kdg_prog.specs.Draft.{is_given, with_value, options_of_draft}
 use Rattle.kdg_prog.specs.declared.words.Command.{Command}
 use Rattle.kdg_prog.specs.declared.words.Draft.{Draft}
 use Rattle.kdg_prog.specs.declared.words.OptionName.{OptionName}
@@ -19,8 +19,8 @@ use Rattle.kdg_prog.proofs.FirstBad.{refused_at, read_whole, is_bad-odd, is_bad-
 use Rattle.kdg_prog.proofs.Given.{name_from_named, settings_of_more, given_value_more}
 
 -- the draft of the values that the options have
-abbrev pub drafted : (OptionName → Option Word) → Draft
-drafted given = record {
+abbrev pub draft_of : (OptionName → Option Word) → Draft
+draft_of given = record {
   workers = option_and_then workers_value (given name.Workers);
   mode = option_and_then mode_value (given name.Mode);
   seed = option_and_then seed_value (given name.Seed);
@@ -29,20 +29,20 @@ drafted given = record {
   stats = option_and_then switch_value (given name.Stats);
 }
 
-drafted_along : (f g : OptionName → Option Word) → ((name : OptionName) → f name ≡ g name) → drafted f ≡ drafted g
-drafted_along f g same = rw (same name.Workers, same name.Mode, same name.Seed, same name.Until, same name.Budget, same name.Stats) refl
+draft_of-along : (f g : OptionName → Option Word) → ((name : OptionName) → f name ≡ g name) → draft_of f ≡ draft_of g
+draft_of-along f g same = rw (same name.Workers, same name.Mode, same name.Seed, same name.Until, same name.Budget, same name.Stats) refl
 
 -- one more option has this value
 abbrev one_more : (OptionName → Option Word) → OptionName → Word → OptionName → Option Word
 one_more given name value other = cond (bytes_eq (name_of name) (name_of other)) (Some value) (given other)
 
-with_value-drafted : (given : OptionName → Option Word) (name : OptionName) (value : Word) → with_value (drafted given) name value ≡ drafted (one_more given name value)
-with_value-drafted given name.Workers value = refl
-with_value-drafted given name.Mode value = refl
-with_value-drafted given name.Seed value = refl
-with_value-drafted given name.Until value = refl
-with_value-drafted given name.Budget value = refl
-with_value-drafted given name.Stats value = refl
+with_value-draft_of : (given : OptionName → Option Word) (name : OptionName) (value : Word) → with_value (draft_of given) name value ≡ draft_of (one_more given name value)
+with_value-draft_of given name.Workers value = refl
+with_value-draft_of given name.Mode value = refl
+with_value-draft_of given name.Seed value = refl
+with_value-draft_of given name.Until value = refl
+with_value-draft_of given name.Budget value = refl
+with_value-draft_of given name.Stats value = refl
 
 is_given-with_value : (draft : Draft) (name : OptionName) (value : Word) (other : OptionName) → is_given (with_value draft name value) other ≡ cond (bytes_eq (name_of name) (name_of other)) (is_value name value) (is_given draft other)
 is_given-with_value draft name.Workers value name.Workers = refl
@@ -91,7 +91,7 @@ pub record IsRead (words : List Word) (draft : Draft) (index : ℕ) : Type 0 whe
   pub within : index ≤ length words
   pub turn : index ≡ 1 + 2 * given_count draft
   pub fine : (k : ℕ) → k < index → is_bad words k ≡ false
-  pub same : draft ≡ drafted (λ name. given_value name (settings_of (take index words)))
+  pub same : draft ≡ draft_of (λ name. given_value name (settings_of (take index words)))
   pub given : (name : OptionName) → is_given draft name ≡ is_some (given_value name (settings_of (take index words)))
 
 -- whether the option at an index is bad
@@ -173,7 +173,7 @@ read_more words draft index name read more named new valid =
       turn = omega (arith, read.turn, given_count_more draft name value new valid);
       fine = λ k below. fine_more words (index + 1) (fine_name words draft index name read (omega arith) named new)
           (bad_value words draft index name read (omega arith) named ∙ rw (slice_get-get_or words (index + 1) [] more, valid) refl) k (omega arith);
-      same = ap (λ d. with_value d name value) read.same ∙ with_value-drafted (λ n. given_value n (settings_of (take index words))) name value ∙ drafted_along _ _ along;
+      same = ap (λ d. with_value d name value) read.same ∙ with_value-draft_of (λ n. given_value n (settings_of (take index words))) name value ∙ draft_of-along _ _ along;
       given = λ other. is_given-with_value draft name value other ∙ rw (valid, read.given other) (given_step (bytes_eq (name_of name) (name_of other)) value _ ∙ ap is_some (along other));
     }
   where
@@ -181,20 +181,20 @@ read_more words draft index name read more named new valid =
     given_step true value had = refl
     given_step false value had = refl
 
-pub read_all : (words : List Word) (draft : Draft) (index : ℕ) (command : Command) → IsRead words draft index → length words ≤ index → command_of words ≡ Some command → options_of words ≡ Ok (options_drafted command draft)
+pub read_all : (words : List Word) (draft : Draft) (index : ℕ) (command : Command) → IsRead words draft index → length words ≤ index → command_of words ≡ Some command → options_of words ≡ Ok (options_of_draft command draft)
 read_all words draft index command read end named =
     let all : take index words ≡ words = take_all index words end in
-    let whole : draft ≡ drafted (λ name. given_value name (settings_of words)) = read.same ∙ ap (λ front. drafted (λ name. given_value name (settings_of front))) all in
+    let whole : draft ≡ draft_of (λ name. given_value name (settings_of words)) = read.same ∙ ap (λ front. draft_of (λ name. given_value name (settings_of front))) all in
     let last : is_bad words index ≡ false = is_bad-odd words index (given_count draft) read.turn ∙ rw (slice_get_past words index end) refl in
     read_whole words (λ k within. fine_more words index read.fine last k (omega arith))
     ∙ ap (λ found. Ok (options_given (unwrap_or found Sim) (settings_of words))) named
-    ∙ ap (λ d. Ok (options_drafted command d)) (sym whole)
+    ∙ ap (λ d. Ok (options_of_draft command d)) (sym whole)
 
-none_given : (name : OptionName) → is_given (drafted (λ _. None)) name ≡ false
+none_given : (name : OptionName) → is_given (draft_of (λ _. None)) name ≡ false
 none_given name.Workers = refl
 none_given _ = refl
 
-pub read_none : (words : List Word) (command : Command) → command_of words ≡ Some command → IsRead words (drafted (λ _. None)) 1
+pub read_none : (words : List Word) (command : Command) → command_of words ≡ Some command → IsRead words (draft_of (λ _. None)) 1
 read_none [] command named = cc
 read_none (word ∷ words) command named = record {
   within = omega arith;

@@ -1,20 +1,21 @@
--- Why there is no print for an input.
-use Rattle.std.proofs.Common.{◌≡◌, ℕ, List, Some, Option, Ok, Err, sym, ◌∙◌, ap, subst, inl, inr}
+-- The print of an input, and why there is none.
+use Rattle.std.proofs.Common.{◌≡◌, ℕ, List, ◌++◌, Ok, Err, sym, ◌∙◌, ap, subst, inl, inr}
 use Rattle.std.specs.Prelude.{IfOk, IfErr, IsErrAnd, Result}
-use Rattle.app_laws.specs.Serial.{IsFault, FirstPasses}
+use Rattle.app_laws.specs.Serial.{IsFault, IsPlainRun, FirstPasses}
+use Rattle.app_laws.specs.declared.plain_run.PlainRun.{PlainRun}
 use Rattle.app_laws.specs.declared.serial_run.SerialFault.{SerialFault}
 use Rattle.app_laws.specs.declared.serial_run.SerialFault.TheVariants.{Budget, NoRoom}
 use Rattle.kdg_text.specs.declared.fault.Fault.{Fault}
 use Rattle.bench_reader.specs.declared.deck.Deck.{Deck}
 use Rattle.bench_reader.specs.Grammar.{deck_of}
 use Rattle.app_laws.specs.Execution.{start_of}
-use Rattle.logic_sim.specs.Circuit.{start_cells, start_tasks}
+use Rattle.logic_sim.specs.Circuit.{start_cells, start_tasks, finals_of}
 use Rattle.logic_sim.specs.Event.{Simulation, act_of}
 use Rattle.task_order.specs.declared.start.Start.{Start}
 use Rattle.kdg_prog.specs.declared.status.Status.{Status}
 use Rattle.kdg_prog.specs.declared.status.Status.TheVariants as status
 use Rattle.kdg_prog.specs.declared.words.Options.{Options}
-use Rattle.kdg_prog.specs.Answer.{answer_by_deck, answer_by_end, operator_of, simulation_of, start_for}
+use Rattle.kdg_prog.specs.Answer.{answer_of, answer_by_deck, answer_by_end, operator_of, print_of, simulation_of, start_for, tasks_line, whole_print}
 use Rattle.kdg_prog.specs.Refusals.{IsRefusal, AnswersSerial}
 
 refusal_from_fault : (options : Options) (input : List ℕ) (deck : Deck) (fault : SerialFault) (answer : Status) → deck_of input ≡ Ok deck
@@ -41,3 +42,20 @@ refusal_from_serial options input deck circuit cells tasks fault result spelled 
     refused_with result (AnswersSerial fault) (IsRefusal options input)
     (λ answer told. refusal_from_fault options input deck fault answer spelled (rw (← is-circuit, ← is-cells, ← is-tasks) over) told)
     told
+
+-- the print of a run of a deck to its end
+print_from_run : (options : Options) (input : List ℕ) (deck : Deck) (run : PlainRun ℕ) (finals bytes : List ℕ) → deck_of input ≡ Ok deck
+    → IsPlainRun (operator_of options deck) options.budget (start_for deck) run → finals ≡ finals_of deck run.cells.items → bytes ≡ (run.text ++ finals) ++ tasks_line run.count
+    → answer_of options input ≡ whole_print bytes
+print_from_run options input deck run finals bytes spelled plain is-finals is-bytes =
+    let printed : bytes ≡ print_of deck plain.end =
+    is-bytes ∙ (λ i. (plain.text i ++ (is-finals ∙ ap (finals_of deck) plain.cells) i) ++ tasks_line (plain.count i)) in
+    ap (answer_by_deck options) spelled ∙ ap (answer_by_end deck) plain.ends ∙ ap whole_print (sym printed)
+
+-- the print of a serial run of a deck's circuit
+pub print_from_serial : (options : Options) (input : List ℕ) (deck : Deck) (circuit : Simulation) (cells : List ℕ) (tasks : List Start) (run : PlainRun ℕ) (finals bytes : List ℕ) → deck_of input ≡ Ok deck
+    → circuit ≡ simulation_of options deck → cells ≡ start_cells deck → tasks ≡ start_tasks deck
+    → IsPlainRun (act_of circuit) options.budget (start_of cells tasks) run → finals ≡ finals_of deck run.cells.items → bytes ≡ (run.text ++ finals) ++ tasks_line run.count
+    → answer_of options input ≡ whole_print bytes
+print_from_serial options input deck circuit cells tasks run finals bytes spelled is-circuit is-cells is-tasks ran =
+    print_from_run options input deck run finals bytes spelled (rw (← is-circuit, ← is-cells, ← is-tasks) ran)

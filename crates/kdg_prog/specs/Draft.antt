@@ -26,8 +26,8 @@ with_value draft name.Budget word = record draft { budget = budget_value word }
 with_value draft name.Stats word = record draft { stats = switch_value word }
 
 -- the values that were given, and the defaults of the other options
-abbrev pub options_drafted : Command → Draft → Options
-options_drafted command draft = record {
+abbrev pub options_of_draft : Command → Draft → Options
+options_of_draft command draft = record {
   command = command;
   workers = unwrap_or draft.workers 4;
   mode = unwrap_or draft.mode Serial;

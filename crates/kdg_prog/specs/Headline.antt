@@ -41,9 +41,11 @@ WritesFront options source sink = (bytes : List ℕ) × ReadsInput options sourc
 pub record ExceedsBudget (options : Options) (source : Transfer) (created limit : ℕ) : Type 0 where
   pub limit_is : limit ≡ options.budget
   pub above : limit < created
-  pub over : ReadsInput options source over_budget
+  pub input : List ℕ
+  pub read : IsReadWhole input_bound source input
+  pub over : answer_of options input ≡ over_budget
   -- in mode serial the number is that of the moment when first there are more
-  pub first : options.mode ≡ Serial → (input : List ℕ) × IsReadWhole input_bound source input × FirstPassesBudget options input created
+  pub first : options.mode ≡ Serial → FirstPassesBudget options input created
 
 -- what each of the other answers comes of
 pub record HasCause (options : Options) (source sink : Transfer) (answer : Status) : Type 0 where
@@ -57,7 +59,7 @@ pub record HasCause (options : Options) (source sink : Transfer) (answer : Statu
   pub reads_told : answer ≢ status.ReadFault → source.faults_after ≡ source.faults_before
   pub writes_told : answer ≢ status.WriteFault → sink.faults_after ≡ sink.faults_before
 
--- an input's answer is the run's, where no write fails
+-- an input's answer is the run's, but for a failed write of a print
 abbrev pub IsAnswered : Options → Transfer → Answer → Status → Type 0
 IsAnswered options sink (input_fault fault) answer = answer ≡ status_of_fault fault
 IsAnswered options sink over_budget answer = (created : ℕ) × (answer ≡ status.Budget created options.budget)

@@ -1,6 +1,6 @@
 ghost use Rattle.std.specs.Prelude.{◌≡◌, ◌+◌, ◌≤◌, map, string_bytes, is_some, IfOk, IfSome, OnSome};
 ghost use Rattle.kdg_prog.specs.Words.{options_of, IsAllowed, command_named, option_named, number_within, mode_value, switch_value, is_value};
-ghost use Rattle.kdg_prog.specs.Draft.{is_given, with_value, options_drafted};
+ghost use Rattle.kdg_prog.specs.Draft.{is_given, with_value, options_of_draft};
 
 use kdg_text::read_u64;
 
@@ -207,7 +207,7 @@ impl Draft {
 
     /// The values that were given, and the defaults of the other options.
     fn options(self, command: Command) -> Options
-        ensures { result ≡ options_drafted command self }
+        ensures { result ≡ options_of_draft command self }
     {
         Options {
             command,

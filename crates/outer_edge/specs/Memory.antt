@@ -31,10 +31,10 @@ abbrev pub pull_of : Reader → ℕ → Pull
 pull_of reader room = if next_fails reader.fails reader.reads then pulls.Failed else pull_from reader.left reader.step room
 
 -- how many bytes a read gave
-abbrev pub pulled : Pull → ℕ
-pulled (pulls.Got n) = n
-pulled pulls.End = 0
-pulled pulls.Failed = 0
+abbrev pub given_len : Pull → ℕ
+given_len (pulls.Got n) = n
+given_len pulls.End = 0
+given_len pulls.Failed = 0
 
 -- the count of faults after a read
 abbrev pub faults_after_read : ℕ → Pull → ℕ
@@ -44,11 +44,11 @@ faults_after_read faults pulls.Failed = next_count faults
 
 -- the source after a read
 abbrev pub after_read : Reader → Pull → Reader
-after_read reader pull = record reader { left = drop (pulled pull) reader.left; reads = next_count reader.reads; faults = faults_after_read reader.faults pull }
+after_read reader pull = record reader { left = drop (given_len pull) reader.left; reads = next_count reader.reads; faults = faults_after_read reader.faults pull }
 
 -- the buffer after a read
-abbrev pub filled : List ℕ → List ℕ → Pull → List ℕ
-filled buffer left pull = take (pulled pull) left ++ drop (pulled pull) buffer
+abbrev pub buffer_after : List ℕ → List ℕ → Pull → List ℕ
+buffer_after buffer left pull = take (given_len pull) left ++ drop (given_len pull) buffer
 
 -- a source in memory that never fails: the bytes left, and how many a read gives at most
 pub record CleanReader : Type 0 where
@@ -74,9 +74,9 @@ abbrev pub push_of : Writer → ℕ → Push
 push_of writer len = if next_fails writer.fails writer.writes then pushes.Failed else push_onto writer.held writer.step writer.room len
 
 -- how many bytes a write took
-abbrev pub pushed : Push → ℕ
-pushed (pushes.Took n) = n
-pushed pushes.Failed = 0
+abbrev pub taken_len : Push → ℕ
+taken_len (pushes.Took n) = n
+taken_len pushes.Failed = 0
 
 -- the count of faults after a write
 abbrev pub faults_after_write : ℕ → Push → ℕ
@@ -85,7 +85,7 @@ faults_after_write faults pushes.Failed = next_count faults
 
 -- the sink after a write
 abbrev pub after_write : Writer → List ℕ → Push → Writer
-after_write writer piece push = record writer { held = writer.held ++ take (pushed push) piece; writes = next_count writer.writes; faults = faults_after_write writer.faults push }
+after_write writer piece push = record writer { held = writer.held ++ take (taken_len push) piece; writes = next_count writer.writes; faults = faults_after_write writer.faults push }
 
 -- a write of a piece answers so, and leaves the sink so
 abbrev pub WriterGives : Writer → List ℕ → Push → Writer → Type 0
@@ -104,7 +104,7 @@ clean_faults writer = if nat_lt (length writer.held) writer.room then 0 else wri
 
 -- the sink after a write
 abbrev pub after_clean_write : CleanWriter → List ℕ → Push → CleanWriter
-after_clean_write writer piece push = record writer { held = writer.held ++ take (pushed push) piece; full_writes = faults_after_write writer.full_writes push }
+after_clean_write writer piece push = record writer { held = writer.held ++ take (taken_len push) piece; full_writes = faults_after_write writer.full_writes push }
 
 -- a write of a piece answers so, and leaves the sink so
 abbrev pub CleanWriterGives : CleanWriter → List ℕ → Push → CleanWriter → Type 0

@@ -1,5 +1,5 @@
 ghost use Rattle.std.specs.Prelude.{◌≡◌, ◌<◌, ◌≤◌, [], ◌++◌, length, take, Some, IfOk, vec_capacity};
-ghost use Rattle.outer_edge.specs.Memory.{CleanWriterGives, WriterGives, clean_faults, push_onto, pushed};
+ghost use Rattle.outer_edge.specs.Memory.{CleanWriterGives, WriterGives, clean_faults, push_onto, taken_len};
 ghost use Rattle.outer_edge.specs.Writing.{CountsFailedWrite, WriteTakes};
 
 use crate::{Push, Sink};
@@ -192,7 +192,7 @@ fn append_front(held: &mut Vec<u8>, room: usize, step: usize, piece: &[u8]) -> P
     requires within { length held.old.items ≤ room }
     requires capacity { room ≤ vec_capacity held.old }
     ensures push { result ≡ push_onto held.old.items step room (length piece.now) }
-    ensures after { held.new.items ≡ held.old.items ++ take (pushed result) piece.now }
+    ensures after { held.new.items ≡ held.old.items ++ take (taken_len result) piece.now }
     ensures takes { WriteTakes (Some held.old.items) (Some held.new.items) piece.now result }
     ensures stays_within { length held.new.items ≤ room }
     ensures keeps_capacity { room ≤ vec_capacity held.new }

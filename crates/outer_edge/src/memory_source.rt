@@ -1,5 +1,5 @@
 ghost use Rattle.std.specs.Prelude.{◌≡◌, ◌<◌, ◌≤◌, length, drop, Some};
-ghost use Rattle.outer_edge.specs.Memory.{after_read, filled, pull_from, pull_of, pulled};
+ghost use Rattle.outer_edge.specs.Memory.{after_read, buffer_after, pull_from, pull_of, given_len};
 ghost use Rattle.outer_edge.specs.Reading.{CountsFailedRead, ReadGives};
 
 use crate::{Pull, Source};
@@ -71,7 +71,7 @@ impl Source for MemSource {
         ensures never_falls { self.old.faults ≤ self.new.faults }
         ensures pull { result ≡ pull_of self.old (length buf.old) }
         ensures after { self.new ≡ after_read self.old result }
-        ensures buffer { buf.new ≡ filled buf.old self.old.left result }
+        ensures buffer { buf.new ≡ buffer_after buf.old self.old.left result }
     {
         self.reads = self.reads.saturating_add(1);
         if self.fails.contains(&self.reads) {
@@ -124,8 +124,8 @@ impl Source for CleanSource {
         ensures counts { CountsFailedRead 0 0 result }
         ensures never_falls { 0 ≤ 0 }
         ensures pull { result ≡ pull_from self.old.left self.old.step (length buf.old) }
-        ensures after { self.new ≡ record self.old { left = drop (pulled result) self.old.left } }
-        ensures buffer { buf.new ≡ filled buf.old self.old.left result }
+        ensures after { self.new ≡ record self.old { left = drop (given_len result) self.old.left } }
+        ensures buffer { buf.new ≡ buffer_after buf.old self.old.left result }
     {
         copy_next(&self.bytes, &mut self.at, self.step, buf)
     }
@@ -137,10 +137,10 @@ fn copy_next(bytes: &[u8], at: &mut usize, step: usize, buf: &mut [u8]) -> Pull
     requires some { 0 < length buf.old }
     requires step { 1 ≤ step }
     ensures pull { result ≡ pull_from (drop at.old bytes.now) step (length buf.old) }
-    ensures place { drop at.new bytes.now ≡ drop (pulled result) (drop at.old bytes.now) }
-    ensures buffer { buf.new ≡ filled buf.old (drop at.old bytes.now) result }
+    ensures place { drop at.new bytes.now ≡ drop (given_len result) (drop at.old bytes.now) }
+    ensures buffer { buf.new ≡ buffer_after buf.old (drop at.old bytes.now) result }
     ensures gives { let left = drop at.old bytes.now in
-        ReadGives (Some left) (Some (drop (pulled result) left)) buf.new result }
+        ReadGives (Some left) (Some (drop (given_len result) left)) buf.new result }
 {
     let left = bytes.get(*at..).unwrap_or(&[]);
     if left.is_empty() {
