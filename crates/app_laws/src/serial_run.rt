@@ -143,6 +143,7 @@ fn store_of<A: App>(alloc: Global, app: &A, cells: Vec<A::Val>) -> Result<Store<
     requires { (A.meaning app.now).is_fit_cells cells.items }
     ensures { IfOk result (λ store. store ≡ homes cells.items) }
 {
+    // As many as this number, which is below 2^32.
     let _count: u32 = app.cells();
     Store::new(alloc, cells)
 }
