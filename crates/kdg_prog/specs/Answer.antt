@@ -27,12 +27,12 @@ abbrev pub operator_of : Options → Deck → Operator ℕ
 operator_of options deck = act_of (simulation_of options deck)
 
 -- the execution of a deck before anything has acted
-abbrev pub start_for : Deck → Execution ℕ
-start_for deck = start_of (start_cells deck) (start_tasks deck)
+abbrev pub start_for : Options → Deck → Execution ℕ
+start_for options deck = start_of (start_cells deck) (start_tasks (simulation_of options deck))
 
 -- the execution of a deck to its end, where it creates no more tasks than the budget
 abbrev pub end_of : Options → Deck → Option (Execution ℕ)
-end_of options deck = run_to_end (operator_of options deck) options.budget (start_for deck)
+end_of options deck = run_to_end (operator_of options deck) options.budget (start_for options deck)
 
 -- tasks N
 abbrev pub tasks_line : ℕ → List ℕ
@@ -59,4 +59,4 @@ answer_of options input = answer_by_deck options (deck_of input)
 
 -- this many tasks have been created when first there are more than the budget
 abbrev pub FirstPassesBudget : Options → List ℕ → ℕ → Type 0
-FirstPassesBudget options input created = IfOk (deck_of input) (λ deck. FirstPasses (operator_of options deck) options.budget (start_for deck) created)
+FirstPassesBudget options input created = IfOk (deck_of input) (λ deck. FirstPasses (operator_of options deck) options.budget (start_for options deck) created)

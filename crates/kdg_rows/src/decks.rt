@@ -9,6 +9,17 @@ pub const C17: &str =
 pub const C17_WITH_HEADER: &str =
     "# c17\r\n# 5 inputs\r\n# 2 outputs\r\n# 0 inverter\r\n# 6 gates ( 6 NANDs )\r\n\r\nINPUT(1)\r\nINPUT(2)\r\nINPUT(3)\r\nINPUT(6)\r\nINPUT(7)\r\n\r\nOUTPUT(22)\r\nOUTPUT(23)\r\n\r\n10 = NAND(1, 3)\r\n11 = NAND(3, 6)\r\n16 = NAND(2, 11)\r\n19 = NAND(11, 7)\r\n22 = NAND(10, 16)\r\n23 = NAND(16, 19)\r\n";
 
+/// c17 with a stimulus at 10.
+pub const C17_STIMULUS: &str =
+    "INPUT(1)\nINPUT(2)\nINPUT(3)\nINPUT(6)\nINPUT(7)\nOUTPUT(22)\nOUTPUT(23)\n10 = NAND(1, 3)\n11 = NAND(3, 6)\n16 = NAND(2, 11)\n19 = NAND(11, 7)\n22 = NAND(10, 16)\n23 = NAND(16, 19)\n@ 10 11111\n";
+
+/// What is printed for it.
+pub const C17_STIMULUS_PRINT: &str =
+    "1 22 1\n1 23 1\n2 22 0\n2 23 0\n12 22 1\n12 23 1\n13 23 0\nfinal 22 1\nfinal 23 0\ntasks 49\n";
+
+/// A gate that reads itself, with a stimulus.
+pub const RING: &str = "INPUT(a)\nOUTPUT(q)\nq = NAND(a, q)\n@ 2 1\n";
+
 /// c17 with a stimulus that has four bits for five inputs.
 pub const C17_SHORT_STIMULUS: &str =
     "INPUT(1)\nINPUT(2)\nINPUT(3)\nINPUT(6)\nINPUT(7)\nOUTPUT(22)\nOUTPUT(23)\n10 = NAND(1, 3)\n11 = NAND(3, 6)\n16 = NAND(2, 11)\n19 = NAND(11, 7)\n22 = NAND(10, 16)\n23 = NAND(16, 19)\n@ 3 1011\n";

@@ -2,7 +2,10 @@
 
 ghost use Rattle.std.specs.Prelude.{◌≤◌};
 
-use crate::decks::{C17, C17_CUT, C17_PRINT, C17_SHORT_STIMULUS, C17_WITH_HEADER};
+use crate::decks::{
+    C17, C17_CUT, C17_PRINT, C17_SHORT_STIMULUS, C17_STIMULUS, C17_STIMULUS_PRINT, C17_WITH_HEADER,
+    RING,
+};
 use kdg_prog::{Status, fault_line, run};
 use kdg_text::NoRoom;
 use outer_edge::{CleanSink, CleanSource};
@@ -98,6 +101,29 @@ fn answers_and_prints(rt: HostRuntime) -> Result<(), Fail> {
             "",
         ),
         ("sim", "# c17\n", Status::Ok, "tasks 0\n"),
+        ("sim", C17_STIMULUS, Status::Ok, C17_STIMULUS_PRINT),
+        ("sim --until 9", C17_STIMULUS, Status::Ok, C17_PRINT),
+        (
+            "sim --until 5",
+            RING,
+            Status::Ok,
+            "1 q 1\n3 q 0\n4 q 1\n5 q 0\nfinal q 0\ntasks 11\n",
+        ),
+        (
+            "sim --until 1000000000 --budget 10",
+            RING,
+            Status::Budget {
+                created: 11,
+                limit: 10,
+            },
+            "",
+        ),
+        (
+            "sim",
+            "INPUT(a)\nINPUT(b)\nOUTPUT(s)\ns = xor(a, b)\n@ 1 11\n@ 4 01\n",
+            Status::Ok,
+            "5 s 1\nfinal s 1\ntasks 9\n",
+        ),
     ] {
         for step in [1usize, 3, 4096] {
             let (answered, sink) = answer(rt.alloc(), words, input, step)?;

@@ -1,5 +1,5 @@
 -- Lists of the signals below a number that pass a test, one signal further.
-use Rattle.std.proofs.Common.{◌≡◌, ◌∙◌, ℕ, ◌+◌, ◌<◌, Bool, true, false, List, [], ◌∷◌, ◌++◌, length, get_or, ap, sym, zero-add}
+use Rattle.std.proofs.Common.{◌≡◌, ◌∙◌, ℕ, ◌+◌, ◌<◌, Bool, true, false, not, List, [], ◌∷◌, ◌++◌, length, get_or, ap, sym, zero-add}
 use Rattle.std.specs.Prelude.{filter, map, if◌then◌else◌}
 use Rattle.std.specs.List.{range_with_len}
 use Rattle.std.proofs.lemmas.List.{append-nil, get_or_read, map-append, map-id}
@@ -8,7 +8,7 @@ use Rattle.std.proofs.lemmas.List.FromFn.{map-range_with_len_more}
 use Rattle.bench_reader.specs.declared.deck.Signal.{Signal}
 use Rattle.task_order.specs.declared.start.Start.{Start}
 use Rattle.logic_sim.specs.Event.{eval_at}
-use Rattle.logic_sim.specs.Wiring.{fan_in_of, gates_among, is_among, is_gate, no_signal, readers_among, signal_at}
+use Rattle.logic_sim.specs.Wiring.{fan_in_of, gates_among, inputs_among, is_among, is_gate, no_signal, readers_among, signal_at}
 
 range_more : (n : ℕ) → range_with_len 0 (n + 1) ≡ range_with_len 0 n ++ n ∷ []
 range_more n =
@@ -43,6 +43,21 @@ pub first_evals_input : (signals : List Signal) (n : ℕ) (signal : Signal) (sta
     starts ≡ map (eval_at 0) (gates_among signals n) → starts ≡ map (eval_at 0) (gates_among signals (n + 1))
 first_evals_input signals n signal starts below is gate so_far =
     so_far ∙ ap (map (eval_at 0)) (sym (gates_among-more signals n signal false below is gate ∙ append-nil (gates_among signals n)))
+
+inputs_among-more : (signals : List Signal) (n : ℕ) (signal : Signal) (b : Bool) → n < length signals → signal ≡ get_or signals n signal → is_gate signal.form ≡ b →
+    inputs_among signals (n + 1) ≡ inputs_among signals n ++ (if not b then n ∷ [] else [])
+inputs_among-more signals n signal b below is e =
+    filter_more (λ number. not (is_gate (signal_at signals number).form)) n (not b) (ap (λ (s : Signal). not (is_gate s.form)) (sym (read_signal signals n signal below is)) ∙ ap not e)
+
+-- a further input is listed
+pub inputs_input : (signals : List Signal) (n : ℕ) (signal : Signal) (numbers : List ℕ) → n < length signals → signal ≡ get_or signals n signal → is_gate signal.form ≡ false →
+    numbers ≡ inputs_among signals n → numbers ++ n ∷ [] ≡ inputs_among signals (n + 1)
+inputs_input signals n signal numbers below is input so_far = ap (λ (z : List ℕ). z ++ n ∷ []) so_far ∙ sym (inputs_among-more signals n signal false below is input)
+
+-- a further gate isn't
+pub inputs_gate : (signals : List Signal) (n : ℕ) (signal : Signal) (numbers : List ℕ) → n < length signals → signal ≡ get_or signals n signal → is_gate signal.form ≡ true →
+    numbers ≡ inputs_among signals n → numbers ≡ inputs_among signals (n + 1)
+inputs_gate signals n signal numbers below is gate so_far = so_far ∙ sym (inputs_among-more signals n signal true below is gate ∙ append-nil (inputs_among signals n))
 
 pub readers_among-more : (signals : List Signal) (n : ℕ) (signal : Signal) (fan_in : List ℕ) (number : ℕ) → n < length signals → signal ≡ get_or signals n signal → fan_in_of signal.form ≡ fan_in →
     readers_among signals (n + 1) number ≡ readers_among signals n number ++ (if is_among fan_in number then n ∷ [] else [])

@@ -1,12 +1,13 @@
 -- How the simulation of a circuit starts, which cells and tasks it has, and what it prints at the end.
-use Rattle.std.specs.Prelude.{◌≡◌, ℕ, ◌*◌, ◌%◌, ◌<◌, ◌≤◌, ◌⊎◌, IsTrue, List, length, map, replicate, All}
+use Rattle.std.specs.Prelude.{◌≡◌, ℕ, ◌*◌, ◌%◌, ◌<◌, ◌≤◌, ◌⊎◌, IsTrue, ◌++◌, [], ◌∷◌, if◌then◌else◌, List, length, map, nat_le, replicate, All}
 use Rattle.std.specs.List.{flat_map}
 use Rattle.bench_reader.specs.declared.deck.Deck.{Deck}
+use Rattle.bench_reader.specs.declared.deck.Stim.{Stim}
 use Rattle.bench_reader.specs.Decks.{IsSoundlyWired}
 use Rattle.task_order.specs.declared.task.Body.{Body}
 use Rattle.task_order.specs.declared.start.Start.{Start}
-use Rattle.logic_sim.specs.Event.{Simulation, change_kind, eval_kind, eval_at, final_line, value_in}
-use Rattle.logic_sim.specs.Wiring.{gates_of, is_gate, signal_at}
+use Rattle.logic_sim.specs.Event.{Simulation, change_kind, eval_kind, change_at, eval_at, final_line, value_in}
+use Rattle.logic_sim.specs.Wiring.{gates_of, inputs_of, is_gate, signal_at}
 
 abbrev pub IsBit : ℕ → Type 0
 IsBit value = value ≤ 1
@@ -43,9 +44,23 @@ latest = 1_000_000_000
 abbrev pub start_cells : Deck → List ℕ
 start_cells deck = replicate (2 * length deck.signals) 0
 
--- at first each gate is to be evaluated at time 0, in file order
-abbrev pub start_tasks : Deck → List Start
-start_tasks deck = map (eval_at 0) (gates_of deck.signals)
+-- each primary input takes its value at that time
+abbrev pub changes_at : ℕ → List ℕ → List ℕ → List Start
+changes_at time [] values = []
+changes_at time (input ∷ inputs) [] = []
+changes_at time (input ∷ inputs) (value ∷ values) = change_at time input value ∷ changes_at time inputs values
+
+-- the changes that a stimulus brings to these inputs, unless it comes later than the last time
+abbrev pub changes_for : ℕ → List ℕ → Stim → List Start
+changes_for until inputs stimulus = if nat_le stimulus.time until then changes_at stimulus.time inputs stimulus.bits else []
+
+abbrev pub changes_of : ℕ → List ℕ → List Stim → List Start
+changes_of until inputs stimuli = flat_map (changes_for until inputs) stimuli
+
+-- at first each gate is to be evaluated at time 0, in file order; and for each stimulus, in file order, each primary input is to
+-- take its value, unless that is too late
+abbrev pub start_tasks : Simulation → List Start
+start_tasks c = map (eval_at 0) (gates_of c.deck.signals) ++ changes_of c.until (inputs_of c.deck.signals) c.deck.stimuli
 
 -- a line for each output, in the order in which they are declared
 abbrev pub finals_of : Deck → List ℕ → List ℕ

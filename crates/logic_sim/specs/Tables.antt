@@ -5,7 +5,7 @@ use Rattle.bench_reader.specs.declared.deck.Deck.{Deck}
 use Rattle.bench_reader.specs.declared.deck.Signal.{Signal}
 use Rattle.bench_reader.specs.Decks.{IsSoundlyWired}
 use Rattle.logic_sim.specs.Circuit.{latest}
-use Rattle.logic_sim.specs.Wiring.{is_among, readers_among}
+use Rattle.logic_sim.specs.Wiring.{inputs_of, is_among, readers_among}
 
 -- for each signal the gates among the first n that read it
 pub record ListsReaders (signals : List Signal) (n : ℕ) (table : List (List ℕ)) : Type 0 where
@@ -31,8 +31,9 @@ pub record MarksOutputs (outputs : List ℕ) (n : ℕ) (marks : List Bool) : Typ
   pub each : (number : ℕ) → number < n → slice_index_or marks number false ≡ is_among outputs number
 
 -- what holds of each circuit
-pub record IsPrepared (deck : Deck) (until : ℕ) (readers : List (List ℕ)) (is_output : List Bool) : Type 0 where
+pub record IsPrepared (deck : Deck) (until : ℕ) (inputs : List ℕ) (readers : List (List ℕ)) (is_output : List Bool) : Type 0 where
   pub deck_read : IsSoundlyWired deck
   pub not_too_late : until ≤ latest
+  pub all_inputs : inputs ≡ inputs_of deck.signals
   pub all_readers : ListsReaders deck.signals (length deck.signals) readers
   pub all_outputs : MarksOutputs deck.outputs (length deck.signals) is_output

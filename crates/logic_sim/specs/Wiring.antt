@@ -1,5 +1,5 @@
 -- How the signals of a deck are wired.
-use Rattle.std.specs.Prelude.{ℕ, Bool, true, false, ◌==◌, List, [], length, filter, slice_index_or}
+use Rattle.std.specs.Prelude.{ℕ, Bool, true, false, not, ◌==◌, List, [], length, filter, slice_index_or}
 use Rattle.std.specs.List.{list_any, range_with_len}
 use Rattle.bench_reader.specs.declared.deck.Form.{Form}
 use Rattle.bench_reader.specs.declared.deck.Form.TheVariants.{Input, Gate}
@@ -31,6 +31,10 @@ reads signals number gate = is_among (fan_in_of (signal_at signals gate).form) n
 abbrev pub gates_among : List Signal → ℕ → List ℕ
 gates_among signals n = filter (λ number. is_gate (signal_at signals number).form) (range_with_len 0 n)
 
+-- the primary inputs among the first n signals, in order
+abbrev pub inputs_among : List Signal → ℕ → List ℕ
+inputs_among signals n = filter (λ number. not (is_gate (signal_at signals number).form)) (range_with_len 0 n)
+
 -- the gates among the first n signals that read the signal with this number, in order
 abbrev pub readers_among : List Signal → ℕ → ℕ → List ℕ
 readers_among signals n number = filter (reads signals number) (range_with_len 0 n)
@@ -42,3 +46,7 @@ gates_of signals = gates_among signals (length signals)
 -- each gate that reads the signal once, in file order
 abbrev pub readers_of : List Signal → ℕ → List ℕ
 readers_of signals number = readers_among signals (length signals) number
+
+-- all primary inputs, in the order in which they are declared
+abbrev pub inputs_of : List Signal → List ℕ
+inputs_of signals = inputs_among signals (length signals)

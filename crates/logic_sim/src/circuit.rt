@@ -6,9 +6,11 @@ ghost use Rattle.logic_sim.specs.Event.{act_of, change_of, eval_of};
 ghost use Rattle.logic_sim.specs.Laws.{act_of-fit, act_of-not_earlier};
 ghost use Rattle.logic_sim.specs.Wiring.{is_gate, signal_at};
 
-use crate::event::{CHANGE, change_start, first_evals, push_change, push_evals, push_final};
+use crate::event::{
+    CHANGE, change_start, first_evals, push_change, push_evals, push_final, push_stimuli,
+};
 use crate::gate::computed_value;
-use crate::tables::{output_marks, reader_lists};
+use crate::tables::{input_numbers, output_marks, reader_lists};
 use app_laws::PlainApp;
 use bench_reader::Deck;
 use kdg_text::{NoRoom, NumList, Text};
@@ -23,6 +25,8 @@ pub struct Circuit {
     alloc: Global,
     deck: Deck,
     until: u64,
+    /// The primary inputs, in the order in which they are declared.
+    inputs: NumList,
     /// For each signal, the gates that read it, in file order.
     readers: Vec<NumList>,
     /// For each signal, whether it is an output.
@@ -37,7 +41,7 @@ impl Model for Circuit {
 
     ghost view = { λ c. record { deck = c.deck; until = c.until } };
 
-    ghost invariant = { λ c. IsPrepared c.deck c.until c.readers.items c.is_output.items };
+    ghost invariant = { λ c. IsPrepared c.deck c.until c.inputs c.readers.items c.is_output.items };
 }
 
 impl Circuit {
@@ -48,12 +52,14 @@ impl Circuit {
         ensures { IfOk result (λ circuit. circuit ≡ record { deck = deck; until = until }) }
     {
         let signals = deck.signals.items();
+        let inputs = input_numbers(alloc, signals)?;
         let readers = reader_lists(alloc, signals)?;
         let is_output = output_marks(alloc, deck.outputs.items(), signals.len())?;
         Ok(Circuit {
             alloc,
             deck,
             until,
+            inputs,
             readers,
             is_output,
         })
@@ -67,13 +73,17 @@ impl Circuit {
         Ok(vec![in self.alloc; 0; 2 * self.deck.signals.items().len()]?)
     }
 
-    /// The first tasks: each gate is evaluated at time 0.
+    /// The first tasks: each gate is evaluated at time 0, and each primary input takes the values of
+    /// the stimuli that come no later than `until`.
     pub fn first_tasks(&self) -> Result<StartList, NoRoom>
-        ensures tasks { IfOk result (λ tasks. tasks ≡ start_tasks self.now.deck) }
+        ensures tasks { IfOk result (λ tasks. tasks ≡ start_tasks self.now) }
         ensures fit { IfOk result (AllFit (IsFitTask self.now)) }
-        ensures few { IfOk result (λ tasks. length tasks ≤ 4096) }
+        ensures few { IfOk result (λ tasks. length tasks < 2 ^ 32) }
     {
-        first_evals(self.alloc, self.deck.signals.items())
+        let mut starts = first_evals(self.alloc, self.deck.signals.items())?;
+        let stimuli = self.deck.stimuli.items();
+        push_stimuli(&mut starts, self.until, self.inputs.items(), stimuli)?;
+        Ok(starts)
     }
 
     /// A line `final NAME VALUE` for each output, in the order in which they are declared.
@@ -147,7 +157,7 @@ impl Circuit {
         }
         cells[plan_place] = value;
         if time < self.until {
-            made.push(change_start(time + 1, gate, value))?;
+            made.push(change_start(time + 1, gate, u64::from(value)))?;
         }
         Ok(())
     }

@@ -1,8 +1,9 @@
 ghost use Rattle.std.specs.Prelude.{◌≡◌, ◌<◌, ◌≤◌, ◌^◌, ◌*◌, ◌+◌, ◌++◌, length, map, IfOk, OnOk};
+ghost use Rattle.logic_sim.specs.Circuit.{changes_at, changes_for, changes_of, latest};
 ghost use Rattle.logic_sim.specs.Event.{change_at, change_line, eval_at, final_line, value_line};
 ghost use Rattle.logic_sim.specs.Wiring.{gates_of};
 
-use bench_reader::{Form, Signal};
+use bench_reader::{Form, Signal, Stim};
 use kdg_text::{NoRoom, Text, push_u64};
 use std::alloc::Global;
 use task_order::{Body, Start, StartList};
@@ -14,7 +15,7 @@ pub(crate) const CHANGE: u8 = 0;
 pub(crate) const EVAL: u8 = 1;
 
 /// The signal takes the value at that time.
-pub(crate) fn change_start(time: u64, signal: u32, value: u8) -> Start
+pub(crate) fn change_start(time: u64, signal: u32, value: u64) -> Start
     requires { 2 * time < 2 ^ 64 }
     ensures { result ≡ change_at time signal value }
 {
@@ -23,7 +24,7 @@ pub(crate) fn change_start(time: u64, signal: u32, value: u8) -> Start
         body: Body {
             kind: CHANGE,
             at: signal,
-            arg: u64::from(value),
+            arg: value,
         },
     }
 }
@@ -56,6 +57,56 @@ pub(crate) fn first_evals(alloc: Global, signals: &[Signal]) -> Result<StartList
         }
     }
     Ok(starts)
+}
+
+/// For each stimulus, each of the inputs takes its value, unless that comes later than `until`.
+pub(crate) fn push_stimuli(
+    made: &mut StartList,
+    until: u64,
+    inputs: &[u32],
+    stimuli: &[Stim],
+) -> Result<(), NoRoom>
+    requires { until ≤ latest }
+    ensures { OnOk result (made.new ≡ made.old ++ changes_of until inputs.now stimuli.now) }
+{
+    for stimulus in stimuli {
+        push_stimulus(made, until, inputs, stimulus)?;
+    }
+    Ok(())
+}
+
+fn push_stimulus(
+    made: &mut StartList,
+    until: u64,
+    inputs: &[u32],
+    stimulus: &Stim,
+) -> Result<(), NoRoom>
+    requires { until ≤ latest }
+    ensures { OnOk result (made.new ≡ made.old ++ changes_for until inputs.now stimulus.now) }
+{
+    if stimulus.time > until {
+        return Ok(());
+    }
+    push_changes(made, stimulus.time, inputs, stimulus.bits.items())
+}
+
+/// Each input takes its value at that time.
+fn push_changes(
+    made: &mut StartList,
+    time: u64,
+    inputs: &[u32],
+    values: &[u32],
+) -> Result<(), NoRoom>
+    requires { 2 * time < 2 ^ 64 }
+    ensures { OnOk result (made.new ≡ made.old ++ changes_at time inputs.now values.now) }
+{
+    let (mut inputs, mut values) = (inputs, values);
+    while let ([input, other_inputs @ ..], [value, other_values @ ..]) = (inputs, values) {
+        made.push(change_start(time, *input, u64::from(*value)))?;
+        inputs = other_inputs;
+        values = other_values;
+    }
+    Ok(())
 }
 
 /// Each of the gates is evaluated at that time.

@@ -1,10 +1,26 @@
 ghost use Rattle.std.specs.Prelude.{◌≡◌, ◌<◌, ◌≤◌, [], All, IfOk, OnOk, length, replicate};
 ghost use Rattle.bench_reader.specs.Decks.{IsWired};
+ghost use Rattle.logic_sim.specs.Wiring.{inputs_of};
 ghost use Rattle.logic_sim.specs.Tables.{AddsReader, ListsReaders, MarksOutputs, last_is};
 
 use bench_reader::{Form, Signal};
 use kdg_text::{NoRoom, NumList};
 use std::alloc::Global;
+
+/// The primary inputs, in order.
+#[tactic(auto, using(crate::proofs::Ranges::inputs_input, crate::proofs::Ranges::inputs_gate))]
+pub(crate) fn input_numbers(alloc: Global, signals: &[Signal]) -> Result<NumList, NoRoom>
+    requires { length signals.now ≤ 4096 }
+    ensures { IfOk result (λ numbers. numbers ≡ inputs_of signals.now) }
+{
+    let mut numbers = NumList::new(alloc);
+    for (number, signal) in signals.iter().enumerate() {
+        if let Form::Input = signal.form {
+            numbers.push(number as u32)?;
+        }
+    }
+    Ok(numbers)
+}
 
 /// For each signal, the gates that read it.
 pub(crate) fn reader_lists(alloc: Global, signals: &[Signal]) -> Result<Vec<NumList>, NoRoom>
