@@ -1,0 +1,80 @@
+-- What events keep, whatever order the tasks end in.
+use Rattle.std.specs.Prelude.{◌≡◌, ◌≢◌, ◌≤◌, ℕ, List, [], ◌∷◌, ◌++◌, length, None}
+use Rattle.task_order.specs.declared.start.Start.{Start}
+use Rattle.app_laws.specs.Applications.{Application, AreFitStarts, IsEffect}
+use Rattle.graph_update.specs.declared.answers.OverCause.{OverCause}
+use Rattle.graph_update.specs.declared.job.Done.{Done}
+use Rattle.graph_update.specs.declared.job.Job.{Job}
+use Rattle.graph_update.specs.Answers.{IsBegun}
+use Rattle.graph_update.specs.Events.{IsClaimed, IsFinished, IsOverLimit, clear_nodes, drained, marked, budget_marked}
+use Rattle.graph_update.specs.Progress.{Progress}
+use Rattle.graph_update.specs.Sound.{IsSound}
+
+-- the execution and the jobs in hand
+pub record Moment (V : Type 0) : Type 0 where
+  pub progress : Progress V
+  pub jobs : List (Job V)
+
+-- what may happen to an execution
+pub data Event (V : Type 0) : Type 0 where
+  claims : (pick : ℕ) (job : Job V) → Event V
+  finishes : (done : Done V) → Event V
+  exceeds : (done : Done V) → Event V
+  drains : Event V
+  gives_up : Event V
+
+module _ {V : Type 0} (app : Application V) where
+  -- one of the jobs is the task that is done, with its effect, and these are the others
+  pub record IsPerformed (jobs : List (Job V)) (done : Done V) (job : Job V) (others : List (Job V)) : Type 0 where
+    pub before : List (Job V)
+    pub after : List (Job V)
+    pub there : jobs ≡ before ++ job ∷ after
+    pub others_are : others ≡ before ++ after
+    pub task : job.task ≡ done.task
+    pub effect : IsEffect app job.task job.bundle done.effect
+
+  -- an event leads from one moment to the next
+  abbrev pub Leads : Event V → Moment V → Moment V → Type 0
+  Leads (claims pick job) old now = (old.progress.over ≡ None) × IsClaimed app old.progress pick now.progress job × (now.jobs ≡ job ∷ old.jobs)
+  Leads (finishes done) old now = ((job : Job V) × IsPerformed old.jobs done job now.jobs)
+      × ¬ IsOverLimit app old.progress done × IsFinished app old.progress done now.progress
+  Leads (exceeds done) old now = ((job : Job V) × ((others : List (Job V)) × IsPerformed old.jobs done job others))
+      × IsOverLimit app old.progress done × (now.progress ≡ budget_marked app old.progress done) × (now.jobs ≡ old.jobs)
+  Leads drains old now = (now.progress ≡ drained app old.progress) × (now.jobs ≡ old.jobs)
+  Leads gives_up old now = (now.progress ≡ marked app old.progress OverCause.NoRoom) × (now.jobs ≡ old.jobs)
+
+  -- a list of events leads from one moment to another
+  abbrev pub Reaches : List (Event V) → Moment V → Moment V → Type 0
+  Reaches [] old now = now ≡ old
+  Reaches (event ∷ events) old now = (next : Moment V) × Leads event old next × Reaches events next now
+
+  -- some values are those of the whole cells
+  abbrev pub IsSoundMoment : Moment V → Type 0
+  IsSoundMoment moment = (values : List V) × IsSound app moment.progress moment.jobs values
+
+  abbrev pub ClaimsKeepSound : Type 0
+  ClaimsKeepSound = (old now : Progress V) (pick : ℕ) (job : Job V) (jobs : List (Job V)) (values : List V) →
+      IsSound app old jobs values → IsClaimed app old pick now job → IsSound app now (job ∷ jobs) values
+
+  -- where a task ends, the whole cells are what it makes of them
+  abbrev pub FinishesKeepSound : Type 0
+  FinishesKeepSound = (old now : Progress V) (done : Done V) (job : Job V) (jobs others : List (Job V)) (values : List V) →
+      IsSound app old jobs values → IsPerformed jobs done job others → ¬ IsOverLimit app old done → IsFinished app old done now →
+      IsSound app now others (app.act job.task values).cells
+
+  abbrev pub BeginningsAreSound : Type 0
+  BeginningsAreSound = (cells : List V) (first : List Start) (budget : ℕ) (progress : Progress V) →
+      app.is_fit_cells cells → AreFitStarts app first → length first ≤ budget → IsBegun app cells first budget progress → IsSound app progress [] cells
+
+  -- whatever happens, in whatever order tasks end
+  abbrev pub EventsKeepSound : Type 0
+  EventsKeepSound = (events : List (Event V)) (old now : Moment V) → IsSoundMoment old → Reaches events old now → IsSoundMoment now
+
+  -- while nothing is running some node is clear, unless none is there
+  abbrev pub SomeIsClear : Type 0
+  SomeIsClear = (progress : Progress V) (values : List V) → IsSound app progress [] values → progress.nodes ≢ [] → clear_nodes app progress.nodes ≢ []
+
+  -- the whole cells are one list
+  abbrev pub WholeIsOne : Type 0
+  WholeIsOne = (progress : Progress V) (jobs : List (Job V)) (values others : List V) →
+      IsSound app progress jobs values → IsSound app progress jobs others → values ≡ others

@@ -1,0 +1,6 @@
+pub mod Answers
+pub mod Events
+pub mod Laws
+pub mod Progress
+pub mod Sound
+pub mod Standing

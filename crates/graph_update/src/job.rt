@@ -1,0 +1,17 @@
+use app_laws::Effect;
+use cell_store::{Bundle, Held};
+use task_order::Task;
+
+/// A claimed task with its bundle.
+#[derive(Drop)]
+pub struct Job<V: Held> {
+    pub task: Task,
+    pub bundle: Bundle<V>,
+}
+
+/// A performed task with what it did.
+#[derive(Drop)]
+pub struct Done<V: Held> {
+    pub task: Task,
+    pub effect: Effect<V>,
+}
