@@ -9,7 +9,7 @@ use Rattle.cell_store.specs.Cells.{cells_given, cells_taken, part_of}
 use Rattle.kdg_graph.specs.declared.change.Fresh.{Fresh}
 use Rattle.kdg_graph.specs.declared.change.SetChange.{SetChange}
 use Rattle.kdg_graph.specs.Node.{Node}
-use Rattle.kdg_graph.specs.Nodes.{node_with_key, later_than, started}
+use Rattle.kdg_graph.specs.Nodes.{IsGraph, node_with_key, later_than, started}
 use Rattle.kdg_graph.specs.Rewrite.{IsRewritten}
 use Rattle.output_log.specs.Entries.{Entry, entries_before, entries_from, with_entry}
 use Rattle.app_laws.specs.declared.app.SetAnswer.{SetAnswer}
@@ -60,6 +60,7 @@ module _ {V : Type 0} (app : Application V) where
   -- The end of a task: its written values are home, its node is gone, its children are nodes, the later nodes in conflict with
   -- it have new recorded sets, its text is logged, and the counts have risen.
   pub record IsFinished (old : Progress V) (done : Done V) (now : Progress V) : Type 0 where
+    pub graph : IsGraph now.nodes
     pub node : Node
     pub found : node_with_key old.nodes done.task.key ≡ Some node
     pub nodes : IsRewritten old.nodes node.id (renewals (cells_given old.cells done.effect.bundle) old.nodes node)

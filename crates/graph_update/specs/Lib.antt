@@ -1,5 +1,7 @@
 pub mod Answers
 pub mod Events
+pub mod FinishBasis
+pub mod Finishes
 pub mod Laws
 pub mod Progress
 pub mod Sound

@@ -2,7 +2,9 @@
 #![tactic(auto)]
 
 mod answers;
+mod finish_laws;
 mod job;
 
 pub use answers::{BeginFault, Claim, Counts, FinishFault, OverCause};
+pub use finish_laws::finish_state_laws;
 pub use job::{Done, Job};

@@ -1,0 +1,41 @@
+-- What the laws of the end of a task stand on.
+use Rattle.task_order.specs.Laws as tasks
+use Rattle.rw_sets.specs.Laws as sets
+use Rattle.cell_store.specs.Laws as cells
+use Rattle.output_log.specs.Laws as logs
+use Rattle.kdg_graph.specs.Laws as graph
+use Rattle.app_laws.specs.Applications.{Application, IsLawful}
+use Rattle.app_laws.specs.Family as family
+use Rattle.commuting.specs.Independent.{StaysReady, IndependentTasksLeaveAlone}
+
+pub record FinishBasis {V : Type 0} (app : Application V) : Type 0 where
+  pub lawful : IsLawful app
+  pub stays_ready : StaysReady app
+  pub left_alone : IndependentTasksLeaveAlone app
+  pub have_ids : graph.NodesHaveIds
+  pub have_keys : graph.NodesHaveKeys
+  pub keys_find : graph.KeysFindNodes
+  pub ids_find : graph.IdsFindNodes
+  pub keeps : graph.RewritesKeepNodes
+  pub adds : graph.RewritesAddNodes
+  pub no_other : graph.RewritesAddNoOther
+  pub replaces : graph.RewritesReplaceTasks
+  pub distinct : tasks.AscendingKeysAreDistinct
+  pub adds_each : tasks.PutAllAddsEach
+  pub put_without : tasks.PutRestoresWithout
+  pub puts_add_one : tasks.PutsAddOne
+  pub entries_in_order : logs.PutsKeepOrder
+  pub children_new : family.ChildrenAreNew
+  pub children_go_on : family.ChildrenGoOn
+  pub independent : sets.IndependentWithoutConflict
+  pub turned : sets.ConflictsAreMutual
+  pub decided : sets.ConflictsAreDecided
+  pub by_parts : sets.MergesConflictByParts
+  pub grows : sets.ConflictsGrow
+  pub merges_hold : sets.MergesHoldBoth
+  pub merges_least : sets.MergesAreLeast
+  pub merges_ascend : sets.MergesAscend
+  pub given : cells.GivenByLocation V
+  pub parts : cells.PartsByLocation V
+  pub agreement : cells.AgreementLasts V
+  pub changes : cells.ValueChanges V

@@ -1,0 +1,42 @@
+-- What the end of a task makes of a sound execution, part by part.
+use Rattle.std.specs.Prelude.{◌≡◌, List}
+use Rattle.kdg_graph.specs.Node.{Node}
+use Rattle.app_laws.specs.Applications.{Application, effect_of, set_in}
+use Rattle.commuting.specs.Clear.{IsReady}
+use Rattle.commuting.specs.States.{after_task}
+use Rattle.graph_update.specs.declared.job.Done.{Done}
+use Rattle.graph_update.specs.declared.job.Job.{Job}
+use Rattle.graph_update.specs.Events.{IsFinished, IsOverLimit}
+use Rattle.graph_update.specs.Laws.{IsPerformed}
+use Rattle.graph_update.specs.Progress.{Progress, whole_state}
+use Rattle.graph_update.specs.Sound.{IsSound, KeysAndCounts}
+
+module _ {V : Type 0} (app : Application V) where
+  -- one of the jobs of a sound execution is performed, and its task ends within the limit
+  pub record IsEnd (old : Progress V) (jobs : List (Job V)) (values : List V) (done : Done V) (job : Job V) (others : List (Job V)) (now : Progress V) : Type 0 where
+    pub sound : IsSound app old jobs values
+    pub performed : IsPerformed app jobs done job others
+    pub within : ¬ IsOverLimit app old done
+    pub finished : IsFinished app old done now
+
+  -- what holds of each end of a task
+  abbrev pub OfEachEnd : ((old : Progress V) (values : List V) (done : Done V) (job : Job V) (others : List (Job V)) (now : Progress V) → Type 0) → Type 0
+  OfEachEnd P = (old now : Progress V) (done : Done V) (job : Job V) (jobs others : List (Job V)) (values : List V) →
+      IsEnd old jobs values done job others now → P old values done job others now
+
+  -- the effect is what the operator makes of the whole cells
+  abbrev pub EffectsAreOfWhole : Type 0
+  EffectsAreOfWhole = OfEachEnd (λ old values done job others now. done.effect ≡ effect_of app job.task values)
+
+  -- the whole cells and the pending tasks after it are what the operator makes of those before
+  abbrev pub FinishesActOnWhole : Type 0
+  FinishesActOnWhole = OfEachEnd (λ old values done job others now.
+      whole_state now (app.act job.task values).cells ≡ after_task app.act job.task (whole_state old values))
+
+  -- and they are ready again
+  abbrev pub FinishesStayReady : Type 0
+  FinishesStayReady = OfEachEnd (λ old values done job others now. IsReady app (whole_state now (app.act job.task values).cells))
+
+  -- the counts still add up, and each path is new
+  abbrev pub FinishesKeepKeysAndCounts : Type 0
+  FinishesKeepKeysAndCounts = OfEachEnd (λ old values done job others now. KeysAndCounts app now)

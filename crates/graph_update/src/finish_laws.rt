@@ -1,0 +1,42 @@
+ghost use Rattle.graph_update.specs.FinishBasis.{FinishBasis};
+ghost use Rattle.graph_update.specs.Finishes.{EffectsAreOfWhole, FinishesActOnWhole, FinishesStayReady};
+
+use app_laws::{App, family_laws, lawful};
+use cell_store::{location_laws, value_laws};
+use commuting::independent_tasks_commute;
+use kdg_graph::{node_laws, rewrite_laws};
+use output_log::put_laws;
+use rw_sets::{conflict_laws, independence_laws, merge_laws, within_laws};
+use task_order::{ascending_laws, put_all_laws, put_in_laws, without_laws};
+
+/// What the crates below promise of what a task's end changes, as one.
+fn basis<A: App>()
+    ensures { (app : A) → FinishBasis (A.meaning app) }
+{
+    lawful::<A>();
+    independent_tasks_commute::<A>();
+    family_laws();
+    node_laws();
+    rewrite_laws();
+    ascending_laws();
+    put_in_laws();
+    put_all_laws();
+    without_laws();
+    put_laws();
+    independence_laws();
+    conflict_laws();
+    merge_laws();
+    within_laws();
+    location_laws::<A::Val>();
+    value_laws::<A::Val>();
+}
+
+/// Where a task of a sound execution ends, the whole cells and the pending tasks are what its
+/// operator makes of them, whatever other tasks are running.
+pub fn finish_state_laws<A: App>()
+    ensures effect { (app : A) → EffectsAreOfWhole (A.meaning app) }
+    ensures whole { (app : A) → FinishesActOnWhole (A.meaning app) }
+    ensures ready { (app : A) → FinishesStayReady (A.meaning app) }
+{
+    basis::<A>();
+}
