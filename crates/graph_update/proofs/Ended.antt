@@ -63,10 +63,10 @@ module _ {V : Type 0} {app : Application V} (basis : FinishBasis app) where
     node_runs : IsRunningAs app job end.finished.node
     node_runs = subst (λ node. IsRunningAs app job node) same_node named.2
 
-    is_there : Contains old.nodes end.finished.node
+    pub is_there : Contains old.nodes end.finished.node
     is_there = (basis.keys_find old.nodes done.task.key end.finished.node end.finished.found).0
 
-    covered : Covers app old.cells values end.finished.node
+    pub covered : Covers app old.cells values end.finished.node
     covered = all_at (λ node. Covers app old.cells values node) old.nodes end.finished.node end.sound.recorded_covers is_there
 
     node_set : end.finished.node.set ≡ set_in app values job.task
@@ -105,7 +105,7 @@ module _ {V : Type 0} {app : Application V} (basis : FinishBasis app) where
     pub whole_after : whole_state now (app.act job.task values).cells ≡ after_task app.act job.task (whole_state old values)
     whole_after = ap (state_of (app.act job.task values).cells) tasks_after
 
-    is_pending : Contains (tasks_of old.nodes) job.task
+    pub is_pending : Contains (tasks_of old.nodes) job.task
     is_pending = subst (Contains (tasks_of old.nodes)) ended_node.task (in_map (λ node. node.task) old.nodes end.finished.node is_there)
 
     pub ready_after : IsReady app (whole_state now (app.act job.task values).cells)

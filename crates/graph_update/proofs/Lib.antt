@@ -1,2 +1,4 @@
 pub mod Ended
+pub mod EndedCounts
 pub mod FinishMembers
+pub mod FinishTasks

@@ -25,6 +25,7 @@ pub record FinishBasis {V : Type 0} (app : Application V) : Type 0 where
   pub put_without : tasks.PutRestoresWithout
   pub puts_add_one : tasks.PutsAddOne
   pub entries_in_order : logs.PutsKeepOrder
+  pub earlier_first : logs.EarlierEntriesComeFirst
   pub children_new : family.ChildrenAreNew
   pub children_go_on : family.ChildrenGoOn
   pub independent : sets.IndependentWithoutConflict

@@ -1,11 +1,11 @@
 ghost use Rattle.graph_update.specs.FinishBasis.{FinishBasis};
-ghost use Rattle.graph_update.specs.Finishes.{EffectsAreOfWhole, FinishesActOnWhole, FinishesStayReady};
+ghost use Rattle.graph_update.specs.Finishes.{EffectsAreOfWhole, FinishesActOnWhole, FinishesStayReady, FinishesKeepKeysAndCounts};
 
 use app_laws::{App, family_laws, lawful};
 use cell_store::{location_laws, value_laws};
 use commuting::independent_tasks_commute;
 use kdg_graph::{node_laws, rewrite_laws};
-use output_log::put_laws;
+use output_log::{part_laws, put_laws};
 use rw_sets::{conflict_laws, independence_laws, merge_laws, within_laws};
 use task_order::{ascending_laws, put_all_laws, put_in_laws, without_laws};
 
@@ -23,6 +23,7 @@ fn basis<A: App>()
     put_all_laws();
     without_laws();
     put_laws();
+    part_laws();
     independence_laws();
     conflict_laws();
     merge_laws();
@@ -37,6 +38,13 @@ pub fn finish_state_laws<A: App>()
     ensures effect { (app : A) → EffectsAreOfWhole (A.meaning app) }
     ensures whole { (app : A) → FinishesActOnWhole (A.meaning app) }
     ensures ready { (app : A) → FinishesStayReady (A.meaning app) }
+{
+    basis::<A>();
+}
+
+/// The counts still add up after a task has ended, and each path is new.
+pub fn finish_count_laws<A: App>()
+    ensures { (app : A) → FinishesKeepKeysAndCounts (A.meaning app) }
 {
     basis::<A>();
 }

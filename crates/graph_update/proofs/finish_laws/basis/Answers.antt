@@ -18,6 +18,7 @@ returns g c = λ app. record {
   put_without = c.without_laws.ensures.restored;
   puts_add_one = c.put_in_laws.ensures.length;
   entries_in_order = c.put_laws.ensures.order;
+  earlier_first = c.part_laws.ensures.first;
   children_new = c.family_laws.ensures.new;
   children_go_on = c.family_laws.ensures.go_on;
   independent = c.independence_laws.ensures.without_conflict;
