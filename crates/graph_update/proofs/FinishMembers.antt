@@ -1,7 +1,9 @@
 -- Members of lists.
-use Rattle.std.proofs.Common.{◌≡◌, ◌⊎◌, inl, inr, zero, suc, List, [], ◌∷◌, ◌++◌, map, refl, ap, subst, arith}
+use Rattle.std.proofs.Common.{◌≡◌, ◌⊎◌, inl, inr, zero, suc, ◌||◌, Bool, true, false, cond, List, [], ◌∷◌, ◌++◌, map, refl, sym, ◌∙◌, ap, subst, arith}
 use Rattle.std.specs.Prelude.{Contains}
-use Rattle.std.specs.List.{AllByRecursion}
+use Rattle.std.specs.List.{AllByRecursion, filter, list_any}
+use Rattle.std.proofs.lemmas.Bool.{true≢false}
+use Rattle.app_laws.specs.Order.{Pairwise}
 
 pub none : {X : Type 0} (x : X) → Contains [] x → ⊥
 none x (k, inside, is) = omega (arith, inside)
@@ -36,3 +38,54 @@ in_map f [] x has = absurd (none x has)
 in_map {X} {Y} f (y ∷ xs) x has =
     elim (cases y x xs has) [ inl same ↦ subst (λ (z : Y). Contains (f y ∷ map f xs) z) (ap f same) (here (f y) (map f xs)) | inr later ↦ there (f y) (f x) (map f xs) (in_map f xs x later) ]
 
+pub in_filter : {X : Type 0} (p : X → Bool) (xs : List X) (x : X) → Contains xs x → p x ≡ true → Contains (filter p xs) x
+in_filter p [] x has is = absurd (none x has)
+in_filter {X} p (y ∷ xs) x has is =
+    let by_case : (test : Bool) → p y ≡ test → (y ≡ x) ⊎ Contains xs x → Contains (cond test (y ∷ filter p xs) (filter p xs)) x = elim [
+      | true ↦ λ _ c. elim c [ inl same ↦ subst (λ (z : X). Contains (y ∷ filter p xs) z) same (here y (filter p xs)) | inr later ↦ there y x (filter p xs) (in_filter p xs x later is) ]
+      | false ↦ λ fails c. elim c [ inl same ↦ absurd (true≢false (sym is ∙ ap p (sym same) ∙ fails)) | inr later ↦ in_filter p xs x later is ]
+    ] in
+    by_case (p y) refl (cases y x xs has)
+
+pub from_filter : {X : Type 0} (p : X → Bool) (xs : List X) (x : X) → Contains (filter p xs) x → Contains xs x × (p x ≡ true)
+from_filter p [] x has = absurd (none x has)
+from_filter {X} p (y ∷ xs) x has =
+    let by_case : (test : Bool) → p y ≡ test → Contains (cond test (y ∷ filter p xs) (filter p xs)) x → Contains (y ∷ xs) x × (p x ≡ true) = elim [
+      | true ↦ λ is h. elim (cases y x (filter p xs) h) [
+        | inl same ↦ (subst (λ (z : X). Contains (y ∷ xs) z) same (here y xs), ap p (sym same) ∙ is)
+        | inr later ↦ let rest : Contains xs x × (p x ≡ true) = from_filter p xs x later in (there y x xs rest.0, rest.1)
+      ]
+      | false ↦ λ _ h. let rest : Contains xs x × (p x ≡ true) = from_filter p xs x h in (there y x xs rest.0, rest.1)
+    ] in
+    by_case (p y) refl has
+
+pub none_passes : {X : Type 0} (p : X → Bool) (xs : List X) (x : X) → list_any p xs ≡ false → Contains xs x → p x ≡ false
+none_passes p [] x is has = absurd (none x has)
+none_passes {X} p (y ∷ xs) x is has =
+    let by_case : (test : Bool) → p y ≡ test → (test || list_any p xs) ≡ false → (y ≡ x) ⊎ Contains xs x → p x ≡ false = elim [
+      | true ↦ λ _ wrong _. absurd (true≢false wrong)
+      | false ↦ λ fails rest c. elim c [ inl same ↦ ap p (sym same) ∙ fails | inr later ↦ none_passes p xs x rest later ]
+    ] in
+    by_case (p y) refl is (cases y x xs has)
+
+-- ---- all but one
+
+pub all_but_one : {X : Type 0} (P : X → Type 0) (xs : List X) (x : X) (ys : List X) → AllByRecursion P (xs ++ x ∷ ys) → AllByRecursion P (xs ++ ys)
+all_but_one P [] x ys all = all.1
+all_but_one P (y ∷ xs) x ys all = (all.0, all_but_one P xs x ys all.1)
+
+pub pairwise_but_one : {X : Type 0} (R : X → X → Type 0) (xs : List X) (x : X) (ys : List X) → Pairwise R (xs ++ x ∷ ys) → Pairwise R (xs ++ ys)
+pairwise_but_one R [] x ys pairs = pairs.1
+pairwise_but_one R (y ∷ xs) x ys pairs = (all_but_one (R y) xs x ys pairs.0, pairwise_but_one R xs x ys pairs.1)
+
+pub pairwise_with_one : {X : Type 0} (R : X → X → Type 0) → ((x y : X) → R x y → R y x) → (xs : List X) (x : X) (ys : List X) → Pairwise R (xs ++ x ∷ ys) → AllByRecursion (R x) (xs ++ ys)
+pairwise_with_one R turned [] x ys pairs = pairs.0
+pairwise_with_one R turned (y ∷ xs) x ys pairs = (turned y x (all_in_middle (R y) xs x ys pairs.0), pairwise_with_one R turned xs x ys pairs.1)
+
+pub any_but_one : {X : Type 0} (p : X → Bool) (xs : List X) (x : X) (ys : List X) → list_any p (xs ++ x ∷ ys) ≡ true → p x ≡ false → list_any p (xs ++ ys) ≡ true
+any_but_one p [] x ys any fails = sym (ap (λ (test : Bool). test || list_any p ys) fails) ∙ any
+any_but_one p (y ∷ xs) x ys any fails = by_case (p y) any (λ rest. any_but_one p xs x ys rest fails)
+  where
+    by_case : (test : Bool) → (test || list_any p (xs ++ x ∷ ys)) ≡ true → (list_any p (xs ++ x ∷ ys) ≡ true → list_any p (xs ++ ys) ≡ true) → (test || list_any p (xs ++ ys)) ≡ true
+    by_case true any later = refl
+    by_case false any later = later any

@@ -1,4 +1,6 @@
 pub mod Ended
 pub mod EndedCounts
+pub mod EndedJobs
+pub mod EndedNodes
 pub mod FinishMembers
 pub mod FinishTasks

@@ -1,4 +1,5 @@
 -- What the laws of the end of a task stand on.
+use Rattle.task_order.specs.Key.{IsExactOrder}
 use Rattle.task_order.specs.Laws as tasks
 use Rattle.rw_sets.specs.Laws as sets
 use Rattle.cell_store.specs.Laws as cells
@@ -20,6 +21,7 @@ pub record FinishBasis {V : Type 0} (app : Application V) : Type 0 where
   pub adds : graph.RewritesAddNodes
   pub no_other : graph.RewritesAddNoOther
   pub replaces : graph.RewritesReplaceTasks
+  pub exact : IsExactOrder
   pub distinct : tasks.AscendingKeysAreDistinct
   pub adds_each : tasks.PutAllAddsEach
   pub put_without : tasks.PutRestoresWithout

@@ -9,7 +9,7 @@ use Rattle.graph_update.specs.declared.job.Job.{Job}
 use Rattle.graph_update.specs.Events.{IsFinished, IsOverLimit}
 use Rattle.graph_update.specs.Laws.{IsPerformed}
 use Rattle.graph_update.specs.Progress.{Progress, whole_state}
-use Rattle.graph_update.specs.Sound.{IsSound, KeysAndCounts}
+use Rattle.graph_update.specs.Sound.{IsSound, JobsMatch, KeysAndCounts}
 
 module _ {V : Type 0} (app : Application V) where
   -- one of the jobs of a sound execution is performed, and its task ends within the limit
@@ -40,3 +40,7 @@ module _ {V : Type 0} (app : Application V) where
   -- the counts still add up, and each path is new
   abbrev pub FinishesKeepKeysAndCounts : Type 0
   FinishesKeepKeysAndCounts = OfEachEnd (λ old values done job others now. KeysAndCounts app now)
+
+  -- the other jobs are those of the nodes that still run
+  abbrev pub FinishesKeepJobs : Type 0
+  FinishesKeepJobs = OfEachEnd (λ old values done job others now. JobsMatch app now.nodes others)

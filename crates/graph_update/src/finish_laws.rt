@@ -1,5 +1,5 @@
 ghost use Rattle.graph_update.specs.FinishBasis.{FinishBasis};
-ghost use Rattle.graph_update.specs.Finishes.{EffectsAreOfWhole, FinishesActOnWhole, FinishesStayReady, FinishesKeepKeysAndCounts};
+ghost use Rattle.graph_update.specs.Finishes.{EffectsAreOfWhole, FinishesActOnWhole, FinishesStayReady, FinishesKeepKeysAndCounts, FinishesKeepJobs};
 
 use app_laws::{App, family_laws, lawful};
 use cell_store::{location_laws, value_laws};
@@ -7,7 +7,7 @@ use commuting::independent_tasks_commute;
 use kdg_graph::{node_laws, rewrite_laws};
 use output_log::{part_laws, put_laws};
 use rw_sets::{conflict_laws, independence_laws, merge_laws, within_laws};
-use task_order::{ascending_laws, put_all_laws, put_in_laws, without_laws};
+use task_order::{ascending_laws, key_order, put_all_laws, put_in_laws, without_laws};
 
 /// What the crates below promise of what a task's end changes, as one.
 fn basis<A: App>()
@@ -18,6 +18,7 @@ fn basis<A: App>()
     family_laws();
     node_laws();
     rewrite_laws();
+    key_order();
     ascending_laws();
     put_in_laws();
     put_all_laws();
@@ -45,6 +46,13 @@ pub fn finish_state_laws<A: App>()
 /// The counts still add up after a task has ended, and each path is new.
 pub fn finish_count_laws<A: App>()
     ensures { (app : A) → FinishesKeepKeysAndCounts (A.meaning app) }
+{
+    basis::<A>();
+}
+
+/// The other jobs are those of the nodes that still run.
+pub fn finish_job_laws<A: App>()
+    ensures { (app : A) → FinishesKeepJobs (A.meaning app) }
 {
     basis::<A>();
 }

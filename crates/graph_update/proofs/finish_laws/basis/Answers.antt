@@ -13,6 +13,7 @@ returns g c = λ app. record {
   adds = c.rewrite_laws.ensures.adds;
   no_other = c.rewrite_laws.ensures.no_other;
   replaces = c.rewrite_laws.ensures.tasks;
+  exact = c.key_order.ensures.exact;
   distinct = c.ascending_laws.ensures.distinct;
   adds_each = c.put_all_laws.ensures.length;
   put_without = c.without_laws.ensures.restored;
