@@ -47,7 +47,7 @@ module _ {V : Type 0} {app : Application V} (basis : FinishBasis app) where
             let ended = ended_key basis end in
             cc
 
-    differ : AllByRecursion (λ other. job.task.key ≢ other.task.key) (end.performed.before ++ end.performed.after)
+    pub differ : AllByRecursion (λ other. job.task.key ≢ other.task.key) (end.performed.before ++ end.performed.after)
     differ =
         pairwise_with_one (λ job other. job.task.key ≢ other.task.key) (λ job other apart same. apart (sym same)) end.performed.before job end.performed.after
         (subst (Pairwise (λ job other. job.task.key ≢ other.task.key)) end.performed.there end.sound.outs_match.own)

@@ -7,7 +7,8 @@ use Rattle.std.specs.Ordering.{is_lt}
 use Rattle.std.proofs.lemmas.Bool.{true≢false, and_parts}
 use Rattle.task_order.specs.declared.key.Key.{Key}
 use Rattle.task_order.specs.Key.{key_cmp}
-use Rattle.rw_sets.specs.Accesses.{Accesses, conflicts_with}
+use Rattle.std.specs.declared.cmp.Ordering.TheVariants.{Less}
+use Rattle.rw_sets.specs.Accesses.{Accesses, AreIndependent, conflicts_with}
 use Rattle.cell_store.specs.Cells.{cells_given}
 use Rattle.kdg_graph.specs.declared.change.SetChange.{SetChange}
 use Rattle.kdg_graph.specs.declared.node_id.NodeId.{NodeId}
@@ -28,6 +29,10 @@ use Rattle.graph_update.proofs.FinishMembers.{all_at, here, there, cases, none, 
 
 same_id : (id : NodeId) (node : Node) → is_at id node ≡ true → node.id ≡ id
 same_id id node is = ap (λ n. let made : NodeId = record { at = n } in made) (eqb-true node.id.at id.at is)
+
+false_from_not : (b : Bool) → not b ≡ true → b ≡ false
+false_from_not true is = absurd (true≢false (sym is))
+false_from_not false is = refl
 
 -- ---- sets that are changed node by node
 
@@ -109,20 +114,37 @@ module _ {V : Type 0} {app : Application V} (basis : FinishBasis app) where
         (filter (λ (other : Node). conflicts_with end.finished.node.set other.set) (later_than end.finished.node.task.key old.nodes)) node
         (λ other in_way same. free (subst IsInTheWay (own_id other node (is_in_the_way other in_way).0 has same) (is_in_the_way other in_way).1))
 
+    -- no earlier node conflicts with a running one
+    pub runs_apart : (earlier node : Node) → Contains old.nodes earlier → Contains old.nodes node → node.running ≡ true → key_cmp earlier.task.key node.task.key ≡ Less
+        → conflicts_with earlier.set node.set ≡ false
+    runs_apart earlier node has_earlier has runs less =
+        let unblocked : is_unblocked app old.nodes node ≡ true = all_at (λ (node : Node). node.running ≡ true → is_unblocked app old.nodes node ≡ true) old.nodes node end.sound.running_unblocked has runs in
+        let parts = and_parts (not (is_blocked old.nodes node)) (app.is_safe node.task (map (λ (node : Node). node.task) (earlier_than node.task.key old.nodes))) unblocked in
+        none_passes (λ (other : Node). conflicts_with other.set node.set) (earlier_than node.task.key old.nodes) earlier (false_from_not (is_blocked old.nodes node) parts.0)
+        (in_filter (λ (other : Node). is_lt (key_cmp other.task.key node.task.key)) old.nodes earlier has_earlier (ap is_lt less))
+
+    -- two running nodes are independent
+    pub others_apart : (node : Node) → Contains old.nodes node → node.running ≡ true → node.id ≢ end.finished.node.id → AreIndependent end.finished.node.set node.set
+    others_apart node has runs other =
+        let ended = is_there basis end in
+        (basis.independent end.finished.node.set node.set).0 (λ conflict.
+        ⊎_elim
+        (λ before. let apart = runs_apart end.finished.node node ended has runs before in
+            true≢false (sym ((basis.decided end.finished.node.set node.set).1 conflict) ∙ apart))
+        (λ after. let apart = runs_apart node end.finished.node has ended (ended_node basis end).running after in
+            true≢false (sym ((basis.decided node.set end.finished.node.set).1 (basis.turned end.finished.node.set node.set conflict)) ∙ apart))
+        (basis.connected end.finished.node.task.key node.task.key (λ same. other (ap (λ (node : Node). node.id) (sym (own_key end.finished.node node ended has same))))))
+
     -- a running node isn't changed
     pub running_is_free : (node : Node) → Contains old.nodes node → node.running ≡ true → IsInTheWay node → ⊥
     running_is_free node has runs way =
         let unblocked : is_unblocked app old.nodes node ≡ true = all_at (λ (node : Node). node.running ≡ true → is_unblocked app old.nodes node ≡ true) old.nodes node end.sound.running_unblocked has runs in
         let parts = and_parts (not (is_blocked old.nodes node)) (app.is_safe node.task (map (λ (node : Node). node.task) (earlier_than node.task.key old.nodes))) unblocked in
-        let is_free : is_blocked old.nodes node ≡ false = not_true (is_blocked old.nodes node) parts.0 in
+        let is_free : is_blocked old.nodes node ≡ false = false_from_not (is_blocked old.nodes node) parts.0 in
         let clear : conflicts_with end.finished.node.set node.set ≡ false =
         none_passes (λ (other : Node). conflicts_with other.set node.set) (earlier_than node.task.key old.nodes) end.finished.node is_free
         (in_filter (λ (other : Node). is_lt (key_cmp other.task.key node.task.key)) old.nodes end.finished.node (is_there basis end) way.0) in
         true≢false (sym way.1 ∙ clear)
-      where
-        not_true : (b : Bool) → not b ≡ true → b ≡ false
-        not_true true is = absurd (true≢false (sym is))
-        not_true false is = refl
 
     -- a node that stays is there after, with its set after
     pub stays : (node : Node) → Contains old.nodes node → node.id ≢ end.finished.node.id

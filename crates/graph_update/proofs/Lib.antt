@@ -1,4 +1,5 @@
 pub mod Ended
+pub mod EndedCells
 pub mod EndedCounts
 pub mod EndedJobs
 pub mod EndedNodes

@@ -22,6 +22,7 @@ pub record FinishBasis {V : Type 0} (app : Application V) : Type 0 where
   pub no_other : graph.RewritesAddNoOther
   pub replaces : graph.RewritesReplaceTasks
   pub exact : IsExactOrder
+  pub connected : tasks.EarlierIsConnected
   pub distinct : tasks.AscendingKeysAreDistinct
   pub adds_each : tasks.PutAllAddsEach
   pub put_without : tasks.PutRestoresWithout
@@ -31,14 +32,20 @@ pub record FinishBasis {V : Type 0} (app : Application V) : Type 0 where
   pub children_new : family.ChildrenAreNew
   pub children_go_on : family.ChildrenGoOn
   pub independent : sets.IndependentWithoutConflict
+  pub independence_turned : sets.IndependenceIsMutual
   pub turned : sets.ConflictsAreMutual
   pub decided : sets.ConflictsAreDecided
   pub by_parts : sets.MergesConflictByParts
   pub grows : sets.ConflictsGrow
+  pub within_itself : sets.WithinIsReflexive
+  pub within_all : sets.WithinIsTransitive
   pub merges_hold : sets.MergesHoldBoth
   pub merges_least : sets.MergesAreLeast
   pub merges_ascend : sets.MergesAscend
   pub given : cells.GivenByLocation V
   pub parts : cells.PartsByLocation V
+  pub giving_forgets : cells.GivingForgetsTaking V
+  pub homes : cells.HomesByLocation V
+  pub all_homes : cells.HomesAreValues V
   pub agreement : cells.AgreementLasts V
   pub changes : cells.ValueChanges V

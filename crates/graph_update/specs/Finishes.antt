@@ -9,7 +9,7 @@ use Rattle.graph_update.specs.declared.job.Job.{Job}
 use Rattle.graph_update.specs.Events.{IsFinished, IsOverLimit}
 use Rattle.graph_update.specs.Laws.{IsPerformed}
 use Rattle.graph_update.specs.Progress.{Progress, whole_state}
-use Rattle.graph_update.specs.Sound.{IsSound, JobsMatch, KeysAndCounts}
+use Rattle.graph_update.specs.Sound.{IsSound, IsWhole, JobsMatch, KeysAndCounts}
 
 module _ {V : Type 0} (app : Application V) where
   -- one of the jobs of a sound execution is performed, and its task ends within the limit
@@ -44,3 +44,7 @@ module _ {V : Type 0} (app : Application V) where
   -- the other jobs are those of the nodes that still run
   abbrev pub FinishesKeepJobs : Type 0
   FinishesKeepJobs = OfEachEnd (λ old values done job others now. JobsMatch app now.nodes others)
+
+  -- the whole cells have the values that the operator makes, and away is just what the other jobs write
+  abbrev pub FinishesKeepWhole : Type 0
+  FinishesKeepWhole = OfEachEnd (λ old values done job others now. IsWhole app now.cells others (app.act job.task values).cells)

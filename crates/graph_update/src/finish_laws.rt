@@ -1,13 +1,13 @@
 ghost use Rattle.graph_update.specs.FinishBasis.{FinishBasis};
-ghost use Rattle.graph_update.specs.Finishes.{EffectsAreOfWhole, FinishesActOnWhole, FinishesStayReady, FinishesKeepKeysAndCounts, FinishesKeepJobs};
+ghost use Rattle.graph_update.specs.Finishes.{EffectsAreOfWhole, FinishesActOnWhole, FinishesStayReady, FinishesKeepKeysAndCounts, FinishesKeepJobs, FinishesKeepWhole};
 
 use app_laws::{App, family_laws, lawful};
-use cell_store::{location_laws, value_laws};
+use cell_store::{location_laws, return_laws, value_laws};
 use commuting::independent_tasks_commute;
 use kdg_graph::{node_laws, rewrite_laws};
 use output_log::{part_laws, put_laws};
 use rw_sets::{conflict_laws, independence_laws, merge_laws, within_laws};
-use task_order::{ascending_laws, key_order, put_all_laws, put_in_laws, without_laws};
+use task_order::{ascending_laws, earlier_laws, key_order, put_all_laws, put_in_laws, without_laws};
 
 /// What the crates below promise of what a task's end changes, as one.
 fn basis<A: App>()
@@ -19,6 +19,7 @@ fn basis<A: App>()
     node_laws();
     rewrite_laws();
     key_order();
+    earlier_laws();
     ascending_laws();
     put_in_laws();
     put_all_laws();
@@ -30,6 +31,7 @@ fn basis<A: App>()
     merge_laws();
     within_laws();
     location_laws::<A::Val>();
+    return_laws::<A::Val>();
     value_laws::<A::Val>();
 }
 
@@ -53,6 +55,13 @@ pub fn finish_count_laws<A: App>()
 /// The other jobs are those of the nodes that still run.
 pub fn finish_job_laws<A: App>()
     ensures { (app : A) → FinishesKeepJobs (A.meaning app) }
+{
+    basis::<A>();
+}
+
+/// The values of the other cells are where they were, and those that the task wrote are home.
+pub fn finish_cell_laws<A: App>()
+    ensures { (app : A) → FinishesKeepWhole (A.meaning app) }
 {
     basis::<A>();
 }
