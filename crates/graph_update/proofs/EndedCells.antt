@@ -31,7 +31,7 @@ pub some_where_written : (access : Option Access) → allows_write access ≡ tr
 some_where_written None is = absurd (true≢false (sym is))
 some_where_written (Some access) is = refl
 
-never_out : {V : Type 0} (cell : Cell V) → IsHome cell → cell ≡ Out → ⊥
+pub never_out : {V : Type 0} (cell : Cell V) → IsHome cell → cell ≡ Out → ⊥
 never_out cell home is = subst IsHome is home
 
 any_more : {X : Type 0} (p : X → Bool) (xs : List X) (x : X) (ys : List X) → list_any p (xs ++ ys) ≡ true → list_any p (xs ++ x ∷ ys) ≡ true

@@ -7,12 +7,13 @@ use Rattle.output_log.specs.Laws as logs
 use Rattle.kdg_graph.specs.Laws as graph
 use Rattle.app_laws.specs.Applications.{Application, IsLawful}
 use Rattle.app_laws.specs.Family as family
-use Rattle.commuting.specs.Independent.{StaysReady, IndependentTasksLeaveAlone}
+use Rattle.commuting.specs.Independent.{StaysReady, IndependentTasksLeaveAlone, ClearTasksStayClear}
 
 pub record FinishBasis {V : Type 0} (app : Application V) : Type 0 where
   pub lawful : IsLawful app
   pub stays_ready : StaysReady app
   pub left_alone : IndependentTasksLeaveAlone app
+  pub stay_clear : ClearTasksStayClear app
   pub have_ids : graph.NodesHaveIds
   pub have_keys : graph.NodesHaveKeys
   pub keys_find : graph.KeysFindNodes
@@ -39,6 +40,8 @@ pub record FinishBasis {V : Type 0} (app : Application V) : Type 0 where
   pub grows : sets.ConflictsGrow
   pub within_itself : sets.WithinIsReflexive
   pub within_all : sets.WithinIsTransitive
+  pub within_by_members : sets.WithinByMembers
+  pub merges_join : sets.MergesJoinLookups
   pub merges_hold : sets.MergesHoldBoth
   pub merges_least : sets.MergesAreLeast
   pub merges_ascend : sets.MergesAscend

@@ -1,7 +1,7 @@
 -- What the end of a task makes of a sound execution, part by part.
 use Rattle.std.specs.Prelude.{◌≡◌, List}
-use Rattle.kdg_graph.specs.Node.{Node}
-use Rattle.app_laws.specs.Applications.{Application, effect_of, set_in}
+use Rattle.std.specs.List.{AllByRecursion}
+use Rattle.app_laws.specs.Applications.{Application, effect_of}
 use Rattle.commuting.specs.Clear.{IsReady}
 use Rattle.commuting.specs.States.{after_task}
 use Rattle.graph_update.specs.declared.job.Done.{Done}
@@ -9,7 +9,7 @@ use Rattle.graph_update.specs.declared.job.Job.{Job}
 use Rattle.graph_update.specs.Events.{IsFinished, IsOverLimit}
 use Rattle.graph_update.specs.Laws.{IsPerformed}
 use Rattle.graph_update.specs.Progress.{Progress, whole_state}
-use Rattle.graph_update.specs.Sound.{IsSound, IsWhole, JobsMatch, KeysAndCounts}
+use Rattle.graph_update.specs.Sound.{Covers, IsSound, IsWhole, JobsMatch, KeysAndCounts}
 
 module _ {V : Type 0} (app : Application V) where
   -- one of the jobs of a sound execution is performed, and its task ends within the limit
@@ -48,3 +48,7 @@ module _ {V : Type 0} (app : Application V) where
   -- the whole cells have the values that the operator makes, and away is just what the other jobs write
   abbrev pub FinishesKeepWhole : Type 0
   FinishesKeepWhole = OfEachEnd (λ old values done job others now. IsWhole app now.cells others (app.act job.task values).cells)
+
+  -- the recorded sets of the nodes still have all of the declared ones
+  abbrev pub FinishesKeepCover : Type 0
+  FinishesKeepCover = OfEachEnd (λ old values done job others now. AllByRecursion (Covers app now.cells (app.act job.task values).cells) now.nodes)

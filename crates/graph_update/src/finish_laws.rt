@@ -1,9 +1,9 @@
 ghost use Rattle.graph_update.specs.FinishBasis.{FinishBasis};
-ghost use Rattle.graph_update.specs.Finishes.{EffectsAreOfWhole, FinishesActOnWhole, FinishesStayReady, FinishesKeepKeysAndCounts, FinishesKeepJobs, FinishesKeepWhole};
+ghost use Rattle.graph_update.specs.Finishes.{EffectsAreOfWhole, FinishesActOnWhole, FinishesStayReady, FinishesKeepKeysAndCounts, FinishesKeepJobs, FinishesKeepWhole, FinishesKeepCover};
 
 use app_laws::{App, family_laws, lawful};
 use cell_store::{location_laws, return_laws, value_laws};
-use commuting::independent_tasks_commute;
+use commuting::{clear_tasks_stay_clear, independent_tasks_commute};
 use kdg_graph::{node_laws, rewrite_laws};
 use output_log::{part_laws, put_laws};
 use rw_sets::{conflict_laws, independence_laws, merge_laws, within_laws};
@@ -15,6 +15,7 @@ fn basis<A: App>()
 {
     lawful::<A>();
     independent_tasks_commute::<A>();
+    clear_tasks_stay_clear::<A>();
     family_laws();
     node_laws();
     rewrite_laws();
@@ -62,6 +63,13 @@ pub fn finish_job_laws<A: App>()
 /// The values of the other cells are where they were, and those that the task wrote are home.
 pub fn finish_cell_laws<A: App>()
     ensures { (app : A) → FinishesKeepWhole (A.meaning app) }
+{
+    basis::<A>();
+}
+
+/// The recorded sets of the nodes still have all of the declared ones.
+pub fn finish_set_laws<A: App>()
+    ensures { (app : A) → FinishesKeepCover (A.meaning app) }
 {
     basis::<A>();
 }
