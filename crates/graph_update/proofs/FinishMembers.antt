@@ -89,3 +89,14 @@ any_but_one p (y ∷ xs) x ys any fails = by_case (p y) any (λ rest. any_but_on
     by_case : (test : Bool) → (test || list_any p (xs ++ x ∷ ys)) ≡ true → (list_any p (xs ++ x ∷ ys) ≡ true → list_any p (xs ++ ys) ≡ true) → (test || list_any p (xs ++ ys)) ≡ true
     by_case true any later = refl
     by_case false any later = later any
+
+pub from_map : {X Y : Type 0} (f : X → Y) (xs : List X) (y : Y) → Contains (map f xs) y → (x : X) × Contains xs x × (f x ≡ y)
+from_map f [] y has = absurd (none y has)
+from_map {X} {Y} f (x ∷ xs) y has = elim (cases (f x) y (map f xs) has) [
+  | inl same ↦ (x, here x xs, same)
+  | inr later ↦ let rest : (z : X) × Contains xs z × (f z ≡ y) = from_map f xs y later in (rest.0, there x rest.0 xs rest.1, rest.2)
+]
+
+pub none_any : {X : Type 0} (p : X → Bool) (xs : List X) → ((x : X) → Contains xs x → p x ≡ false) → list_any p xs ≡ false
+none_any p [] each = refl
+none_any p (x ∷ xs) each = ap (λ test. test || list_any p xs) (each x (here x xs)) ∙ none_any p xs (λ y has. each y (there x y xs has))

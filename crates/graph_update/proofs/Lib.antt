@@ -4,5 +4,6 @@ pub mod EndedCounts
 pub mod EndedJobs
 pub mod EndedNodes
 pub mod EndedSets
+pub mod EndedOrder
 pub mod FinishMembers
 pub mod FinishTasks

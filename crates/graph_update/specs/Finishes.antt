@@ -1,5 +1,5 @@
 -- What the end of a task makes of a sound execution, part by part.
-use Rattle.std.specs.Prelude.{◌≡◌, List}
+use Rattle.std.specs.Prelude.{◌≡◌, true, List}
 use Rattle.std.specs.List.{AllByRecursion}
 use Rattle.app_laws.specs.Applications.{Application, effect_of}
 use Rattle.commuting.specs.Clear.{IsReady}
@@ -9,7 +9,7 @@ use Rattle.graph_update.specs.declared.job.Job.{Job}
 use Rattle.graph_update.specs.Events.{IsFinished, IsOverLimit}
 use Rattle.graph_update.specs.Laws.{IsPerformed}
 use Rattle.graph_update.specs.Progress.{Progress, whole_state}
-use Rattle.graph_update.specs.Sound.{Covers, IsSound, IsWhole, JobsMatch, KeysAndCounts}
+use Rattle.graph_update.specs.Sound.{Covers, IsSound, IsWhole, JobsMatch, KeysAndCounts, is_unblocked}
 
 module _ {V : Type 0} (app : Application V) where
   -- one of the jobs of a sound execution is performed, and its task ends within the limit
@@ -52,3 +52,7 @@ module _ {V : Type 0} (app : Application V) where
   -- the recorded sets of the nodes still have all of the declared ones
   abbrev pub FinishesKeepCover : Type 0
   FinishesKeepCover = OfEachEnd (λ old values done job others now. AllByRecursion (Covers app now.cells (app.act job.task values).cells) now.nodes)
+
+  -- the nodes that still run stay unblocked
+  abbrev pub FinishesKeepUnblocked : Type 0
+  FinishesKeepUnblocked = OfEachEnd (λ old values done job others now. AllByRecursion (λ node. node.running ≡ true → is_unblocked app now.nodes node ≡ true) now.nodes)

@@ -1,5 +1,6 @@
 ghost use Rattle.graph_update.specs.FinishBasis.{FinishBasis};
-ghost use Rattle.graph_update.specs.Finishes.{EffectsAreOfWhole, FinishesActOnWhole, FinishesStayReady, FinishesKeepKeysAndCounts, FinishesKeepJobs, FinishesKeepWhole, FinishesKeepCover};
+ghost use Rattle.graph_update.specs.Finishes.{EffectsAreOfWhole, FinishesActOnWhole, FinishesStayReady, FinishesKeepKeysAndCounts, FinishesKeepJobs, FinishesKeepWhole, FinishesKeepCover, FinishesKeepUnblocked};
+ghost use Rattle.graph_update.specs.Laws.{FinishesKeepSound};
 
 use app_laws::{App, family_laws, lawful};
 use cell_store::{location_laws, return_laws, value_laws};
@@ -72,4 +73,23 @@ pub fn finish_set_laws<A: App>()
     ensures { (app : A) → FinishesKeepCover (A.meaning app) }
 {
     basis::<A>();
+}
+
+/// No earlier node conflicts with one that still runs, and its task is still safe.
+pub fn finish_order_laws<A: App>()
+    ensures { (app : A) → FinishesKeepUnblocked (A.meaning app) }
+{
+    basis::<A>();
+}
+
+/// Where a task ends, a sound execution stays sound.
+pub fn sound_finish_laws<A: App>()
+    ensures { (app : A) → FinishesKeepSound (A.meaning app) }
+{
+    finish_state_laws::<A>();
+    finish_count_laws::<A>();
+    finish_job_laws::<A>();
+    finish_cell_laws::<A>();
+    finish_set_laws::<A>();
+    finish_order_laws::<A>();
 }
