@@ -6,16 +6,15 @@ use Rattle.task_order.specs.declared.key.Key.{Key}
 use Rattle.task_order.specs.declared.start.Start.{Start}
 use Rattle.task_order.specs.declared.task.Task.{Task}
 use Rattle.task_order.specs.TaskList.{put_all, without}
-use Rattle.rw_sets.specs.Accesses.{Accesses}
 use Rattle.cell_store.specs.Cells.{part_of}
 use Rattle.cell_store.specs.Values.{homes}
 use Rattle.kdg_graph.specs.Node.{Node}
-use Rattle.kdg_graph.specs.Nodes.{node_at, node_with_key, tasks_of}
+use Rattle.kdg_graph.specs.Nodes.{node_at, tasks_of}
 use Rattle.kdg_graph.specs.Rewrite.{fresh_tasks}
 use Rattle.app_laws.specs.Applications.{Application, effect_of, handed, set_in}
 use Rattle.app_laws.specs.Execution.{children_from}
 use Rattle.commuting.specs.Clear.{IsReady}
-use Rattle.commuting.specs.States.{State, after_task, state_of}
+use Rattle.commuting.specs.States.{after_task, state_of}
 use Rattle.graph_update.specs.declared.job.Done.{Done}
 use Rattle.graph_update.specs.declared.job.Job.{Job}
 use Rattle.graph_update.specs.Events.{fresh_from}

@@ -1,11 +1,10 @@
 -- The whole cells after the end of a task.
-use Rattle.std.proofs.Common.{◌≡◌, ◌≢◌, ◌⊎◌, inl, inr, ℕ, ◌<◌, ◌||◌, Bool, true, false, cond, List, [], ◌∷◌, ◌++◌, length, Option, Some, None, refl, sym, ap, subst, ◌∙◌, ⊎_elim}
-use Rattle.std.specs.Prelude.{Contains, IsSome, IsTrue, IsFalse, ◌↔◌, slice_get, unwrap_or, is_some, if◌then◌else◌}
+use Rattle.std.proofs.Common.{◌≡◌, ◌≢◌, ℕ, ◌<◌, ◌||◌, Bool, true, false, List, [], ◌∷◌, ◌++◌, length, Option, Some, None, refl, sym, ap, subst, ◌∙◌}
+use Rattle.std.specs.Prelude.{Contains, IsTrue, IsFalse, ◌↔◌, is_some, if◌then◌else◌}
 use Rattle.std.specs.List.{AllByRecursion, list_any}
-use Rattle.std.specs.Option.{option_map}
 use Rattle.std.proofs.lemmas.Bool.{true≢false}
 use Rattle.rw_sets.specs.declared.access.Access.{Access}
-use Rattle.rw_sets.specs.Accesses.{Accesses, AreIndependent, access_at, allows_write, writes}
+use Rattle.rw_sets.specs.Accesses.{AreIndependent, access_at, allows_write, writes}
 use Rattle.cell_store.specs.declared.cell.Cell.{Cell}
 use Rattle.cell_store.specs.declared.cell.Cell.TheVariants.{Home, Out}
 use Rattle.cell_store.specs.Cells.{cell_at, cell_in, cells_given, cells_taken, part_of}
@@ -13,7 +12,6 @@ use Rattle.cell_store.specs.Home.{IsHome}
 use Rattle.cell_store.specs.Values.{AgreesWith, ChangesOnlyWritten, homes}
 use Rattle.kdg_graph.specs.Node.{Node}
 use Rattle.app_laws.specs.Applications.{Application, set_in, IsFitTask}
-use Rattle.app_laws.specs.Order.{Pairwise}
 use Rattle.graph_update.specs.declared.job.Done.{Done}
 use Rattle.graph_update.specs.declared.job.Job.{Job}
 use Rattle.graph_update.specs.FinishBasis.{FinishBasis}
@@ -71,11 +69,11 @@ module _ {V : Type 0} {app : Application V} (basis : FinishBasis app) where
     independent =
         all-joined (λ other. job.task.key ≢ other.task.key) (IsOfNode app old.nodes) (λ other. AreIndependent job.bundle.set other.bundle.set)
         (λ other differ of_node.
-            let node = of_node.0 in
-            let has = basis.keys_find old.nodes other.task.key node of_node.1 in
-            let apart : node.id ≢ end.finished.node.id = λ same. differ (same_key other node has.0 has.1 same) in
-            let sets : AreIndependent end.finished.node.set node.set = others_apart basis end node has.0 of_node.2.running apart in
-            subst (λ set. AreIndependent job.bundle.set set) of_node.2.set (subst (λ set. AreIndependent set node.set) (ended_node basis end).job_set sets))
+        let node = of_node.0 in
+        let has = basis.keys_find old.nodes other.task.key node of_node.1 in
+        let apart : node.id ≢ end.finished.node.id = λ same. differ (same_key other node has.0 has.1 same) in
+        let sets : AreIndependent end.finished.node.set node.set = others_apart basis end node has.0 of_node.2.running apart in
+        subst (λ set. AreIndependent job.bundle.set set) of_node.2.set (subst (λ set. AreIndependent set node.set) (ended_node basis end).job_set sets))
         (end.performed.before ++ end.performed.after) (differ basis end)
         (all_but_one (IsOfNode app old.nodes) end.performed.before job end.performed.after (subst (AllByRecursion (IsOfNode app old.nodes)) end.performed.there end.sound.outs_match.named))
       where
@@ -145,15 +143,17 @@ module _ {V : Type 0} {app : Application V} (basis : FinishBasis app) where
     away_after loc inside = by_case (writes job.bundle.set loc) refl
       where
         by_case : (written : Bool) → writes job.bundle.set loc ≡ written → (cell_at now.cells loc ≡ Out) ↔ IsTrue (is_written app (end.performed.before ++ end.performed.after) loc)
-        by_case true is =
-            ( (λ out. absurd (never_out (cell_at now.cells loc) (written_is_home loc inside is) out))
-            , (λ any. absurd (true≢false (sym any ∙ unwritten_by_others loc is))) )
+        by_case true is = (
+          (λ out. absurd (never_out (cell_at now.cells loc) (written_is_home loc inside is) out)),
+          (λ any. absurd (true≢false (sym any ∙ unwritten_by_others loc is))),
+        )
         by_case false is =
-            let same : cell_at now.cells loc ≡ cell_at old.cells loc = cell_after loc inside ∙ ap (λ test. if test then cell_in (part_of (homes (app.act job.task values).cells) job.bundle.set) loc else cell_at old.cells loc) is in
-            ( (λ out. any_but_one (λ other. writes other.bundle.set loc) end.performed.before job end.performed.after
-                (subst (λ jobs. is_written app jobs loc ≡ true) end.performed.there ((end.sound.whole.away loc inside).0 (sym same ∙ out))) is)
-            , (λ any. same ∙ (end.sound.whole.away loc inside).1
-                (subst (λ jobs. is_written app jobs loc ≡ true) (sym end.performed.there) (any_more (λ other. writes other.bundle.set loc) end.performed.before job end.performed.after any))) )
+            let same : cell_at now.cells loc ≡ cell_at old.cells loc = cell_after loc inside ∙ ap (λ test. if test then cell_in (part_of (homes (app.act job.task values).cells) job.bundle.set) loc else cell_at old.cells loc) is in (
+              (λ out. any_but_one (λ other. writes other.bundle.set loc) end.performed.before job end.performed.after
+                  (subst (λ jobs. is_written app jobs loc ≡ true) end.performed.there ((end.sound.whole.away loc inside).0 (sym same ∙ out))) is),
+              (λ any. same ∙ (end.sound.whole.away loc inside).1
+                  (subst (λ jobs. is_written app jobs loc ≡ true) (sym end.performed.there) (any_more (λ other. writes other.bundle.set loc) end.performed.before job end.performed.after any))),
+            )
 
     bundles_after : AllByRecursion (λ other. other.bundle ≡ part_of (homes (app.act job.task values).cells) other.bundle.set) (end.performed.before ++ end.performed.after)
     bundles_after =

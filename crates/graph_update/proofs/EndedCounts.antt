@@ -1,12 +1,11 @@
 -- The counts, the log and the keys after the end of a task.
-use Rattle.std.proofs.Common.{◌≡◌, ◌≢◌, ℕ, suc, ◌+◌, ◌≤◌, ◌<◌, false, List, [], ◌∷◌, ◌++◌, length, map, refl, sym, ap, subst, ◌∙◌, arith}
+use Rattle.std.proofs.Common.{◌≡◌, ◌≢◌, ℕ, suc, ◌+◌, ◌<◌, false, List, [], ◌∷◌, ◌++◌, length, refl, sym, ap, subst, ◌∙◌, arith}
 use Rattle.std.specs.List.{AllByRecursion}
-use Rattle.std.specs.Prelude.{Contains}
 use Rattle.task_order.specs.declared.key.Key.{Key}
 use Rattle.task_order.specs.declared.start.Start.{Start}
 use Rattle.task_order.specs.declared.task.Task.{Task}
 use Rattle.task_order.specs.Key.{at_key}
-use Rattle.task_order.specs.TaskList.{put_in, put_all, without, has_key}
+use Rattle.task_order.specs.TaskList.{put_in, without}
 use Rattle.output_log.specs.Entries.{Entry, IsInKeyOrder, IsNewEntry, entries_before, entries_from, with_entry}
 use Rattle.kdg_graph.specs.Nodes.{tasks_of}
 use Rattle.app_laws.specs.Applications.{Application, handed}
@@ -20,7 +19,7 @@ use Rattle.graph_update.specs.Progress.{Progress}
 use Rattle.graph_update.specs.Sound.{KeysAndCounts}
 use Rattle.graph_update.proofs.Ended.{ended_node, tasks_after, is_pending}
 use Rattle.graph_update.proofs.FinishMembers.{all_at}
-use Rattle.graph_update.proofs.FinishTasks.{all-weaker, all-joined, all-swapped, all-filter, all-put_all, prefix_of_itself, TasksApart, apart_turned, apart_from_put_in, all_parts, all-inserted, pairwise-inserted, length-inserted, length-mapped}
+use Rattle.graph_update.proofs.FinishTasks.{all-weaker, all-joined, all-swapped, all-filter, all-put_all, prefix_of_itself, TasksApart, apart_from_put_in, all_parts, all-inserted, pairwise-inserted, length-inserted, length-mapped}
 
 length-children : (parent : Key) (number : ℕ) (starts : List Start) → length (children_from parent number starts) ≡ length starts
 length-children parent number [] = refl

@@ -1,5 +1,5 @@
 -- The jobs after the end of a task.
-use Rattle.std.proofs.Common.{◌≡◌, ◌≢◌, ◌⊎◌, inl, inr, Bool, true, false, List, [], ◌∷◌, ◌++◌, Some, refl, sym, ap, subst, ◌∙◌, ⊎_elim}
+use Rattle.std.proofs.Common.{◌≡◌, ◌≢◌, true, false, List, ◌++◌, Some, refl, sym, ap, subst, ◌∙◌, ⊎_elim}
 use Rattle.std.specs.Prelude.{Contains}
 use Rattle.std.specs.List.{AllByRecursion, list_any}
 use Rattle.std.specs.Ordering.{is_eq}
@@ -8,12 +8,9 @@ use Rattle.std.specs.declared.cmp.Ordering.TheVariants.{Less, Equal, Greater}
 use Rattle.std.proofs.lemmas.Bool.{true≢false}
 use Rattle.task_order.specs.declared.key.Key.{Key}
 use Rattle.task_order.specs.Key.{key_cmp}
-use Rattle.rw_sets.specs.Accesses.{Accesses}
 use Rattle.cell_store.specs.Cells.{cells_given}
-use Rattle.kdg_graph.specs.declared.change.Fresh.{Fresh}
-use Rattle.kdg_graph.specs.Node.{Node, new_node}
+use Rattle.kdg_graph.specs.Node.{Node}
 use Rattle.kdg_graph.specs.Nodes.{node_with_key}
-use Rattle.kdg_graph.specs.Rewrite.{set_after}
 use Rattle.app_laws.specs.Applications.{Application}
 use Rattle.app_laws.specs.Order.{Pairwise}
 use Rattle.graph_update.specs.declared.job.Done.{Done}
@@ -81,8 +78,8 @@ module _ {V : Type 0} {app : Application V} (basis : FinishBasis app) where
     all_have_jobs = all_from (λ node. node.running ≡ true → HasJob app (end.performed.before ++ end.performed.after) node) now.nodes (λ node has runs.
         ⊎_elim
         (λ kept. let same : node.task ≡ kept.0.task = ap (λ (node : Node). node.task) kept.3 in
-            let still : kept.0.running ≡ true = sym (ap (λ (node : Node). node.running) kept.3) ∙ runs in
-            subst (λ task. list_any (λ job. is_eq (key_cmp job.task.key task.key)) (end.performed.before ++ end.performed.after) ≡ true) (sym same) (has_other_job kept.0 kept.1 kept.2 still))
+        let still : kept.0.running ≡ true = sym (ap (λ (node : Node). node.running) kept.3) ∙ runs in
+        subst (λ task. list_any (λ job. is_eq (key_cmp job.task.key task.key)) (end.performed.before ++ end.performed.after) ≡ true) (sym same) (has_other_job kept.0 kept.1 kept.2 still))
         (λ fresh. absurd (true≢false (sym runs ∙ ap (λ (node : Node). node.running) fresh.2)))
         (basis.no_other old.nodes end.finished.node.id (renewals app (cells_given old.cells done.effect.bundle) old.nodes end.finished.node) (fresh_from app done.task.key 0 done.effect.children) now.nodes end.finished.nodes node has))
 

@@ -1,11 +1,10 @@
 -- The recorded sets after the end of a task.
-use Rattle.std.proofs.Common.{◌≡◌, ◌≢◌, ◌⊎◌, inl, inr, Bool, true, false, not, ◌&&◌, cond, List, [], ◌∷◌, map, Option, Some, None, refl, sym, ap, subst, ◌∙◌, eqb-true, eq-eqb, ⊎_elim}
+use Rattle.std.proofs.Common.{◌≡◌, ◌≢◌, Bool, true, false, not, cond, List, [], ◌∷◌, map, Some, refl, sym, ap, subst, ◌∙◌, eqb-true, eq-eqb, ⊎_elim}
 use Rattle.std.specs.Prelude.{Contains, unwrap_or}
-use Rattle.std.specs.List.{AllByRecursion, filter, find, list_any}
+use Rattle.std.specs.List.{filter, find}
 use Rattle.std.specs.Option.{option_map}
 use Rattle.std.specs.Ordering.{is_lt}
 use Rattle.std.proofs.lemmas.Bool.{true≢false, and_parts}
-use Rattle.task_order.specs.declared.key.Key.{Key}
 use Rattle.task_order.specs.Key.{key_cmp}
 use Rattle.std.specs.declared.cmp.Ordering.TheVariants.{Less}
 use Rattle.rw_sets.specs.Accesses.{Accesses, AreIndependent, conflicts_with}
@@ -14,7 +13,7 @@ use Rattle.kdg_graph.specs.declared.change.SetChange.{SetChange}
 use Rattle.kdg_graph.specs.declared.node_id.NodeId.{NodeId}
 use Rattle.kdg_graph.specs.Edges.{is_blocked}
 use Rattle.kdg_graph.specs.Node.{Node}
-use Rattle.kdg_graph.specs.Nodes.{is_at, node_at, node_with_key, earlier_than, later_than}
+use Rattle.kdg_graph.specs.Nodes.{is_at, node_at, earlier_than, later_than}
 use Rattle.kdg_graph.specs.Rewrite.{set_after}
 use Rattle.app_laws.specs.Applications.{Application}
 use Rattle.graph_update.specs.declared.job.Done.{Done}
@@ -130,9 +129,9 @@ module _ {V : Type 0} {app : Application V} (basis : FinishBasis app) where
         (basis.independent end.finished.node.set node.set).0 (λ conflict.
         ⊎_elim
         (λ before. let apart = runs_apart end.finished.node node ended has runs before in
-            true≢false (sym ((basis.decided end.finished.node.set node.set).1 conflict) ∙ apart))
+        true≢false (sym ((basis.decided end.finished.node.set node.set).1 conflict) ∙ apart))
         (λ after. let apart = runs_apart node end.finished.node has ended (ended_node basis end).running after in
-            true≢false (sym ((basis.decided node.set end.finished.node.set).1 (basis.turned end.finished.node.set node.set conflict)) ∙ apart))
+        true≢false (sym ((basis.decided node.set end.finished.node.set).1 (basis.turned end.finished.node.set node.set conflict)) ∙ apart))
         (basis.connected end.finished.node.task.key node.task.key (λ same. other (ap (λ (node : Node). node.id) (sym (own_key end.finished.node node ended has same))))))
 
     -- a running node isn't changed

@@ -1,5 +1,5 @@
 -- The running nodes stay unblocked where another task ends.
-use Rattle.std.proofs.Common.{◌≡◌, ◌≢◌, ◌⊎◌, inl, inr, Bool, true, false, not, ◌&&◌, cond, List, [], ◌∷◌, map, refl, sym, ap, subst, ◌∙◌, ⊎_elim}
+use Rattle.std.proofs.Common.{◌≡◌, ◌≢◌, Bool, true, false, not, cond, List, [], ◌∷◌, map, refl, sym, ap, subst, ◌∙◌, ⊎_elim}
 use Rattle.std.specs.Prelude.{Contains}
 use Rattle.std.specs.List.{AllByRecursion}
 use Rattle.std.specs.declared.cmp.Ordering.{Ordering}
@@ -10,7 +10,7 @@ use Rattle.task_order.specs.declared.key.Key.{Key}
 use Rattle.task_order.specs.declared.task.Task.{Task}
 use Rattle.task_order.specs.Key.{key_cmp}
 use Rattle.task_order.specs.TaskList.{is_earlier, tasks_before}
-use Rattle.rw_sets.specs.Accesses.{Accesses, AreIndependent, Conflicts, IsWithin, conflicts_with, merged}
+use Rattle.rw_sets.specs.Accesses.{Accesses, Conflicts, IsWithin, conflicts_with, merged}
 use Rattle.cell_store.specs.Cells.{cells_given}
 use Rattle.kdg_graph.specs.Edges.{is_blocked}
 use Rattle.kdg_graph.specs.Node.{Node}
@@ -28,7 +28,7 @@ use Rattle.graph_update.specs.Finishes.{IsEnd, FinishesKeepUnblocked}
 use Rattle.graph_update.specs.Progress.{Progress, whole_state}
 use Rattle.graph_update.specs.Sound.{is_unblocked}
 use Rattle.graph_update.proofs.Ended.{covered, whole_after}
-use Rattle.graph_update.proofs.EndedNodes.{IsInTheWay, others_apart, running_is_free, runs_apart, set_unchanged}
+use Rattle.graph_update.proofs.EndedNodes.{others_apart, running_is_free, runs_apart, set_unchanged}
 use Rattle.graph_update.proofs.EndedSets.{covers_of, independent_tasks, item_set, moves_within, same_set, set_cases}
 use Rattle.graph_update.proofs.FinishMembers.{all_at, all_from, from_filter, from_map, in_filter, in_map, none_any}
 
@@ -130,23 +130,23 @@ module _ {V : Type 0} {app : Application V} (basis : FinishBasis app) where
     apart_after was other still has before conflict =
         ⊎_elim
         (λ kept.
-            let same_task : other.task ≡ kept.0.task = ap (λ (node : Node). node.task) kept.3 in
-            let new_set : other.set ≡ set_after (renewals app (cells_given old.cells done.effect.bundle) old.nodes end.finished.node) kept.0 = ap (λ (node : Node). node.set) kept.3 in
-            apart_from_kept was kept.0 still kept.1 kept.2 (subst (λ (task : Task). is_lt (key_cmp task.key was.task.key) ≡ true) same_task before)
-            (subst (λ set. Conflicts set was.set) new_set conflict))
+        let same_task : other.task ≡ kept.0.task = ap (λ (node : Node). node.task) kept.3 in
+        let new_set : other.set ≡ set_after (renewals app (cells_given old.cells done.effect.bundle) old.nodes end.finished.node) kept.0 = ap (λ (node : Node). node.set) kept.3 in
+        apart_from_kept was kept.0 still kept.1 kept.2 (subst (λ (task : Task). is_lt (key_cmp task.key was.task.key) ≡ true) same_task before)
+        (subst (λ set. Conflicts set was.set) new_set conflict))
         (λ fresh.
-            let new_set : other.set ≡ fresh.0.set = ap (λ (node : Node). node.set) fresh.2 in
-            let same_task : other.task ≡ fresh.0.task = ap (λ (node : Node). node.task) fresh.2 in
-            let own : other.set ≡ set_in app (app.act job.task values).cells other.task = new_set ∙ item_set basis end fresh.0 fresh.1 ∙ ap (λ task. set_in app (app.act job.task values).cells task) (sym same_task) in
-            apart_from_declared was other still has before (subst (λ set. Conflicts set was.set) own conflict))
+        let new_set : other.set ≡ fresh.0.set = ap (λ (node : Node). node.set) fresh.2 in
+        let same_task : other.task ≡ fresh.0.task = ap (λ (node : Node). node.task) fresh.2 in
+        let own : other.set ≡ set_in app (app.act job.task values).cells other.task = new_set ∙ item_set basis end fresh.0 fresh.1 ∙ ap (λ task. set_in app (app.act job.task values).cells task) (sym same_task) in
+        apart_from_declared was other still has before (subst (λ set. Conflicts set was.set) own conflict))
         (basis.no_other old.nodes end.finished.node.id (renewals app (cells_given old.cells done.effect.bundle) old.nodes end.finished.node) (fresh_from app done.task.key 0 done.effect.children) now.nodes end.finished.nodes other has)
 
     unblocked_after : (was : Node) → StillRuns was → is_unblocked app now.nodes was ≡ true
     unblocked_after was still =
         let free : is_blocked now.nodes was ≡ false =
         none_any (λ (other : Node). conflicts_with other.set was.set) (earlier_than was.task.key now.nodes) (λ other has.
-            let parts = from_filter (λ (node : Node). is_lt (key_cmp node.task.key was.task.key)) now.nodes other has in
-            no_conflict other.set was.set (apart_after was other still parts.0 parts.1)) in
+        let parts = from_filter (λ (node : Node). is_lt (key_cmp node.task.key was.task.key)) now.nodes other has in
+        no_conflict other.set was.set (apart_after was other still parts.0 parts.1)) in
         and_from (not (is_blocked now.nodes was)) (app.is_safe was.task (tasks_of (earlier_than was.task.key now.nodes))) (ap not free)
         (subst (λ tasks. app.is_safe was.task tasks ≡ true) (sym (tasks_earlier was.task.key now.nodes)) (clear_after was still).unblocked.safe)
 
@@ -154,11 +154,11 @@ module _ {V : Type 0} {app : Application V} (basis : FinishBasis app) where
     all_unblocked = all_from (λ node. node.running ≡ true → is_unblocked app now.nodes node ≡ true) now.nodes (λ node has runs.
         ⊎_elim
         (λ kept.
-            let still_runs : kept.0.running ≡ true = sym (ap (λ (node : Node). node.running) kept.3) ∙ runs in
-            let still : StillRuns kept.0 = record { has = kept.1; apart = kept.2; runs = still_runs } in
-            let unchanged = set_unchanged basis end kept.0 kept.1 (running_is_free basis end kept.0 kept.1 still_runs) in
-            let same : node ≡ kept.0 = kept.3 ∙ ap (λ (set : Accesses). let made : Node = record kept.0 { set = set } in made) unchanged in
-            subst (λ node. is_unblocked app now.nodes node ≡ true) (sym same) (unblocked_after kept.0 still))
+        let still_runs : kept.0.running ≡ true = sym (ap (λ (node : Node). node.running) kept.3) ∙ runs in
+        let still : StillRuns kept.0 = record { has = kept.1; apart = kept.2; runs = still_runs } in
+        let unchanged = set_unchanged basis end kept.0 kept.1 (running_is_free basis end kept.0 kept.1 still_runs) in
+        let same : node ≡ kept.0 = kept.3 ∙ ap (λ (set : Accesses). let made : Node = record kept.0 { set = set } in made) unchanged in
+        subst (λ node. is_unblocked app now.nodes node ≡ true) (sym same) (unblocked_after kept.0 still))
         (λ fresh. absurd (true≢false (sym runs ∙ ap (λ (node : Node). node.running) fresh.2)))
         (basis.no_other old.nodes end.finished.node.id (renewals app (cells_given old.cells done.effect.bundle) old.nodes end.finished.node) (fresh_from app done.task.key 0 done.effect.children) now.nodes end.finished.nodes node has))
 

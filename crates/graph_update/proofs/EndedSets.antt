@@ -13,7 +13,7 @@ use Rattle.cell_store.specs.Cells.{cell_at, cell_in, cells_given, part_of}
 use Rattle.cell_store.specs.Home.{IsHome}
 use Rattle.cell_store.specs.Values.{AgreesWith, homes}
 use Rattle.kdg_graph.specs.declared.change.Fresh.{Fresh}
-use Rattle.kdg_graph.specs.Node.{Node, new_node}
+use Rattle.kdg_graph.specs.Node.{Node}
 use Rattle.kdg_graph.specs.Nodes.{tasks_of}
 use Rattle.kdg_graph.specs.Rewrite.{set_after}
 use Rattle.app_laws.specs.declared.app.SetAnswer.{SetAnswer}
@@ -96,9 +96,9 @@ module _ {V : Type 0} {app : Application V} (basis : FinishBasis app) where
             ⊎_elim
             (λ before. subst P (sym (set_changed basis end was has (ap is_lt before, is))) (changed (ap is_lt before, is) (app.walk was.task.body (cells_given old.cells done.effect.bundle)) (walked was has)))
             (λ after.
-                let none = runs_apart basis end was end.finished.node has (is_there basis end) (ended_node basis end).running after in
-                let both = basis.turned end.finished.node.set was.set ((basis.decided end.finished.node.set was.set).0 is) in
-                absurd (true≢false (sym ((basis.decided was.set end.finished.node.set).1 both) ∙ none)))
+            let none = runs_apart basis end was end.finished.node has (is_there basis end) (ended_node basis end).running after in
+            let both = basis.turned end.finished.node.set was.set ((basis.decided end.finished.node.set was.set).0 is) in
+            absurd (true≢false (sym ((basis.decided was.set end.finished.node.set).1 both) ∙ none)))
             (basis.connected end.finished.node.task.key was.task.key (λ same. apart (ap (λ (node : Node). node.id) (own_key basis end was end.finished.node has (is_there basis end) (sym same)))))
 
     covers_exact : (node : Node) → IsFitTask app node.task → node.set ≡ set_in app (app.act job.task values).cells node.task → Covers app now.cells (app.act job.task values).cells node
@@ -114,8 +114,10 @@ module _ {V : Type 0} {app : Application V} (basis : FinishBasis app) where
       where
         apart : AreIndependent end.finished.node.set was.set
         apart = (basis.independent end.finished.node.set was.set).0 (λ conflict. true≢false (sym ((basis.decided end.finished.node.set was.set).1 conflict) ∙ free))
+
         inside : loc < length old.cells
         inside = subst (λ n. loc < n) (sym (end.sound.whole.home.as_many ∙ basis.lawful.cells_are_counted values end.sound.ready.cells)) ((covers_of was has).in_range.below loc some)
+
         by_case : (written : Bool) → writes job.bundle.set loc ≡ written → IsHome (cell_at old.cells loc)
         by_case true is = absurd (true≢false (sym some ∙ ap is_some (apart.left_writes loc (subst (λ set. writes set loc ≡ true) (sym (ended_node basis end).job_set) is))))
         by_case false is = subst IsHome (cell_after basis end loc inside ∙ ap (λ test. if test then cell_in (part_of (homes (app.act job.task values).cells) job.bundle.set) loc else cell_at old.cells loc) is) home
@@ -182,10 +184,10 @@ module _ {V : Type 0} {app : Application V} (basis : FinishBasis app) where
         ⊎_elim
         (λ kept. subst (λ node. Covers app now.cells (app.act job.task values).cells node) (sym kept.3) (kept_covers kept.0 kept.1 kept.2))
         (λ fresh.
-            let fit : IsFitTask app node.task = all_at (IsFitTask app) (tasks_of now.nodes) node.task (ready_after basis end).tasks (in_map (λ node. node.task) now.nodes node has) in
-            let same_item : node.set ≡ fresh.0.set = ap (λ (node : Node). node.set) fresh.2 in
-            let same_task : node.task ≡ fresh.0.task = ap (λ (node : Node). node.task) fresh.2 in
-            covers_exact node fit (same_item ∙ item_set fresh.0 fresh.1 ∙ ap (λ task. set_in app (app.act job.task values).cells task) (sym same_task)))
+        let fit : IsFitTask app node.task = all_at (IsFitTask app) (tasks_of now.nodes) node.task (ready_after basis end).tasks (in_map (λ node. node.task) now.nodes node has) in
+        let same_item : node.set ≡ fresh.0.set = ap (λ (node : Node). node.set) fresh.2 in
+        let same_task : node.task ≡ fresh.0.task = ap (λ (node : Node). node.task) fresh.2 in
+        covers_exact node fit (same_item ∙ item_set fresh.0 fresh.1 ∙ ap (λ task. set_in app (app.act job.task values).cells task) (sym same_task)))
         (basis.no_other old.nodes end.finished.node.id (renewals app (cells_given old.cells done.effect.bundle) old.nodes end.finished.node) (fresh_from app done.task.key 0 done.effect.children) now.nodes end.finished.nodes node has))
 
   pub keeps_cover : FinishesKeepCover app

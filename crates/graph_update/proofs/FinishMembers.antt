@@ -28,11 +28,11 @@ pub all_from : {X : Type 0} (P : X → Type 0) (xs : List X) → ((x : X) → Co
 all_from P [] each = tt
 all_from P (x ∷ xs) each = (each x (here x xs), all_from P xs (λ y has. each y (there x y xs has)))
 
-
 -- what holds of each holds of one in the middle
 pub all_in_middle : {X : Type 0} (P : X → Type 0) (before : List X) (x : X) (after : List X) → AllByRecursion P (before ++ x ∷ after) → P x
 all_in_middle P [] x after all = all.0
 all_in_middle P (y ∷ before) x after all = all_in_middle P before x after all.1
+
 pub in_map : {X Y : Type 0} (f : X → Y) (xs : List X) (x : X) → Contains xs x → Contains (map f xs) (f x)
 in_map f [] x has = absurd (none x has)
 in_map {X} {Y} f (y ∷ xs) x has =

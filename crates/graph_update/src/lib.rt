@@ -7,7 +7,7 @@ mod job;
 
 pub use answers::{BeginFault, Claim, Counts, FinishFault, OverCause};
 pub use finish_laws::{
-    finish_cell_laws, finish_count_laws, finish_job_laws, finish_order_laws, finish_set_laws, finish_state_laws,
-    sound_finish_laws,
+    finish_cell_laws, finish_count_laws, finish_job_laws, finish_order_laws, finish_set_laws,
+    finish_state_laws, sound_finish_laws,
 };
 pub use job::{Done, Job};
