@@ -78,3 +78,12 @@ module _ {V : Type 0} (app : Application V) where
   abbrev pub WholeIsOne : Type 0
   WholeIsOne = (progress : Progress V) (jobs : List (Job V)) (values others : List V) →
       IsSound app progress jobs values → IsSound app progress jobs others → values ≡ others
+
+  -- a mark, a finish that is over the limit, and a drain change neither the jobs nor the whole cells
+  pub record MarksAndDrainsKeepSound : Type 0 where
+    pub marked_one : (progress : Progress V) (cause : OverCause) (jobs : List (Job V)) (values : List V) →
+        IsSound app progress jobs values → IsSound app (marked app progress cause) jobs values
+    pub over_limit : (progress : Progress V) (done : Done V) (jobs : List (Job V)) (values : List V) →
+        IsSound app progress jobs values → IsSound app (budget_marked app progress done) jobs values
+    pub drained_one : (progress : Progress V) (jobs : List (Job V)) (values : List V) →
+        IsSound app progress jobs values → IsSound app (drained app progress) jobs values

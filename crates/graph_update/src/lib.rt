@@ -3,6 +3,8 @@
 
 mod answers;
 mod job;
+mod laws;
 
 pub use answers::{BeginFault, Claim, Counts, FinishFault, OverCause};
 pub use job::{Done, Job};
+pub use laws::{drain_laws, whole_laws};

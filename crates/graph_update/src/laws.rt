@@ -1,0 +1,58 @@
+ghost use Rattle.graph_update.specs.Basis.{CellLaws, LowerLaws, Basis};
+ghost use Rattle.graph_update.specs.Laws.{MarksAndDrainsKeepSound, WholeIsOne};
+
+use app_laws::{App, lawful};
+use cell_store::{location_laws, value_laws};
+use commuting::standing_laws;
+use kdg_graph::{node_laws, put_laws};
+use output_log::part_laws;
+use rw_sets::{conflict_laws, independence_laws, within_laws};
+use task_order::{ascending_laws, earlier_laws, key_order, put_all_laws};
+
+/// What the crates below promise of keys, lists of tasks, sets, logs and nodes, as one.
+fn lower_laws()
+    ensures { LowerLaws }
+{
+    key_order();
+    earlier_laws();
+    ascending_laws();
+    put_all_laws();
+    conflict_laws();
+    independence_laws();
+    within_laws();
+    part_laws();
+    node_laws();
+    put_laws();
+}
+
+/// What they promise of cells.
+fn cell_laws<V>()
+    ensures { CellLaws V }
+{
+    location_laws::<V>();
+    value_laws::<V>();
+}
+
+/// Both, the laws of an application, and that its first tasks make a state that is ready.
+fn basis<A: App>()
+    ensures { (app : A) → Basis (A.meaning app) }
+{
+    lower_laws();
+    cell_laws::<A::Val>();
+    lawful::<A>();
+    standing_laws::<A>();
+}
+
+/// Marks and drains change neither the jobs nor the whole cells.
+pub fn drain_laws<A: App>()
+    ensures sound { (app : A) → MarksAndDrainsKeepSound (A.meaning app) }
+{
+    basis::<A>();
+}
+
+/// An execution and its jobs have one list of whole cells.
+pub fn whole_laws<A: App>()
+    ensures one { (app : A) → WholeIsOne (A.meaning app) }
+{
+    basis::<A>();
+}
