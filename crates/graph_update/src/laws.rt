@@ -1,5 +1,5 @@
 ghost use Rattle.graph_update.specs.Basis.{CellLaws, LowerLaws, Basis};
-ghost use Rattle.graph_update.specs.Laws.{MarksAndDrainsKeepSound, WholeIsOne};
+ghost use Rattle.graph_update.specs.Laws.{MarksAndDrainsKeepSound, RecordedSetsSuffice, SomeIsClear, WholeIsOne};
 
 use app_laws::{App, lawful};
 use cell_store::{location_laws, value_laws};
@@ -53,6 +53,15 @@ pub fn drain_laws<A: App>()
 /// An execution and its jobs have one list of whole cells.
 pub fn whole_laws<A: App>()
     ensures one { (app : A) → WholeIsOne (A.meaning app) }
+{
+    basis::<A>();
+}
+
+/// A clear node is a clear task, and so is a running one. While nothing is running some node is
+/// clear, unless none is there.
+pub fn clear_laws<A: App>()
+    ensures suffice { (app : A) → RecordedSetsSuffice (A.meaning app) }
+    ensures some { (app : A) → SomeIsClear (A.meaning app) }
 {
     basis::<A>();
 }
