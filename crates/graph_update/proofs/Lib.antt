@@ -1,3 +1,4 @@
+pub mod Beginnings
 pub mod ClearNodes
 pub mod Marks
 pub mod Members

@@ -20,7 +20,7 @@ use Rattle.graph_update.specs.Progress.{Progress}
 use Rattle.graph_update.specs.Sound.{KeysAndCounts, IsSound}
 use Rattle.graph_update.proofs.Members.{all_from, all_at, all-filter, pairwise-filter, length-part}
 
-no_entries_in_order : IsInKeyOrder []
+pub no_entries_in_order : IsInKeyOrder []
 unfolding IsStrictlySortedBy
 no_entries_in_order = tt
 

@@ -1,5 +1,5 @@
 ghost use Rattle.graph_update.specs.Basis.{CellLaws, LowerLaws, Basis};
-ghost use Rattle.graph_update.specs.Laws.{MarksAndDrainsKeepSound, RecordedSetsSuffice, SomeIsClear, WholeIsOne};
+ghost use Rattle.graph_update.specs.Laws.{BeginningsAreSound, MarksAndDrainsKeepSound, RecordedSetsSuffice, SomeIsClear, WholeIsOne};
 
 use app_laws::{App, lawful};
 use cell_store::{location_laws, value_laws};
@@ -62,6 +62,13 @@ pub fn whole_laws<A: App>()
 pub fn clear_laws<A: App>()
     ensures suffice { (app : A) → RecordedSetsSuffice (A.meaning app) }
     ensures some { (app : A) → SomeIsClear (A.meaning app) }
+{
+    basis::<A>();
+}
+
+/// What begins is sound, and nothing is running.
+pub fn begin_laws<A: App>()
+    ensures sound { (app : A) → BeginningsAreSound (A.meaning app) }
 {
     basis::<A>();
 }
