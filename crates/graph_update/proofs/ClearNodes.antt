@@ -52,7 +52,7 @@ all-tasks P nodes each = go nodes (all_from (λ (node : Node). P node.task) node
 
 module _ {V : Type 0} {app : Application V} (basis : Basis app) where
   -- where the test finds no conflict there is none
-  no_conflict : (set other : Accesses) → conflicts_with set other ≡ false → ¬ Conflicts set other
+  pub no_conflict : (set other : Accesses) → conflicts_with set other ≡ false → ¬ Conflicts set other
   no_conflict set other none conflict = true≢false (sym ((basis.lower.decided set other).1 conflict) ∙ none)
 
   -- what conflicts by the declared sets conflicts by the recorded ones

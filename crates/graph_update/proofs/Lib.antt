@@ -1,4 +1,6 @@
+pub mod Starting
 pub mod Beginnings
+pub mod Claims
 pub mod ClearNodes
 pub mod Marks
 pub mod Members

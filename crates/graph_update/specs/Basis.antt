@@ -13,6 +13,7 @@ pub record LowerLaws : Type 0 where
   pub exact : IsExactOrder
   pub irreflexive : tasks.EarlierIsIrreflexive
   pub transitive : tasks.EarlierIsTransitive
+  pub connected : tasks.EarlierIsConnected
   pub equal : tasks.EqualIsReflexive
   pub distinct : tasks.AscendingKeysAreDistinct
   pub put_all_length : tasks.PutAllAddsEach
@@ -22,6 +23,7 @@ pub record LowerLaws : Type 0 where
   pub independent : sets.IndependentWithoutConflict
   pub reflexive : sets.WithinIsReflexive
   pub parts_in_order : logs.PartsKeepOrder
+  pub have_ids : nodes.NodesHaveIds
   pub have_keys : nodes.NodesHaveKeys
   pub keys_find : nodes.KeysFindNodes
   pub starts_keep_tasks : nodes.StartsKeepTasks
@@ -34,6 +36,7 @@ pub record CellLaws (V : Type 0) : Type 0 where
   pub homes : cells.HomesByLocation V
   pub values : cells.HomesAreValues V
   pub agreement : cells.AgreementLasts V
+  pub changes : cells.ValueChanges V
 
 -- these, the laws of an application, and what holds of its first tasks
 pub record Basis {V : Type 0} (app : Application V) : Type 0 where

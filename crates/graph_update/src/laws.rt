@@ -1,5 +1,5 @@
 ghost use Rattle.graph_update.specs.Basis.{CellLaws, LowerLaws, Basis};
-ghost use Rattle.graph_update.specs.Laws.{BeginningsAreSound, MarksAndDrainsKeepSound, RecordedSetsSuffice, SomeIsClear, WholeIsOne};
+ghost use Rattle.graph_update.specs.Laws.{BeginningsAreSound, ClaimsKeepSound, MarksAndDrainsKeepSound, RecordedSetsSuffice, SomeIsClear, WholeIsOne};
 
 use app_laws::{App, lawful};
 use cell_store::{location_laws, value_laws};
@@ -69,6 +69,14 @@ pub fn clear_laws<A: App>()
 /// What begins is sound, and nothing is running.
 pub fn begin_laws<A: App>()
     ensures sound { (app : A) → BeginningsAreSound (A.meaning app) }
+{
+    basis::<A>();
+}
+
+/// Where a job is claimed, an execution stays sound with that job more, and its whole cells are the
+/// same.
+pub fn claim_laws<A: App>()
+    ensures sound { (app : A) → ClaimsKeepSound (A.meaning app) }
 {
     basis::<A>();
 }

@@ -7,4 +7,4 @@ mod laws;
 
 pub use answers::{BeginFault, Claim, Counts, FinishFault, OverCause};
 pub use job::{Done, Job};
-pub use laws::{begin_laws, clear_laws, drain_laws, whole_laws};
+pub use laws::{begin_laws, claim_laws, clear_laws, drain_laws, whole_laws};

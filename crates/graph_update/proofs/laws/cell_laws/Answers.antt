@@ -8,4 +8,5 @@ returns g c = record {
   homes = c.value_laws.ensures.homes;
   values = c.value_laws.ensures.values;
   agreement = c.value_laws.ensures.agreement;
+  changes = c.value_laws.ensures.changes;
 }
