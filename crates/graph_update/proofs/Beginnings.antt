@@ -1,17 +1,13 @@
 -- What begins is sound.
-use Rattle.std.proofs.Common.{◌≡◌, ◌≢◌, ℕ, suc, ◌+◌, ◌<◌, ◌≤◌, true, false, List, [], ◌∷◌, length, refl, sym, ap, subst, ◌∙◌, arith}
+use Rattle.std.proofs.Common.{◌≡◌, ◌≢◌, ℕ, suc, ◌≤◌, true, false, List, [], ◌∷◌, length, refl, sym, ap, subst, ◌∙◌, arith}
 use lib.ListN.{length-map}
-use Rattle.std.specs.Prelude.{IsTrue, Contains}
+use Rattle.std.specs.Prelude.{Contains}
 use Rattle.std.specs.List.{AllByRecursion}
 use Rattle.std.proofs.lemmas.Bool.{true≢false}
 use Rattle.task_order.specs.declared.start.Start.{Start}
 use Rattle.task_order.specs.declared.task.Task.{Task}
-use Rattle.task_order.specs.TaskList.{put_all}
 use Rattle.rw_sets.specs.Accesses.{IsWithin}
-use Rattle.cell_store.specs.declared.cell.Cell.TheVariants.{Home, Out}
-use Rattle.cell_store.specs.Cells.{cell_at}
 use Rattle.cell_store.specs.Home.{IsHome}
-use Rattle.cell_store.specs.Values.{homes}
 use Rattle.output_log.specs.Entries.{Entry, IsInKeyOrder}
 use Rattle.kdg_graph.specs.Node.{Node}
 use Rattle.kdg_graph.specs.Nodes.{tasks_of}

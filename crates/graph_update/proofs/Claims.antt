@@ -1,5 +1,5 @@
 -- A claim keeps an execution sound.
-use Rattle.std.proofs.Common.{◌≡◌, ◌≢◌, ◌↔◌, ◌⊎◌, inl, inr, ⊎_elim, ℕ, zero, suc, ◌+◌, ◌%◌, ◌<◌, ◌≤◌, ◌||◌, Bool, true, false, cond, List, [], ◌∷◌, Some, None, length, slice_get, is_some, refl, sym, ap, subst, ◌∙◌, arith}
+use Rattle.std.proofs.Common.{◌≡◌, ◌≢◌, ◌↔◌, inl, inr, ⊎_elim, ℕ, zero, suc, ◌<◌, ◌||◌, Bool, true, false, cond, List, [], ◌∷◌, Some, length, slice_get, is_some, refl, sym, ap, subst, ◌∙◌, arith}
 use lib.ListN.{length-map}
 use Rattle.std.specs.Prelude.{Contains, IsSome, IsTrue}
 use Rattle.std.specs.List.{AllByRecursion, list_any}
@@ -13,20 +13,19 @@ use Rattle.cell_store.specs.declared.cell.Cell.{Cell}
 use Rattle.cell_store.specs.declared.cell.Cell.TheVariants.{Home, Out}
 use Rattle.cell_store.specs.Cells.{AreHome, cell_at, cells_taken, part_of}
 use Rattle.cell_store.specs.Home.{IsHome}
-use Rattle.cell_store.specs.Values.{homes}
 use Rattle.output_log.specs.Entries.{Entry}
 use Rattle.kdg_graph.specs.Node.{Node}
-use Rattle.kdg_graph.specs.Nodes.{IsGraph, earlier_than, node_at, node_with_key, started, tasks_of}
+use Rattle.kdg_graph.specs.Nodes.{IsGraph, earlier_than, node_at, node_with_key, started}
 use Rattle.kdg_graph.specs.Edges.{is_blocked}
 use Rattle.app_laws.specs.Applications.{Application, IsInRange, set_in}
-use Rattle.app_laws.specs.Order.{Pairwise, is_prefix}
+use Rattle.app_laws.specs.Order.{is_prefix}
 use Rattle.commuting.specs.Clear.{IsReady}
 use Rattle.commuting.specs.States.{state_of}
 use Rattle.graph_update.specs.Basis.{Basis}
 use Rattle.graph_update.specs.declared.job.Job.{Job}
 use Rattle.graph_update.specs.Events.{is_clear, clear_nodes}
 use Rattle.graph_update.specs.Laws.{ClaimsKeepSound}
-use Rattle.graph_update.specs.Progress.{Progress, whole_state}
+use Rattle.graph_update.specs.Progress.{Progress}
 use Rattle.graph_update.specs.Sound.{Covers, HasJob, IsOfNode, IsSound, IsWhole, JobsMatch, KeysAndCounts, is_unblocked, is_written}
 use Rattle.graph_update.proofs.ClearNodes.{both_parts, false_where_not, no_conflict}
 use Rattle.graph_update.proofs.Members.{all_at, all_from, from_filter, from_map, here, in_filter, in_map, none_passes, there}
@@ -167,23 +166,26 @@ module _ {V : Type 0} {app : Application V} (basis : Basis app) (old : Progress 
   other_job job (was, found, fits) =
       let at = basis.lower.keys_find old.nodes job.task.key was found in
       let key = ap (λ (task : Task). task.key) (start_keeps_task node.id was) ∙ at.1 in
-      let there = in_map (start node.id) old.nodes was at.0 in
-      (start node.id was, ap (node_with_key now_nodes) (sym key) ∙ basis.lower.have_keys now_nodes (start node.id was) graph_now there, record {
-        task = start_keeps_task node.id was ∙ fits.task;
-        set = start_keeps_set node.id was ∙ fits.set;
-        running = start_keeps_running node.id was fits.running;
-      })
+      let there = in_map (start node.id) old.nodes was at.0 in (
+        start node.id was,
+        ap (node_with_key now_nodes) (sym key) ∙ basis.lower.have_keys now_nodes (start node.id was) graph_now there,
+        record {
+          task = start_keeps_task node.id was ∙ fits.task;
+          set = start_keeps_set node.id was ∙ fits.set;
+          running = start_keeps_running node.id was fits.running;
+        },
+      )
 
   has_job : (was : Node) → Contains old.nodes was → (start node.id was).running ≡ true → HasJob app (claimed ∷ jobs) (start node.id was)
   has_job was there running = elim (start_cases node.id was) [
     | inl same ↦
-      let task = start_keeps_task node.id was ∙ ap (λ (n : Node). n.task) (same_node was there same) in
-      ap (λ (task : Task). is_eq (key_cmp node.task.key task.key) || list_any (λ (job : Job V). is_eq (key_cmp job.task.key (start node.id was).task.key)) jobs) task
-      ∙ ap (λ order. is_eq order || list_any (λ (job : Job V). is_eq (key_cmp job.task.key (start node.id was).task.key)) jobs) (basis.lower.equal node.task.key)
+        let task = start_keeps_task node.id was ∙ ap (λ (n : Node). n.task) (same_node was there same) in
+        ap (λ (task : Task). is_eq (key_cmp node.task.key task.key) || list_any (λ (job : Job V). is_eq (key_cmp job.task.key (start node.id was).task.key)) jobs) task
+        ∙ ap (λ order. is_eq order || list_any (λ (job : Job V). is_eq (key_cmp job.task.key (start node.id was).task.key)) jobs) (basis.lower.equal node.task.key)
     | inr same ↦
-      let old_job = all_at (λ (n : Node). n.running ≡ true → HasJob app jobs n) old.nodes was sound.outs_match.all there (ap (λ (n : Node). n.running) (sym same) ∙ running) in
-      or_right (is_eq (key_cmp node.task.key (start node.id was).task.key)) (list_any (λ (job : Job V). is_eq (key_cmp job.task.key (start node.id was).task.key)) jobs)
-      (subst (HasJob app jobs) (sym same) old_job)
+        let old_job = all_at (λ (n : Node). n.running ≡ true → HasJob app jobs n) old.nodes was sound.outs_match.all there (ap (λ (n : Node). n.running) (sym same) ∙ running) in
+        or_right (is_eq (key_cmp node.task.key (start node.id was).task.key)) (list_any (λ (job : Job V). is_eq (key_cmp job.task.key (start node.id was).task.key)) jobs)
+        (subst (HasJob app jobs) (sym same) old_job)
   ]
 
   -- what holds of each node as it is now

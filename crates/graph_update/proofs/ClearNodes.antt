@@ -1,6 +1,6 @@
 -- Clear and running nodes are clear tasks, and the earliest node is clear while nothing is running.
-use Rattle.std.proofs.Common.{◌≡◌, ◌≢◌, inl, inr, ◌||◌, ◌&&◌, not, Bool, true, false, cond, List, [], ◌∷◌, map, refl, sym, ap, subst, ◌∙◌}
-use Rattle.std.specs.Prelude.{Contains, IsTrue}
+use Rattle.std.proofs.Common.{◌≡◌, ◌≢◌, ◌&&◌, not, Bool, true, false, cond, List, [], ◌∷◌, refl, sym, ap, subst, ◌∙◌}
+use Rattle.std.specs.Prelude.{Contains}
 use Rattle.std.specs.List.{AllByRecursion, filter, list_any}
 use Rattle.std.specs.declared.cmp.Ordering.{Ordering}
 use Rattle.std.specs.declared.cmp.Ordering.TheVariants.{Less, Equal, Greater}
@@ -123,7 +123,7 @@ module _ {V : Type 0} {app : Application V} (basis : Basis app) where
   head_is_clear nodes node others is idle unblocked empty =
       let clear : is_clear app nodes node ≡ true = and_from _ _ (ap not idle) unblocked in
       let first : clear_nodes app nodes ≡ cond (is_clear app nodes node) (node ∷ filter (is_clear app nodes) others) (filter (is_clear app nodes) others)
-          = ap (filter (is_clear app nodes)) is in
+      = ap (filter (is_clear app nodes)) is in
       let taken = first ∙ ap (λ test. cond test (node ∷ filter (is_clear app nodes) others) (filter (is_clear app nodes) others)) clear in
       let never : node ∷ filter (is_clear app nodes) others ≡ [] = sym taken ∙ empty in
       absurd (cons_is_not_nil never)

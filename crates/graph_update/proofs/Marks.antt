@@ -1,23 +1,22 @@
 -- A mark and a drain keep an execution sound.
-use Rattle.std.proofs.Common.{◌≡◌, ◌≢◌, ℕ, ◌≤◌, false, List, [], ◌∷◌, length, arith}
+use Rattle.std.proofs.Common.{◌≡◌, ◌≢◌, ◌≤◌, false, List, [], ◌∷◌, length, arith}
 use Rattle.std.specs.List.{AllByRecursion}
 use Rattle.std.specs.List.Sorted.{IsStrictlySortedBy}
 use Rattle.task_order.specs.declared.task.Task.{Task}
 use Rattle.task_order.specs.Key.{at_key}
-use Rattle.output_log.specs.Entries.{Entry, IsInKeyOrder, is_entry_before}
+use Rattle.output_log.specs.Entries.{Entry, IsInKeyOrder}
 use Rattle.kdg_graph.specs.Node.{Node}
 use Rattle.kdg_graph.specs.Nodes.{tasks_of}
 use Rattle.app_laws.specs.Applications.{Application}
 use Rattle.app_laws.specs.Order.{Pairwise, is_prefix}
-use Rattle.graph_update.specs.Basis.{LowerLaws, Basis}
+use Rattle.graph_update.specs.Basis.{Basis}
 use Rattle.graph_update.specs.declared.answers.OverCause.{OverCause}
 use Rattle.graph_update.specs.declared.answers.OverCause.TheVariants as cause
-use Rattle.graph_update.specs.declared.job.Done.{Done}
 use Rattle.graph_update.specs.declared.job.Job.{Job}
-use Rattle.graph_update.specs.Events.{marked, budget_marked, drained, undrainable}
+use Rattle.graph_update.specs.Events.{marked, drained, undrainable}
 use Rattle.graph_update.specs.Laws.{MarksAndDrainsKeepSound}
 use Rattle.graph_update.specs.Progress.{Progress}
-use Rattle.graph_update.specs.Sound.{KeysAndCounts, IsSound}
+use Rattle.graph_update.specs.Sound.{IsSound}
 use Rattle.graph_update.proofs.Members.{all_from, all_at, all-filter, pairwise-filter, length-part}
 
 pub no_entries_in_order : IsInKeyOrder []

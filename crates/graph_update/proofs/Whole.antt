@@ -1,8 +1,8 @@
 -- The whole cells are known by the cells that are home and by the bundles of the jobs.
-use Rattle.std.proofs.Common.{◌≡◌, ◌⊎◌, inl, inr, ℕ, ◌<◌, ◌||◌, Bool, true, false, List, [], ◌∷◌, Option, Some, None, length, refl, sym, ap, subst, ◌∙◌, arith}
+use Rattle.std.proofs.Common.{◌≡◌, ℕ, ◌<◌, ◌||◌, Bool, true, false, List, [], ◌∷◌, Option, Some, None, length, refl, sym, ap, subst, ◌∙◌, arith}
 use lib.ListN.{length-map}
 use Rattle.std.specs.Prelude.{IsSome, IsTrue}
-use Rattle.std.specs.List.{AllByRecursion, list_any}
+use Rattle.std.specs.List.{AllByRecursion}
 use Rattle.std.proofs.lemmas.Bool.{true≢false}
 use Rattle.rw_sets.specs.declared.access.Access.{Access}
 use Rattle.rw_sets.specs.Accesses.{Accesses, access_at, allows_write, writes}
@@ -15,7 +15,7 @@ use Rattle.app_laws.specs.Applications.{Application}
 use Rattle.graph_update.specs.Basis.{Basis}
 use Rattle.graph_update.specs.declared.job.Job.{Job}
 use Rattle.graph_update.specs.Laws.{WholeIsOne}
-use Rattle.graph_update.specs.Sound.{IsSound, IsWhole, is_written}
+use Rattle.graph_update.specs.Sound.{IsWhole, is_written}
 
 -- a set has what it writes
 pub has_written : (set : Accesses) (loc : ℕ) → IsTrue (writes set loc) → IsSome (access_at set loc)
@@ -62,5 +62,5 @@ module _ {V : Type 0} {app : Application V} (basis : Basis app) where
       let first = sound.whole.home.as_many in
       let second = other.whole.home.as_many in
       let same : homes values ≡ homes others = basis.cells.determine (homes values) (homes others) (omega (arith, many, as_many, first, second))
-          (λ loc inside. same_cell progress.cells jobs values others sound.whole other.whole loc (omega (arith, inside, many, first))) in
+      (λ loc inside. same_cell progress.cells jobs values others sound.whole other.whole loc (omega (arith, inside, many, first))) in
       sym (basis.cells.values.values_of_homes values) ∙ ap values_of same ∙ basis.cells.values.values_of_homes others

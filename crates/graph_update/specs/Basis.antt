@@ -1,5 +1,4 @@
 -- What the laws of this crate stand on.
-use Rattle.task_order.specs.Key.{IsExactOrder}
 use Rattle.task_order.specs.Laws as tasks
 use Rattle.rw_sets.specs.Laws as sets
 use Rattle.output_log.specs.Laws as logs
@@ -10,12 +9,10 @@ use Rattle.commuting.specs.Standing.{StartsAreReady}
 
 -- what the crates below promise of keys, lists of tasks, sets, logs and nodes
 pub record LowerLaws : Type 0 where
-  pub exact : IsExactOrder
   pub irreflexive : tasks.EarlierIsIrreflexive
   pub transitive : tasks.EarlierIsTransitive
   pub connected : tasks.EarlierIsConnected
   pub equal : tasks.EqualIsReflexive
-  pub distinct : tasks.AscendingKeysAreDistinct
   pub put_all_length : tasks.PutAllAddsEach
   pub turned : sets.ConflictsAreMutual
   pub grows : sets.ConflictsGrow
@@ -33,7 +30,6 @@ pub record CellLaws (V : Type 0) : Type 0 where
   pub determine : cells.LookupsDetermineCells V
   pub taken : cells.TakenByLocation V
   pub parts : cells.PartsByLocation V
-  pub homes : cells.HomesByLocation V
   pub values : cells.HomesAreValues V
   pub agreement : cells.AgreementLasts V
   pub changes : cells.ValueChanges V

@@ -7,15 +7,13 @@ use commuting::standing_laws;
 use kdg_graph::{node_laws, put_laws};
 use output_log::part_laws;
 use rw_sets::{conflict_laws, independence_laws, within_laws};
-use task_order::{ascending_laws, earlier_laws, key_order, put_all_laws};
+use task_order::{earlier_laws, put_all_laws};
 
 /// What the crates below promise of keys, lists of tasks, sets, logs and nodes, as one.
 fn lower_laws()
     ensures { LowerLaws }
 {
-    key_order();
     earlier_laws();
-    ascending_laws();
     put_all_laws();
     conflict_laws();
     independence_laws();

@@ -5,7 +5,6 @@ returns g c = record {
   determine = c.location_laws.ensures.determine_cells;
   taken = c.location_laws.ensures.taken;
   parts = c.location_laws.ensures.parts;
-  homes = c.value_laws.ensures.homes;
   values = c.value_laws.ensures.values;
   agreement = c.value_laws.ensures.agreement;
   changes = c.value_laws.ensures.changes;

@@ -2,12 +2,10 @@ use Rattle.graph_update.proofs.laws.lower_laws.Goals as goal
 
 pub returns : goal.returns
 returns c = record {
-  exact = c.key_order.ensures.exact;
   irreflexive = c.earlier_laws.ensures.irreflexive;
   transitive = c.earlier_laws.ensures.transitive;
   connected = c.earlier_laws.ensures.connected;
   equal = c.earlier_laws.ensures.equal;
-  distinct = c.ascending_laws.ensures.distinct;
   put_all_length = c.put_all_laws.ensures.length;
   turned = c.conflict_laws.ensures.«mutual»;
   grows = c.conflict_laws.ensures.grows;
