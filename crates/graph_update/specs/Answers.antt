@@ -4,7 +4,7 @@ use Rattle.std.specs.List.{AllByRecursion}
 use Rattle.task_order.specs.declared.start.Start.{Start}
 use Rattle.task_order.specs.TaskList.{put_all}
 use Rattle.cell_store.specs.declared.cell.Cell.TheVariants.{Home}
-use Rattle.kdg_graph.specs.Nodes.{tasks_of}
+use Rattle.kdg_graph.specs.Nodes.{IsGraph, tasks_of}
 use Rattle.app_laws.specs.Applications.{Application, set_in}
 use Rattle.app_laws.specs.Execution.{first_from}
 use Rattle.graph_update.specs.declared.answers.Claim.{Claim}
@@ -17,9 +17,10 @@ use Rattle.graph_update.specs.Events.{IsClaimed, clear_nodes, IsOverLimit, budge
 use Rattle.graph_update.specs.Progress.{Progress}
 
 module _ {V : Type 0} (app : Application V) where
-  -- at the beginning the first tasks are nodes with their declared sets, all cells are home, and nothing has happened
+  -- at the beginning the first tasks are nodes of a graph with their declared sets, all cells are home, and nothing has happened
   pub record IsBegun (cells : List V) (first : List Start) (budget : ℕ) (progress : Progress V) : Type 0 where
     pub cells_are : progress.cells ≡ map Home cells
+    pub graph : IsGraph progress.nodes
     pub tasks_are : tasks_of progress.nodes ≡ put_all (first_from 0 first) []
     pub sets_are : AllByRecursion (λ node. node.set ≡ set_in app cells node.task) progress.nodes
     pub none_runs : AllByRecursion (λ node. node.running ≡ false) progress.nodes

@@ -1,13 +1,15 @@
 -- What events keep, whatever order the tasks end in.
-use Rattle.std.specs.Prelude.{◌≡◌, ◌≢◌, ◌≤◌, ℕ, List, [], ◌∷◌, ◌++◌, length, None}
+use Rattle.std.specs.Prelude.{◌≡◌, ◌≢◌, ◌≤◌, ℕ, true, List, Contains, [], ◌∷◌, ◌++◌, length, None}
 use Rattle.task_order.specs.declared.start.Start.{Start}
+use Rattle.kdg_graph.specs.Node.{Node}
+use Rattle.commuting.specs.Clear.{IsClear}
 use Rattle.app_laws.specs.Applications.{Application, AreFitStarts, IsEffect}
 use Rattle.graph_update.specs.declared.answers.OverCause.{OverCause}
 use Rattle.graph_update.specs.declared.job.Done.{Done}
 use Rattle.graph_update.specs.declared.job.Job.{Job}
 use Rattle.graph_update.specs.Answers.{IsBegun}
-use Rattle.graph_update.specs.Events.{IsClaimed, IsFinished, IsOverLimit, clear_nodes, drained, marked, budget_marked}
-use Rattle.graph_update.specs.Progress.{Progress}
+use Rattle.graph_update.specs.Events.{IsClaimed, IsFinished, IsOverLimit, is_clear, clear_nodes, drained, marked, budget_marked}
+use Rattle.graph_update.specs.Progress.{Progress, whole_state}
 use Rattle.graph_update.specs.Sound.{IsSound}
 
 -- the execution and the jobs in hand
@@ -78,3 +80,19 @@ module _ {V : Type 0} (app : Application V) where
   abbrev pub WholeIsOne : Type 0
   WholeIsOne = (progress : Progress V) (jobs : List (Job V)) (values others : List V) →
       IsSound app progress jobs values → IsSound app progress jobs others → values ≡ others
+
+  -- a mark, a finish that is over the limit, and a drain change neither the jobs nor the whole cells
+  pub record MarksAndDrainsKeepSound : Type 0 where
+    pub marked_one : (progress : Progress V) (cause : OverCause) (jobs : List (Job V)) (values : List V) →
+        IsSound app progress jobs values → IsSound app (marked app progress cause) jobs values
+    pub over_limit : (progress : Progress V) (done : Done V) (jobs : List (Job V)) (values : List V) →
+        IsSound app progress jobs values → IsSound app (budget_marked app progress done) jobs values
+    pub drained_one : (progress : Progress V) (jobs : List (Job V)) (values : List V) →
+        IsSound app progress jobs values → IsSound app (drained app progress) jobs values
+
+  -- By the recorded sets, which have all of the declared ones, a clear or a running node is a clear task of the whole state.
+  pub record RecordedSetsSuffice : Type 0 where
+    pub clear : (progress : Progress V) (jobs : List (Job V)) (values : List V) (node : Node) → IsSound app progress jobs values →
+        Contains progress.nodes node → is_clear app progress.nodes node ≡ true → IsClear app (whole_state progress values) node.task
+    pub running : (progress : Progress V) (jobs : List (Job V)) (values : List V) (node : Node) → IsSound app progress jobs values →
+        Contains progress.nodes node → node.running ≡ true → IsClear app (whole_state progress values) node.task

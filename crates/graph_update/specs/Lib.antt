@@ -1,4 +1,5 @@
 pub mod Answers
+pub mod Basis
 pub mod Events
 pub mod FinishBasis
 pub mod Finishes

@@ -4,6 +4,7 @@
 mod answers;
 mod finish_laws;
 mod job;
+mod laws;
 
 pub use answers::{BeginFault, Claim, Counts, FinishFault, OverCause};
 pub use finish_laws::{
@@ -11,3 +12,4 @@ pub use finish_laws::{
     finish_state_laws, sound_finish_laws,
 };
 pub use job::{Done, Job};
+pub use laws::{begin_laws, claim_laws, clear_laws, drain_laws, whole_laws};

@@ -1,0 +1,80 @@
+ghost use Rattle.graph_update.specs.Basis.{CellLaws, LowerLaws, Basis};
+ghost use Rattle.graph_update.specs.Laws.{BeginningsAreSound, ClaimsKeepSound, MarksAndDrainsKeepSound, RecordedSetsSuffice, SomeIsClear, WholeIsOne};
+
+use app_laws::{App, lawful};
+use cell_store::{location_laws, value_laws};
+use commuting::standing_laws;
+use kdg_graph::{node_laws, put_laws};
+use output_log::part_laws;
+use rw_sets::{conflict_laws, independence_laws, within_laws};
+use task_order::{earlier_laws, put_all_laws};
+
+/// What the crates below promise of keys, lists of tasks, sets, logs and nodes, as one.
+fn lower_laws()
+    ensures { LowerLaws }
+{
+    earlier_laws();
+    put_all_laws();
+    conflict_laws();
+    independence_laws();
+    within_laws();
+    part_laws();
+    node_laws();
+    put_laws();
+}
+
+/// What they promise of cells.
+fn cell_laws<V>()
+    ensures { CellLaws V }
+{
+    location_laws::<V>();
+    value_laws::<V>();
+}
+
+/// Both, the laws of an application, and that its first tasks make a state that is ready.
+fn basis<A: App>()
+    ensures { (app : A) → Basis (A.meaning app) }
+{
+    lower_laws();
+    cell_laws::<A::Val>();
+    lawful::<A>();
+    standing_laws::<A>();
+}
+
+/// Marks and drains change neither the jobs nor the whole cells.
+pub fn drain_laws<A: App>()
+    ensures sound { (app : A) → MarksAndDrainsKeepSound (A.meaning app) }
+{
+    basis::<A>();
+}
+
+/// An execution and its jobs have one list of whole cells.
+pub fn whole_laws<A: App>()
+    ensures one { (app : A) → WholeIsOne (A.meaning app) }
+{
+    basis::<A>();
+}
+
+/// A clear node is a clear task, and so is a running one. While nothing is running some node is
+/// clear, unless none is there.
+pub fn clear_laws<A: App>()
+    ensures suffice { (app : A) → RecordedSetsSuffice (A.meaning app) }
+    ensures some { (app : A) → SomeIsClear (A.meaning app) }
+{
+    basis::<A>();
+}
+
+/// What begins is sound, and nothing is running.
+pub fn begin_laws<A: App>()
+    ensures sound { (app : A) → BeginningsAreSound (A.meaning app) }
+{
+    basis::<A>();
+}
+
+/// Where a job is claimed, an execution stays sound with that job more, and its whole cells are the
+/// same.
+pub fn claim_laws<A: App>()
+    ensures sound { (app : A) → ClaimsKeepSound (A.meaning app) }
+{
+    basis::<A>();
+}
