@@ -1,6 +1,7 @@
 ghost use Rattle.graph_update.specs.Basis.{CellLaws, LowerLaws, Basis};
-ghost use Rattle.graph_update.specs.Laws.{BeginningsAreSound, ClaimsKeepSound, MarksAndDrainsKeepSound, RecordedSetsSuffice, SomeIsClear, WholeIsOne};
+ghost use Rattle.graph_update.specs.Laws.{BeginningsAreSound, ClaimsKeepSound, EventsKeepSound, MarksAndDrainsKeepSound, RecordedSetsSuffice, SomeIsClear, WholeIsOne};
 
+use crate::finish_laws::sound_finish_laws;
 use app_laws::{App, lawful};
 use cell_store::{location_laws, value_laws};
 use commuting::standing_laws;
@@ -77,4 +78,12 @@ pub fn claim_laws<A: App>()
     ensures sound { (app : A) → ClaimsKeepSound (A.meaning app) }
 {
     basis::<A>();
+}
+
+/// Whatever happens, and in whatever order tasks end, an execution stays sound.
+pub fn event_laws<A: App>()
+    ensures sound { (app : A) → EventsKeepSound (A.meaning app) }
+{
+    basis::<A>();
+    sound_finish_laws::<A>();
 }

@@ -12,4 +12,4 @@ pub use finish_laws::{
     finish_state_laws, sound_finish_laws,
 };
 pub use job::{Done, Job};
-pub use laws::{begin_laws, claim_laws, clear_laws, drain_laws, whole_laws};
+pub use laws::{begin_laws, claim_laws, clear_laws, drain_laws, event_laws, whole_laws};
