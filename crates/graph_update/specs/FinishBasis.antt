@@ -19,12 +19,10 @@ pub record FinishBasis {V : Type 0} (app : Application V) : Type 0 where
   pub keys_find : graph.KeysFindNodes
   pub ids_find : graph.IdsFindNodes
   pub keeps : graph.RewritesKeepNodes
-  pub adds : graph.RewritesAddNodes
   pub no_other : graph.RewritesAddNoOther
   pub replaces : graph.RewritesReplaceTasks
   pub exact : IsExactOrder
   pub connected : tasks.EarlierIsConnected
-  pub distinct : tasks.AscendingKeysAreDistinct
   pub adds_each : tasks.PutAllAddsEach
   pub put_without : tasks.PutRestoresWithout
   pub puts_add_one : tasks.PutsAddOne
@@ -48,7 +46,6 @@ pub record FinishBasis {V : Type 0} (app : Application V) : Type 0 where
   pub given : cells.GivenByLocation V
   pub parts : cells.PartsByLocation V
   pub giving_forgets : cells.GivingForgetsTaking V
-  pub homes : cells.HomesByLocation V
   pub all_homes : cells.HomesAreValues V
   pub agreement : cells.AgreementLasts V
   pub changes : cells.ValueChanges V

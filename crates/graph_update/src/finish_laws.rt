@@ -9,7 +9,7 @@ use kdg_graph::{node_laws, rewrite_laws};
 use output_log::{part_laws, put_laws};
 use rw_sets::{conflict_laws, independence_laws, merge_laws, within_laws};
 use task_order::{
-    ascending_laws, earlier_laws, key_order, put_all_laws, put_in_laws, without_laws,
+    earlier_laws, key_order, put_all_laws, put_in_laws, without_laws,
 };
 
 /// What the crates below promise of what a task's end changes, as one.
@@ -24,7 +24,6 @@ fn basis<A: App>()
     rewrite_laws();
     key_order();
     earlier_laws();
-    ascending_laws();
     put_in_laws();
     put_all_laws();
     without_laws();
