@@ -8,9 +8,7 @@ use commuting::{clear_tasks_stay_clear, independent_tasks_commute};
 use kdg_graph::{node_laws, rewrite_laws};
 use output_log::{part_laws, put_laws};
 use rw_sets::{conflict_laws, independence_laws, merge_laws, within_laws};
-use task_order::{
-    earlier_laws, key_order, put_all_laws, put_in_laws, without_laws,
-};
+use task_order::{earlier_laws, key_order, put_all_laws, put_in_laws, without_laws};
 
 /// What the crates below promise of what a task's end changes, as one.
 fn basis<A: App>()
