@@ -23,7 +23,7 @@ use Rattle.logic_sim.specs.Gate.{bit_of}
 use Rattle.logic_sim.specs.Wiring.{fan_in_of, gates_of, inputs_of, is_among, is_gate, readers_of, reads, signal_at}
 
 -- a fact that holds of both values of a choice
-either : {X : Type 0} (P : X → Type 0) (b : Bool) (x y : X) → P x → P y → P (if b then x else y)
+pub either : {X : Type 0} (P : X → Type 0) (b : Bool) (x y : X) → P x → P y → P (if b then x else y)
 either P true x y p q = p
 either P false x y p q = q
 
@@ -41,7 +41,7 @@ all_mapped : {X : Type 0} (P : X → Type 0) (f : ℕ → X) (zs : List ℕ) →
 all_mapped P f [] all = tt
 all_mapped P f (z ∷ zs) all = (all.0, all_mapped P f zs all.1)
 
-each_one : {X : Type 0} (P : X → Type 0) (f : ℕ → X) (zs : List ℕ) → ((z : ℕ) → P (f z)) → AllByRecursion P (map f zs)
+pub each_one : {X : Type 0} (P : X → Type 0) (f : ℕ → X) (zs : List ℕ) → ((z : ℕ) → P (f z)) → AllByRecursion P (map f zs)
 each_one P f [] each = tt
 each_one P f (z ∷ zs) each = (each z, each_one P f zs each)
 

@@ -4,3 +4,5 @@ pub mod Event
 pub mod Circuit
 pub mod Tables
 pub mod Laws
+pub mod Meaning
+pub mod Lawful
