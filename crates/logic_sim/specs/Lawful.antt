@@ -261,11 +261,11 @@ module _ (c : Simulation) where
       IsSameOutcome (simulation c) (set_for c.deck task.body.kind task.body.at) ((simulation c).act task cells) ((simulation c).act task others)
   act_of-alike task cells others fit fit-others (inl change) =
       subst (λ (kind : ℕ). AgreeOn (set_for c.deck kind task.body.at) cells others →
-          IsSameOutcome (simulation c) (set_for c.deck kind task.body.at) (event_of c kind (time_of task.key.prio) task.body.at task.body.arg cells) (event_of c kind (time_of task.key.prio) task.body.at task.body.arg others)) (sym change.kind)
+      IsSameOutcome (simulation c) (set_for c.deck kind task.body.at) (event_of c kind (time_of task.key.prio) task.body.at task.body.arg cells) (event_of c kind (time_of task.key.prio) task.body.at task.body.arg others)) (sym change.kind)
       (change_of-alike (time_of task.key.prio) task.body.at task.body.arg cells others fit fit-others change.at_signal)
   act_of-alike task cells others fit fit-others (inr eval) =
       subst (λ (kind : ℕ). AgreeOn (set_for c.deck kind task.body.at) cells others →
-          IsSameOutcome (simulation c) (set_for c.deck kind task.body.at) (event_of c kind (time_of task.key.prio) task.body.at task.body.arg cells) (event_of c kind (time_of task.key.prio) task.body.at task.body.arg others)) (sym eval.kind)
+      IsSameOutcome (simulation c) (set_for c.deck kind task.body.at) (event_of c kind (time_of task.key.prio) task.body.at task.body.arg cells) (event_of c kind (time_of task.key.prio) task.body.at task.body.arg others)) (sym eval.kind)
       (eval_of-alike (time_of task.key.prio) task.body.at cells others fit fit-others eval.in_range)
 
   pub acts_are_local : ActsAreLocal (simulation c)

@@ -5,6 +5,8 @@
 mod circuit;
 mod event;
 mod gate;
+mod laws;
 mod tables;
 
 pub use circuit::Circuit;
+pub use laws::circuit_laws;
