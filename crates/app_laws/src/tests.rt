@@ -82,8 +82,8 @@ fn starts(alloc: Global, first: &[Start]) -> Result<StartList, NoRoom>
     Ok(list)
 }
 
-// A child at its parent's priority comes before the next first task, and the late child of `a`
-// before that of `b`, which was created earlier.
+/// A child at its parent's priority comes before the next first task, and the late child of `a`
+/// before that of `b`, which was created earlier.
 #[test]
 fn tasks_run_in_key_order(rt: HostRuntime) -> Result<(), Fail> {
     let tied = [letter(5, 0, 0, 1), letter(5, 1, 1, 0)];

@@ -9,7 +9,7 @@ use crate::few_cells::{FEW, FewCells};
 use kdg_text::NoRoom;
 use std::alloc::Global;
 
-// Cells in the order of a set: in place while they are few, so that a small bundle takes no memory.
+/// Cells in the order of a set: in place while they are few, so that a small bundle takes no memory.
 #[derive(Drop)]
 pub(crate) enum CellList<V> {
     InPlace(FewCells<V>),
@@ -39,7 +39,7 @@ impl<V> CellList<V> {
     }
 }
 
-// So many cells, all out.
+/// So many cells, all out.
 pub(crate) fn cells_out<V: Drop>(alloc: Global, len: usize) -> Result<CellList<V>, NoRoom>
     ensures { IfOk result (λ cells. cells_of cells ≡ replicate len Out) }
 {

@@ -2,10 +2,10 @@ ghost use Rattle.std.specs.Prelude.{◌≤◌};
 
 use crate::cell::Cell;
 
-// How many cells stand in place at most.
+/// How many cells stand in place at most.
 pub(crate) const FEW: usize = 4;
 
-// Up to four cells in place, which take no memory.
+/// Up to four cells in place, which take no memory.
 #[derive(Drop)]
 pub(crate) struct FewCells<V> {
     first: Cell<V>,
@@ -23,7 +23,7 @@ impl<V> FewCells<V> {
     ghost use Rattle.cell_store.specs.Storage.{cells_in};
     ghost use Rattle.cell_store.specs.StorageLends.{LendsFewCell};
 
-    // So many cells, all out.
+    /// So many cells, all out.
     pub(crate) fn outs(len: usize) -> FewCells<V>
         requires { len ≤ 4 }
         ensures { cells_in result ≡ replicate len Out }

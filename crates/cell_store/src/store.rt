@@ -115,7 +115,7 @@ impl<V: Held> Store<V> {
         Bundle { set, cells }
     }
 
-    // Exchanges the cells that a set writes with those that are held in the order of the set.
+    /// Exchanges the cells that a set writes with those that are held in the order of the set.
     fn exchange(&mut self, set: &[(u32, Access)], held: &mut CellList<V>)
         requires ascending { IsAscending set.now }
         requires one_each { length (cells_of held.old) ≡ length set.now }
@@ -127,7 +127,7 @@ impl<V: Held> Store<V> {
     }
 }
 
-// A copy of each cell of a set that it only reads, and an empty cell for each that it writes.
+/// A copy of each cell of a set that it only reads, and an empty cell for each that it writes.
 fn read_copies<V: Held>(cells: &Vec<Cell<V>>, set: &[(u32, Access)]) -> Result<CellList<V>, NoRoom>
     requires { AreHome cells.now.items set.now }
     ensures { IfOk result (λ copies. cells_of copies ≡ map (read_copy cells.now.items) set.now) }

@@ -19,7 +19,7 @@ fn write_first_read_second(alloc: Global) -> Result<RwSet, NoRoom>
     Ok(set)
 }
 
-// A store of 10, 20 and 30 from which the first value was moved out and the second copied.
+/// A store of 10, 20 and 30 from which the first value was moved out and the second copied.
 fn taken(alloc: Global) -> Result<(Store<u64>, Bundle<u64>), NoRoom>
     ensures store { IfOk result (λ pair. pair.0 ≡ Out ∷ Home 20 ∷ Home 30 ∷ []) }
     ensures bundle { IfOk result (λ pair. pair.1 ≡ record { set = (0, Write) ∷ (1, Read) ∷ []; cells = Home 10 ∷ Home 20 ∷ [] }) }
@@ -55,7 +55,7 @@ fn gives_and_regains(rt: HostRuntime) -> Result<(), Fail> {
     Ok(())
 }
 
-// Takes a set and gives it back with another value at one location.
+/// Takes a set and gives it back with another value at one location.
 fn rewrite<V: Held>(store: &mut Store<V>, set: RwSet, loc: u32, value: V) -> Result<(), NoRoom>
     requires home { AreHome store.old set }
     requires writes { IsTrue (writes set loc) }
@@ -86,7 +86,7 @@ fn crosses<T: Send>(value: T) -> T {
 
 fn is_shared<T: Sync>(_: &T) {}
 
-// Where the values may cross threads, so may all that holds them.
+/// Where the values may cross threads, so may all that holds them.
 fn all_cross<V: Held + Sync>(store: Store<V>, bundle: Bundle<V>, shell: Shell<V>) {
     is_shared(&store);
     is_shared(&bundle);

@@ -57,8 +57,8 @@ fn contact_of(store: &Store<u64>, person: u32) -> Option<u64> {
     }
 }
 
-// Guests are introduced as their hosts know them by then: the third and the fourth meeting find
-// other guests than before the first.
+/// Guests are introduced as their hosts know them by then: the third and the fourth meeting find
+/// other guests than before the first.
 #[test]
 fn meetings_run_in_key_order(rt: HostRuntime) -> Result<(), Fail> {
     let finals = run(rt.alloc(), 5)?;

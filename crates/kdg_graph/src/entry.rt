@@ -3,7 +3,7 @@ use rw_sets::RwSet;
 use std::marker::Model;
 use task_order::Task;
 
-// A node as the list of nodes keeps it.
+/// A node as the list of nodes keeps it.
 #[derive(Drop)]
 pub(crate) struct Entry {
     pub(crate) id: NodeId,

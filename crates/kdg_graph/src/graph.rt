@@ -187,7 +187,7 @@ impl Graph {
         &self.tasks
     }
 
-    // A node as it is kept.
+    /// A node as it is kept.
     fn entry(&self, node: NodeId) -> &Entry
         requires { HasNode self.now node }
         ensures { node_at self.now node ≡ Some result.now }

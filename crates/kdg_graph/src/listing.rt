@@ -7,7 +7,7 @@ use crate::Fresh;
 use kdg_text::NoRoom;
 use task_order::{Task, TaskList, put_all_laws, put_in_laws, without_laws};
 
-// Puts a copy of each fresh task into a list. After `NoRoom` the list is as it was.
+/// Puts a copy of each fresh task into a list. After `NoRoom` the list is as it was.
 pub(crate) fn list_all(tasks: &mut TaskList, fresh: &[Fresh]) -> Result<(), NoRoom>
     requires { HaveNewKeys tasks.old fresh.now }
     ensures ok { OnOk result (tasks.new ≡ put_all (fresh_tasks fresh.now) tasks.old) }
@@ -25,7 +25,7 @@ pub(crate) fn list_all(tasks: &mut TaskList, fresh: &[Fresh]) -> Result<(), NoRo
     Ok(())
 }
 
-// Puts a copy of a task into a list. After `NoRoom` the list is as it was.
+/// Puts a copy of a task into a list. After `NoRoom` the list is as it was.
 fn list(tasks: &mut TaskList, task: &Task) -> Result<(), NoRoom>
     requires { IsNewKey task.now.key tasks.old }
     ensures ok { OnOk result (tasks.new ≡ put_in task.now tasks.old) }
@@ -37,7 +37,7 @@ fn list(tasks: &mut TaskList, task: &Task) -> Result<(), NoRoom>
     }
 }
 
-// Takes the fresh tasks out of a list again.
+/// Takes the fresh tasks out of a list again.
 fn unlist(tasks: &mut TaskList, fresh: &[Fresh])
     ensures { tasks.new ≡ tasks_without fresh.now tasks.old }
 {

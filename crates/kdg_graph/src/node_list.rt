@@ -15,7 +15,7 @@ use std::alloc::Global;
 use std::marker::Model;
 use task_order::{Key, Task, put_in_laws};
 
-// The nodes of a graph in key order, and the numbers of ids that are free again.
+/// The nodes of a graph in key order, and the numbers of ids that are free again.
 #[derive(Drop)]
 pub(crate) struct NodeList {
     entries: Vec<Entry>,
@@ -34,7 +34,7 @@ impl Model for NodeList {
 }
 
 impl NodeList {
-    // No node, which takes no memory.
+    /// No node, which takes no memory.
     pub(crate) fn new(alloc: Global) -> NodeList
         ensures { result.nodes ≡ [] }
     {
@@ -44,7 +44,7 @@ impl NodeList {
         }
     }
 
-    // The nodes, in key order.
+    /// The nodes, in key order.
     pub(crate) fn entries(&self) -> &[Entry]
         ensures all { result.now ≡ self.now.nodes }
         ensures graph { IsGraph self.now.nodes }
@@ -52,7 +52,7 @@ impl NodeList {
         &self.entries
     }
 
-    // Makes room for so many more nodes.
+    /// Makes room for so many more nodes.
     pub(crate) fn reserve(&mut self, additional: usize) -> Result<(), NoRoom>
         ensures places { OnOk result (additional ≤ self.new.places) }
         ensures numbers { OnOk result (additional ≤ self.new.numbers) }
@@ -64,7 +64,7 @@ impl NodeList {
         Ok(())
     }
 
-    // Puts a node at its place, where `reserve` made room. It takes no memory.
+    /// Puts a node at its place, where `reserve` made room. It takes no memory.
     pub(crate) fn put(&mut self, task: Task, set: RwSet) -> NodeId
         requires places { 0 < self.old.places }
         requires numbers { 0 < self.old.numbers }
@@ -94,7 +94,7 @@ impl NodeList {
         }
     }
 
-    // Takes a node out and gives its task. It takes no memory.
+    /// Takes a node out and gives its task. It takes no memory.
     pub(crate) fn remove(&mut self, id: NodeId) -> Task
         requires { HasNode self.old.nodes id }
         ensures task { task_at self.old.nodes id ≡ Some result }
@@ -111,7 +111,7 @@ impl NodeList {
         }
     }
 
-    // Replaces the set of a node.
+    /// Replaces the set of a node.
     pub(crate) fn set_set(&mut self, id: NodeId, set: RwSet)
         requires { HasNode self.old.nodes id }
         ensures nodes { self.new.nodes ≡ with_sets (record { node = id; set = set } ∷ []) self.old.nodes }
@@ -125,7 +125,7 @@ impl NodeList {
         named.set = set;
     }
 
-    // Replaces the sets that are named.
+    /// Replaces the sets that are named.
     pub(crate) fn set_sets(&mut self, changes: Vec<SetChange>)
         requires there { AllByRecursion (λ change. HasNode self.old.nodes change.node) changes.items }
         requires own { AreOfOwnNodes changes.items }
@@ -140,7 +140,7 @@ impl NodeList {
         }
     }
 
-    // Puts the fresh nodes in, where `reserve` made room. It takes no memory.
+    /// Puts the fresh nodes in, where `reserve` made room. It takes no memory.
     pub(crate) fn put_all(&mut self, fresh: Vec<Fresh>)
         requires places { length fresh.items ≤ self.old.places }
         requires numbers { length fresh.items ≤ self.old.numbers }
@@ -154,7 +154,7 @@ impl NodeList {
         }
     }
 
-    // Marks a node as running.
+    /// Marks a node as running.
     pub(crate) fn mark_running(&mut self, id: NodeId)
         requires { HasNode self.old.nodes id }
         ensures nodes { self.new.nodes ≡ started id self.old.nodes }
@@ -166,7 +166,7 @@ impl NodeList {
     }
 }
 
-// The place of a node in the list.
+/// The place of a node in the list.
 pub(crate) fn place_of(entries: &[Entry], id: NodeId) -> usize
     requires { HasNode entries.now id }
     ensures place { IsPlaceOf id entries.now result }
@@ -175,7 +175,7 @@ pub(crate) fn place_of(entries: &[Entry], id: NodeId) -> usize
     position_of(entries, id).unwrap()
 }
 
-// The id of the node whose task has the key.
+/// The id of the node whose task has the key.
 pub(crate) fn id_with_key(entries: &[Entry], key: &Key) -> Option<NodeId>
     ensures { result ≡ option_map (λ node. node.id) (node_with_key entries.now key.now) }
 {
@@ -184,7 +184,7 @@ pub(crate) fn id_with_key(entries: &[Entry], key: &Key) -> Option<NodeId>
     found.map(|entry| entry.id)
 }
 
-// The place of the first node with an id.
+/// The place of the first node with an id.
 fn position_of(entries: &[Entry], id: NodeId) -> Option<usize>
     ensures { result ≡ position (is_at id) entries.now }
 {

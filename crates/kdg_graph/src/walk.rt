@@ -33,7 +33,7 @@ impl<'g> Model for Sources<'g> {
 }
 
 impl<'g> Sources<'g> {
-    // The sources among the nodes of a graph.
+    /// The sources among the nodes of a graph.
     pub(crate) fn of(nodes: &'g [Entry]) -> Sources<'g>
         requires { IsAscending (tasks_of nodes.now) }
         ensures { result ≡ sources_of nodes.now }
@@ -62,14 +62,14 @@ impl<'g> Iterator for Sources<'g> {
     }
 }
 
-// Whether a node is a source, given the earlier nodes.
+/// Whether a node is a source, given the earlier nodes.
 fn can_start(node: &Entry, earlier: &[Entry]) -> bool
     ensures { result ≡ (not node.now.running && not (list_any (λ other. conflicts_with other.set node.now.set) earlier.now)) }
 {
     !node.running && !any_conflicts(earlier, &node.set)
 }
 
-// Whether the set of some of the nodes conflicts with a set.
+/// Whether the set of some of the nodes conflicts with a set.
 fn any_conflicts(nodes: &[Entry], set: &RwSet) -> bool
     ensures { result ≡ list_any (λ node. conflicts_with node.set set.now) nodes.now }
 {
@@ -96,7 +96,7 @@ impl<'g> Model for Laters<'g> {
 }
 
 impl<'g> Laters<'g> {
-    // Those of a node, among the nodes behind it.
+    /// Those of a node, among the nodes behind it.
     pub(crate) fn of(node: &'g Entry, later: &'g [Entry]) -> Laters<'g>
         ensures { result ≡ ids_of (filter (λ other. conflicts_with node.now.set other.set) later.now) }
     {

@@ -123,7 +123,7 @@ impl Log {
         self.first_texts(self.entries.len())
     }
 
-    // The place of an entry of the key, which usually is later than all.
+    /// The place of an entry of the key, which usually is later than all.
     fn place_of(&self, key: &Key) -> usize
         ensures place { result ≡ length (entries_before (at_key key.now) self.now.entries) }
         ensures bound { result ≤ length self.now.entries }
@@ -135,7 +135,7 @@ impl Log {
         }
     }
 
-    // Takes so many entries from the first on out, and joins their texts.
+    /// Takes so many entries from the first on out, and joins their texts.
     fn take_first(&mut self, count: usize) -> Result<Text, NoRoom>
         requires { count ≤ length self.old.entries }
         ensures text { IfOk result (λ text. text ≡ joined_texts (take count self.old.entries)) }
@@ -148,7 +148,7 @@ impl Log {
         Ok(text)
     }
 
-    // The texts of so many entries from the first on, joined.
+    /// The texts of so many entries from the first on, joined.
     fn first_texts(&self, count: usize) -> Result<Text, NoRoom>
         requires { count ≤ length self.now.entries }
         ensures { IfOk result (λ text. text ≡ joined_texts (take count self.now.entries)) }

@@ -21,7 +21,7 @@ impl Access {
         }
     }
 
-    // Write where either is Write.
+    /// Write where either is Write.
     pub(crate) fn stronger(self, other: Access) -> Access
         ensures { result ≡ stronger self other }
     {
@@ -31,7 +31,7 @@ impl Access {
         }
     }
 
-    // Whether at least one of the two is Write, so that they cannot go side by side.
+    /// Whether at least one of the two is Write, so that they cannot go side by side.
     pub(crate) fn excludes(self, other: Access) -> bool
         ensures { result ≡ excludes self other }
     {

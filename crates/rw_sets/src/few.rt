@@ -2,7 +2,7 @@ ghost use Rattle.std.specs.Prelude.{◌≡◌, ◌≤◌, length};
 
 use crate::Access;
 
-// Up to four pairs in place, which take no memory.
+/// Up to four pairs in place, which take no memory.
 #[derive(Clone, Copy, Debug, Drop)]
 pub(crate) struct Few {
     pairs: [(u32, Access); Few::ROOM],

@@ -7,7 +7,7 @@ use crate::few::Few;
 use kdg_text::NoRoom;
 use std::alloc::Global;
 
-// A list of pairs: in place while it is short, so that a small set takes no memory.
+/// A list of pairs: in place while it is short, so that a small set takes no memory.
 #[derive(Debug, Drop)]
 pub(crate) enum Pairs {
     InPlace(Few),
@@ -21,7 +21,7 @@ impl Pairs {
         Pairs::InPlace(Few::new())
     }
 
-    // An empty list with room for so many pairs.
+    /// An empty list with room for so many pairs.
     pub(crate) fn with_room(alloc: Global, room: usize) -> Result<Pairs, NoRoom>
         ensures { IfOk result (λ pairs. pairs_of pairs ≡ []) }
     {
@@ -31,7 +31,7 @@ impl Pairs {
         Ok(Pairs::InMemory(Vec::with_capacity(alloc, room)?))
     }
 
-    // The list that a vector has, which stands in place where it is short.
+    /// The list that a vector has, which stands in place where it is short.
     pub(crate) fn from_vec(pairs: Vec<(u32, Access)>) -> Pairs
         ensures { pairs_of result ≡ pairs.items }
     {
@@ -69,7 +69,7 @@ impl Pairs {
         }
     }
 
-    // After `NoRoom` the list is as it was.
+    /// After `NoRoom` the list is as it was.
     pub(crate) fn insert(
         &mut self,
         alloc: Global,

@@ -133,7 +133,7 @@ impl RwSet {
         Ok(RwSet { pairs, alloc })
     }
 
-    // Where the location is, or where it would go: at once at the end, else by halving.
+    /// Where the location is, or where it would go: at once at the end, else by halving.
     fn place_of(&self, loc: u32) -> Result<usize, usize>
         ensures found { IfOk result (IsAt self.now loc) }
         ensures absent { IfErr result (IsGapFor self.now loc) }

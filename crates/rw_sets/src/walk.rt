@@ -9,7 +9,7 @@ use kdg_text::NoRoom;
 use std::alloc::Global;
 use std::cmp::Ordering;
 
-// Whether two sets conflict, in one walk over both.
+/// Whether two sets conflict, in one walk over both.
 pub(crate) fn pairs_conflict(a: &[(u32, Access)], b: &[(u32, Access)]) -> bool
     requires a_ascends { IsAscending a.now }
     requires b_ascends { IsAscending b.now }
@@ -30,7 +30,7 @@ pub(crate) fn pairs_conflict(a: &[(u32, Access)], b: &[(u32, Access)]) -> bool
     false
 }
 
-// The merge of two sets, in one walk over both.
+/// The merge of two sets, in one walk over both.
 pub(crate) fn merge_pairs(
     alloc: Global,
     a: &[(u32, Access)],
@@ -64,7 +64,7 @@ pub(crate) fn merge_pairs(
     Ok(pairs)
 }
 
-// Joins the accesses to each location, where pairs of one location are neighbours.
+/// Joins the accesses to each location, where pairs of one location are neighbours.
 pub(crate) fn join_repeats(pairs: &mut Vec<(u32, Access)>)
     requires sorted { IsNonDecreasingBy (λ pair. pair.0) pairs.old.items }
     ensures { pairs.new.items ≡ merged [] pairs.old.items }
