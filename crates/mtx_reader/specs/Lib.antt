@@ -1,0 +1,7 @@
+pub mod Ascending
+pub mod Faults
+pub mod LineForms
+pub mod Places
+pub mod Patterns
+pub mod Grammar
+pub mod Readings

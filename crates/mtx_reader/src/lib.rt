@@ -1,0 +1,14 @@
+//! Reads patterns of matrices in the Matrix Market format, as it is used for sparse matrices.
+#![tactic(auto)]
+
+mod banner;
+mod faults;
+mod line_form;
+mod pattern;
+mod reader;
+
+pub use pattern::{Pattern, PlaceList};
+pub use reader::read_mtx;
+
+#[cfg(test)]
+mod tests;
