@@ -1,0 +1,5 @@
+pub mod Faults
+pub mod LineForms
+pub mod Files
+pub mod Grammar
+pub mod Drafts

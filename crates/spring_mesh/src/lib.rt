@@ -1,0 +1,15 @@
+//! Springs between nodes of a plane, each of which moves its two ends at times of its own: a file
+//! format, and meshes as ordered applications. All arithmetic is on whole numbers.
+#![tactic(auto)]
+
+mod draft;
+mod faults;
+mod file;
+mod reader;
+mod statement;
+
+pub use file::{MassList, MeshFile, MeshNode, MeshNodeList, Spring, SpringList};
+pub use reader::read_mesh;
+
+#[cfg(test)]
+mod tests;
