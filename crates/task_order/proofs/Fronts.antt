@@ -22,7 +22,7 @@ stays_late key task other late later true is =
 pub all_late : (key : Key) (task : Task) (tasks : List Task) → is_earlier key task ≡ false → AllByRecursion (λ other. key_cmp task.key other.key ≡ Less) tasks → AllByRecursion (λ other. is_earlier key other ≡ false) tasks
 all_late key task tasks late = All-weaker (λ other. key_cmp task.key other.key ≡ Less) (λ other. is_earlier key other ≡ false) (λ other later. stays_late key task other late later _ refl) tasks
 
-before-late : (key : Key) (task : Task) (tasks : List Task) → is_earlier key task ≡ false → AllByRecursion (λ other. key_cmp task.key other.key ≡ Less) tasks → tasks_before key tasks ≡ []
+pub before-late : (key : Key) (task : Task) (tasks : List Task) → is_earlier key task ≡ false → AllByRecursion (λ other. key_cmp task.key other.key ≡ Less) tasks → tasks_before key tasks ≡ []
 before-late key task tasks late later = filter-none (is_earlier key) tasks (all_late key task tasks late later)
 
 from-late : (key : Key) (task : Task) (tasks : List Task) → is_earlier key task ≡ false → AllByRecursion (λ other. key_cmp task.key other.key ≡ Less) tasks → tasks_from key tasks ≡ tasks

@@ -7,6 +7,7 @@ pub mod Comparing
 pub mod PathCode
 pub mod SharedBytes
 pub mod Places
+pub mod Counts
 pub mod Cuts
 pub mod Found
 pub mod Ends

@@ -43,34 +43,16 @@ ascending_from_parts (task ∷ tasks) others parts = (
   ascending_from_parts tasks others (record { first = parts.first.1; second = parts.second; turn = parts.turn.1 }),
 )
 
--- ---- the search in a block
+-- ---- the tasks before a key
 
 -- an earlier task has only earlier ones before it
-first_earlier : (key : Key) (task : Task) (tasks : List Task) → AllByRecursion (λ other. key_cmp task.key other.key ≡ Less) tasks → (j : ℕ) (d : Task) → j < length tasks → is_earlier key (get_or tasks j d) ≡ true → is_earlier key task ≡ true
+pub first_earlier : (key : Key) (task : Task) (tasks : List Task) → AllByRecursion (λ other. key_cmp task.key other.key ≡ Less) tasks → (j : ℕ) (d : Task) → j < length tasks → is_earlier key (get_or tasks j d) ≡ true → is_earlier key task ≡ true
 first_earlier key task [] all j d inside earlier = absurd (omega (arith, inside))
 first_earlier key task (other ∷ tasks) all zero d inside earlier = ap is_lt (key_cmp_total.trans task.key other.key key all.0 (Less_from_test _ earlier))
 first_earlier key task (other ∷ tasks) all (suc j) d inside earlier = first_earlier key task tasks all.1 j d (omega (arith, inside)) earlier
 
-pub is_partitioned : (key : Key) (tasks : List Task) → IsAscending tasks → IsPartitionedBy (is_earlier key) tasks
-is_partitioned key [] up i j d ordered inside earlier = absurd (omega (arith, inside))
-is_partitioned key (task ∷ tasks) up zero zero d ordered inside earlier = earlier
-is_partitioned key (task ∷ tasks) up zero (suc j) d ordered inside earlier = first_earlier key task tasks up.0 j d (omega (arith, inside)) earlier
-is_partitioned key (task ∷ tasks) up (suc i) zero d ordered inside earlier = absurd (omega (arith, ordered))
-is_partitioned key (task ∷ tasks) up (suc i) (suc j) d ordered inside earlier = is_partitioned key tasks up.1 i j d (omega (arith, ordered)) (omega (arith, inside)) earlier
-
-before-cons : (key : Key) (task : Task) (tasks : List Task) (test : Bool) → is_earlier key task ≡ test → tasks_before key (task ∷ tasks) ≡ cond test (task ∷ tasks_before key tasks) (tasks_before key tasks)
+pub before-cons : (key : Key) (task : Task) (tasks : List Task) (test : Bool) → is_earlier key task ≡ test → tasks_before key (task ∷ tasks) ≡ cond test (task ∷ tasks_before key tasks) (tasks_before key tasks)
 before-cons key task tasks test is = ap (λ b. cond b (task ∷ tasks_before key tasks) (tasks_before key tasks)) is
-
--- where the search ends, so many tasks are earlier
-pub length-before : (key : Key) (tasks : List Task) (place : ℕ) → place ≤ length tasks
-    → IsPartitionPoint (λ task. is_earlier key task ≡ true) (λ task. is_earlier key task ≡ false) tasks place → place ≡ length (tasks_before key tasks)
-length-before key [] place inside point = omega (arith, inside)
-length-before key (task ∷ tasks) zero inside point =
-    sym (ap length (before-cons key task tasks false (point.1 0 task (omega arith) (omega arith)))
-    ∙ sym (length-before key tasks zero (omega arith) ((λ k d from upto. absurd (omega (arith, upto))), (λ k d from upto. point.1 (suc k) d (omega arith) (omega (arith, upto))))))
-length-before key (task ∷ tasks) (suc place) inside point =
-    ap suc (length-before key tasks place (omega (arith, inside)) ((λ k d from upto. point.0 (suc k) d (omega arith) (omega (arith, upto))), (λ k d from upto. point.1 (suc k) d (omega (arith, from)) (omega (arith, upto)))))
-    ∙ sym (ap length (before-cons key task tasks true (point.0 0 task (omega arith) (omega arith))))
 
 -- ---- the search among the blocks
 

@@ -1,4 +1,4 @@
-ghost use Rattle.std.specs.Prelude.{◌≡◌, ◌<◌, ◌≤◌, ◌-◌, Some, [], ◌∷◌, ◌++◌, length, take, drop, slice_get, IfOk, IfErr, IfSome, IfNone, OnOk, OnErr, IsTrue, ◌↔◌};
+ghost use Rattle.std.specs.Prelude.{◌≡◌, ◌<◌, ◌≤◌, ◌-◌, ◌^◌, Some, [], ◌∷◌, ◌++◌, length, take, drop, slice_get, IfOk, IfErr, IfSome, IfNone, OnOk, OnErr, IsTrue, ◌↔◌};
 ghost use Rattle.std.specs.List.{insert, remove};
 ghost use Rattle.std.specs.Map.Iter.{deref};
 ghost use Rattle.std.specs.Option.{option_map};
@@ -15,6 +15,9 @@ use std::marker::Model;
 
 /// How many tasks a block has when it is full.
 const FULL: usize = 64;
+
+/// How many tasks a search in a block passes at once.
+const STRIDE: usize = 8;
 
 /// A part of a list of tasks.
 #[derive(Drop)]
@@ -74,13 +77,32 @@ impl Block {
         self.tasks.iter()
     }
 
-    /// How many of the tasks are earlier than the key.
+    /// How many of the tasks are earlier than the key: in strides, and then one by one, since a step
+    /// that doesn't wait for the one before costs less than a step of a search by halves.
     pub(crate) fn rank(&self, key: &Key) -> usize
         requires { IsAscending self.now }
         ensures { result ≡ length (tasks_before key.now self.now) }
     {
-        self.tasks
-            .partition_point(|task| task.key.compare(key).is_lt())
+        let mut place: usize = 0;
+        while self.is_earlier_at(place.saturating_add(STRIDE - 1), key) {
+            place += STRIDE;
+        }
+        while self.is_earlier_at(place, key) {
+            place += 1;
+        }
+        place
+    }
+
+    /// Whether there is a task at a place that is earlier than the key.
+    fn is_earlier_at(&self, place: usize, key: &Key) -> bool
+        requires { IsAscending self.now }
+        ensures counted { IsTrue result ↔ (place < length (tasks_before key.now self.now)) }
+        ensures small { length self.now < 2 ^ 64 }
+    {
+        if place >= self.len() {
+            return false;
+        }
+        self.tasks[place].key.compare(key).is_lt()
     }
 
     /// Whether the first task is not later than the key.
