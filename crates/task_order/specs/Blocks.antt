@@ -18,6 +18,11 @@ abbrev pub starts_by : Key → List Task → Bool
 starts_by key [] = false
 starts_by key (task ∷ tasks) = is_le (key_cmp task.key key)
 
+-- a block's first task, if there is one, has the priority
+abbrev pub IsFirstPriority : ℕ → List Task → Type 0
+IsFirstPriority prio [] = Unit {0}
+IsFirstPriority prio (task ∷ tasks) = prio ≡ task.key.prio
+
 -- how many tasks a full block has
 abbrev pub full_length : ℕ
 full_length = 64

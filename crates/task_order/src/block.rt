@@ -5,11 +5,12 @@ ghost use Rattle.std.specs.Option.{option_map};
 ghost use Rattle.std.specs.VecDeque.Iter.{deque_iter_rest};
 ghost use Rattle.task_order.specs.Key.{key_cmp};
 ghost use Rattle.task_order.specs.TaskList.{IsAscending, tasks_before};
-ghost use Rattle.task_order.specs.Blocks.{starts_by, full_length};
+ghost use Rattle.task_order.specs.Blocks.{starts_by, full_length, IsFirstPriority};
 
 use crate::{Key, Task};
 use kdg_text::NoRoom;
 use std::alloc::Global;
+use std::cmp::Ordering;
 use std::collections::{VecDeque, vec_deque};
 use std::marker::Model;
 
@@ -23,15 +24,30 @@ const STRIDE: usize = 8;
 #[derive(Drop)]
 pub(crate) struct Block {
     tasks: VecDeque<Task>,
+    // that of the first task, so that a search among blocks seldom reads a task
+    first_prio: u64,
 }
 
 impl Model for Block {
     ghost use Rattle.std.specs.Prelude.{List};
     ghost use Rattle.task_order.specs.declared.task.Task.{Task};
+    ghost use Rattle.task_order.specs.Blocks.{IsFirstPriority};
 
     ghost Value = { List Task };
 
     ghost view = { λ block. block.tasks.items };
+
+    ghost invariant = { λ block. IsFirstPriority block.first_prio block.tasks.items };
+}
+
+/// The first task's priority, if there is one.
+fn prio_of_first(tasks: &VecDeque<Task>) -> u64
+    ensures { IsFirstPriority result tasks.now.items }
+{
+    match tasks.front() {
+        Some(first) => first.key.prio,
+        None => 0,
+    }
 }
 
 impl Block {
@@ -43,8 +59,9 @@ impl Block {
         let Ok(mut tasks) = VecDeque::with_capacity(alloc, FULL) else {
             return Err(task);
         };
+        let first_prio = task.key.prio;
         match tasks.push_back(task) {
-            Ok(()) => Ok(Block { tasks }),
+            Ok(()) => Ok(Block { tasks, first_prio }),
             Err(failed) => Err(failed.value),
         }
     }
@@ -109,6 +126,17 @@ impl Block {
     pub(crate) fn starts_by(&self, key: &Key) -> bool
         ensures { result ≡ starts_by key.now self.now }
     {
+        match self.first_prio.cmp(&key.prio) {
+            Ordering::Less => self.len() > 0,
+            Ordering::Equal => self.first_is_by(key),
+            Ordering::Greater => false,
+        }
+    }
+
+    /// The same, by the first task itself.
+    fn first_is_by(&self, key: &Key) -> bool
+        ensures { result ≡ starts_by key.now self.now }
+    {
         match self.tasks.front() {
             Some(first) => first.key.compare(key).is_le(),
             None => false,
@@ -122,9 +150,14 @@ impl Block {
         ensures returned { IfErr result (λ back. back ≡ task) }
         ensures unchanged { OnErr result (self.new ≡ self.old) }
     {
+        let prio = task.key.prio;
         self.tasks
             .insert(place, task)
-            .map_err(|failed| failed.value)
+            .map_err(|failed| failed.value)?;
+        if place == 0 {
+            self.first_prio = prio;
+        }
+        Ok(())
     }
 
     /// Takes the task at a place out.
@@ -133,10 +166,11 @@ impl Block {
         ensures task { slice_get self.old place ≡ Some result }
         ensures left { self.new ≡ remove self.old place }
     {
-        match self.tasks.remove(place) {
-            Some(task) => task,
-            None => unreachable!(),
-        }
+        let Some(task) = self.tasks.remove(place) else {
+            unreachable!()
+        };
+        self.first_prio = prio_of_first(&self.tasks);
+        task
     }
 
     /// Takes the first task out.
@@ -144,7 +178,9 @@ impl Block {
         ensures first { IfSome result (λ task. self.old ≡ task ∷ self.new) }
         ensures empty { IfNone result ((self.old ≡ []) × (self.new ≡ [])) }
     {
-        self.tasks.pop_front()
+        let task = self.tasks.pop_front()?;
+        self.first_prio = prio_of_first(&self.tasks);
+        Some(task)
     }
 
     /// Cuts the tasks from a place on off.
@@ -155,6 +191,7 @@ impl Block {
         ensures unchanged { OnErr result (self.new ≡ self.old) }
     {
         let tasks = self.tasks.split_off(place)?;
-        Ok(Block { tasks })
+        let first_prio = prio_of_first(&tasks);
+        Ok(Block { tasks, first_prio })
     }
 }
