@@ -1,8 +1,10 @@
 //! Where bytes come from and where they go: a source and a sink that may fail at any call, the two
 //! edges over std's readers and writers, sources and sinks in memory, and whole inputs and pieces.
+//! And what is left to chance: a gate chooses among tasks that may all run.
 #![tactic(auto)]
 
 mod edge;
+mod gate;
 mod memory_sink;
 mod memory_source;
 mod sink;
@@ -11,6 +13,7 @@ mod whole_input;
 mod whole_piece;
 
 pub use edge::{ReadEdge, WriteEdge};
+pub use gate::{Gate, Still};
 pub use memory_sink::{CleanSink, MemSink};
 pub use memory_source::{CleanSource, MemSource};
 pub use sink::{Push, Sink};

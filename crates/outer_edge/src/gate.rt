@@ -1,0 +1,27 @@
+ghost use Rattle.std.specs.Prelude.{◌≡◌};
+
+use task_order::Key;
+
+/// What an execution leaves open: which of the tasks that may run is next, and when a worker goes
+/// on. No contract rests on it, so what an execution gives is the same at every gate.
+pub trait Gate {
+    /// The number by which a worker picks among the clear tasks, at this turn of its own.
+    fn choose(&self, seed: u64, worker: u32, turn: u64) -> u64;
+
+    /// Comes before a worker performs the task with this key, outside any turn.
+    fn pass(&self, worker: u32, key: &Key);
+}
+
+/// The gate that always takes the first, and passes at once.
+#[derive(Clone, Copy, Debug)]
+pub struct Still;
+
+impl Gate for Still {
+    fn choose(&self, _seed: u64, _worker: u32, _turn: u64) -> u64
+        ensures { result ≡ 0 }
+    {
+        0
+    }
+
+    fn pass(&self, _worker: u32, _key: &Key) {}
+}
