@@ -21,7 +21,7 @@ use Rattle.graph_update.proofs.Ended.{ended_node, tasks_after, is_pending}
 use Rattle.graph_update.proofs.FinishMembers.{all_at}
 use Rattle.graph_update.proofs.FinishTasks.{all-weaker, all-joined, all-swapped, all-filter, all-put_all, prefix_of_itself, TasksApart, apart_from_put_in, all_parts, all-inserted, pairwise-inserted, length-inserted, length-mapped}
 
-length-children : (parent : Key) (number : ℕ) (starts : List Start) → length (children_from parent number starts) ≡ length starts
+pub length-children : (parent : Key) (number : ℕ) (starts : List Start) → length (children_from parent number starts) ≡ length starts
 length-children parent number [] = refl
 length-children parent number (start ∷ starts) = ap suc (length-children parent (suc number) starts)
 
@@ -54,11 +54,11 @@ module _ {V : Type 0} {app : Application V} (basis : FinishBasis app) where
         (all-weaker (λ (entry : Entry). entry.0.path ≢ key.path) (λ (entry : Entry). key.path ≢ entry.0.path) (λ entry differ same. differ (sym same)) back both.1)
         (subst (Pairwise (λ (entry other : Entry). entry.0.path ≢ other.0.path)) parts pairs)
 
-    length-with_entry : length (with_entry key text log) ≡ suc (length log)
+    pub length-with_entry : length (with_entry key text log) ≡ suc (length log)
     length-with_entry = length-inserted (entries_before (at_key key) log) (key, text) (entries_from (at_key key) log) ∙ ap (λ (entries : List Entry). suc (length entries)) (sym parts)
 
   module _ {old now : Progress V} {done : Done V} {job : Job V} {jobs others : List (Job V)} {values : List V} (end : IsEnd app old jobs values done job others now) where
-    log_is : now.log ≡ with_entry job.task.key done.effect.text old.log
+    pub log_is : now.log ≡ with_entry job.task.key done.effect.text old.log
     log_is = ap (λ (progress : Progress V). progress.log) end.finished.after ∙ ap (λ (task : Task). with_entry task.key done.effect.text old.log) (sym end.performed.task)
 
     tasks_unlogged : AllByRecursion (IsUnlogged job.task) old.log

@@ -1,4 +1,5 @@
 pub mod Beginnings
+pub mod Behind
 pub mod Claims
 pub mod ClearNodes
 pub mod Ended
@@ -13,5 +14,9 @@ pub mod FinishMembers
 pub mod FinishTasks
 pub mod Marks
 pub mod Members
+pub mod Performed
+pub mod Standing
+pub mod StandingDrains
+pub mod StandingEnds
 pub mod Starting
 pub mod Whole

@@ -7,3 +7,5 @@ pub mod Laws
 pub mod Progress
 pub mod Sound
 pub mod Standing
+pub mod StandingBasis
+pub mod StandingLaws
