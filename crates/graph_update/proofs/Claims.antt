@@ -23,7 +23,7 @@ use Rattle.commuting.specs.Clear.{IsReady}
 use Rattle.commuting.specs.States.{state_of}
 use Rattle.graph_update.specs.Basis.{Basis}
 use Rattle.graph_update.specs.declared.job.Job.{Job}
-use Rattle.graph_update.specs.Events.{is_clear, clear_nodes}
+use Rattle.graph_update.specs.Events.{IsClaimed, is_clear, clear_nodes}
 use Rattle.graph_update.specs.Laws.{ClaimsKeepSound}
 use Rattle.graph_update.specs.Progress.{Progress}
 use Rattle.graph_update.specs.Sound.{Covers, HasJob, IsOfNode, IsSound, IsWhole, JobsMatch, KeysAndCounts, is_unblocked, is_written}
@@ -74,7 +74,7 @@ module _ {V : Type 0} {app : Application V} (basis : Basis app) (old : Progress 
   graph : IsGraph old.nodes
   graph = sound.keys_and_counts.graph
 
-  same_node : (was : Node) → Contains old.nodes was → was.id ≡ node.id → was ≡ node
+  pub same_node : (was : Node) → Contains old.nodes was → was.id ≡ node.id → was ≡ node
   same_node was there same = Some-injective was node (sym (basis.lower.have_ids old.nodes was graph there) ∙ ap (node_at old.nodes) same ∙ basis.lower.have_ids old.nodes node graph has)
 
   other_key : (was : Node) → Contains old.nodes was → was.running ≡ true → was.task.key ≢ node.task.key
@@ -113,10 +113,10 @@ module _ {V : Type 0} {app : Application V} (basis : Basis app) (old : Progress 
       ] in
       by_case (writes job.bundle.set loc) refl written
 
-  own_covers : Covers app old.cells values node
+  pub own_covers : Covers app old.cells values node
   own_covers = all_at (Covers app old.cells values) old.nodes node sound.recorded_covers has
 
-  is_home : AreHome old.cells node.set
+  pub is_home : AreHome old.cells node.set
   is_home loc named =
       let below = own_covers.in_range.below loc named in
       let count = basis.lawful.cells_are_counted values sound.ready.cells in
@@ -257,9 +257,13 @@ module _ {V : Type 0} {app : Application V} (basis : Basis app) (old : Progress 
     running_unblocked = each_now (λ n. n.running ≡ true → is_unblocked app now_nodes n ≡ true) still_unblocked;
   }
 
+pub claimed_is_clear : {V : Type 0} {app : Application V} {old now : Progress V} {pick : ℕ} {job : Job V} (claimed : IsClaimed app old pick now job)
+    → Contains old.nodes claimed.node × (is_clear app old.nodes claimed.node ≡ true)
+claimed_is_clear {V} {app} {old} claimed = from_filter (is_clear app old.nodes) old.nodes claimed.node (found_is_there (clear_nodes app old.nodes) _ claimed.node claimed.chosen)
+
 pub claims_keep_sound : {V : Type 0} {app : Application V} → Basis app → ClaimsKeepSound app
 claims_keep_sound {V} {app} basis old now pick job jobs values sound claimed =
-    let among = from_filter (is_clear app old.nodes) old.nodes claimed.node (found_is_there (clear_nodes app old.nodes) _ claimed.node claimed.chosen) in
+    let among = claimed_is_clear claimed in
     let first = claim_is_sound basis old jobs values claimed.node sound among.0 among.1 in
     subst (λ (progress : Progress V). IsSound app progress (job ∷ jobs) values) (sym claimed.after)
     (subst (λ (one : Job V). IsSound app (record old { nodes = started claimed.node.id old.nodes; cells = cells_taken old.cells claimed.node.set }) (one ∷ jobs) values) (sym claimed.job_is) first)

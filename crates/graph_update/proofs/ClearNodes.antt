@@ -108,7 +108,7 @@ module _ {V : Type 0} {app : Application V} (basis : Basis app) where
       let fails = not_earlier node.task.key key (λ less. basis.lower.irreflexive key key (basis.lower.transitive key node.task.key key later.0 less) refl) in
       ap (λ test. cond test (node ∷ earlier_than key nodes) (earlier_than key nodes)) fails ∙ none_earlier key nodes later.1
 
-  earliest_first : (node : Node) (nodes : List Node) → AllByRecursion (λ task. key_cmp node.task.key task.key ≡ Less) (tasks_of nodes) → earlier_than node.task.key (node ∷ nodes) ≡ []
+  pub earliest_first : (node : Node) (nodes : List Node) → AllByRecursion (λ task. key_cmp node.task.key task.key ≡ Less) (tasks_of nodes) → earlier_than node.task.key (node ∷ nodes) ≡ []
   earliest_first node nodes later =
       let fails = not_earlier node.task.key node.task.key (λ less. basis.lower.irreflexive node.task.key node.task.key less refl) in
       ap (λ test. cond test (node ∷ earlier_than node.task.key nodes) (earlier_than node.task.key nodes)) fails ∙ none_earlier node.task.key nodes later
@@ -131,7 +131,7 @@ module _ {V : Type 0} {app : Application V} (basis : Basis app) where
       cons_is_not_nil : {X : Type 0} {x : X} {xs : List X} → x ∷ xs ≡ [] → ⊥
       cons_is_not_nil same = cc
 
-  idle : (running : Bool) → (running ≡ true → ⊥) → running ≡ false
+  pub idle : (running : Bool) → (running ≡ true → ⊥) → running ≡ false
   idle true never = absurd (never refl)
   idle false never = refl
 

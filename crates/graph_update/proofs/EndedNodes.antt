@@ -113,32 +113,34 @@ module _ {V : Type 0} {app : Application V} (basis : FinishBasis app) where
         (filter (λ (other : Node). conflicts_with end.finished.node.set other.set) (later_than end.finished.node.task.key old.nodes)) node
         (λ other in_way same. free (subst IsInTheWay (own_id other node (is_in_the_way other in_way).0 has same) (is_in_the_way other in_way).1))
 
-    -- no earlier node conflicts with a running one
-    pub runs_apart : (earlier node : Node) → Contains old.nodes earlier → Contains old.nodes node → node.running ≡ true → key_cmp earlier.task.key node.task.key ≡ Less
+    -- no earlier node conflicts with an unblocked one
+    pub unblocked_apart : (earlier node : Node) → Contains old.nodes earlier → is_unblocked app old.nodes node ≡ true → key_cmp earlier.task.key node.task.key ≡ Less
         → conflicts_with earlier.set node.set ≡ false
-    runs_apart earlier node has_earlier has runs less =
-        let unblocked : is_unblocked app old.nodes node ≡ true = all_at (λ (node : Node). node.running ≡ true → is_unblocked app old.nodes node ≡ true) old.nodes node end.sound.running_unblocked has runs in
+    unblocked_apart earlier node has_earlier unblocked less =
         let parts = and_parts (not (is_blocked old.nodes node)) (app.is_safe node.task (map (λ (node : Node). node.task) (earlier_than node.task.key old.nodes))) unblocked in
         none_passes (λ (other : Node). conflicts_with other.set node.set) (earlier_than node.task.key old.nodes) earlier (false_from_not (is_blocked old.nodes node) parts.0)
         (in_filter (λ (other : Node). is_lt (key_cmp other.task.key node.task.key)) old.nodes earlier has_earlier (ap is_lt less))
 
-    -- two running nodes are independent
-    pub others_apart : (node : Node) → Contains old.nodes node → node.running ≡ true → node.id ≢ end.finished.node.id → AreIndependent end.finished.node.set node.set
-    others_apart node has runs other =
+    -- a running node is unblocked
+    pub runs_unblocked : (node : Node) → Contains old.nodes node → node.running ≡ true → is_unblocked app old.nodes node ≡ true
+    runs_unblocked node has runs = all_at (λ (node : Node). node.running ≡ true → is_unblocked app old.nodes node ≡ true) old.nodes node end.sound.running_unblocked has runs
+
+    -- an unblocked node and the running one that ends are independent
+    pub others_apart : (node : Node) → Contains old.nodes node → is_unblocked app old.nodes node ≡ true → node.id ≢ end.finished.node.id → AreIndependent end.finished.node.set node.set
+    others_apart node has unblocked other =
         let ended = is_there basis end in
         (basis.independent end.finished.node.set node.set).0 (λ conflict.
         ⊎_elim
-        (λ before. let apart = runs_apart end.finished.node node ended has runs before in
+        (λ before. let apart = unblocked_apart end.finished.node node ended unblocked before in
         true≢false (sym ((basis.decided end.finished.node.set node.set).1 conflict) ∙ apart))
-        (λ after. let apart = runs_apart node end.finished.node has ended (ended_node basis end).running after in
+        (λ after. let apart = unblocked_apart node end.finished.node has (runs_unblocked end.finished.node ended (ended_node basis end).running) after in
         true≢false (sym ((basis.decided node.set end.finished.node.set).1 (basis.turned end.finished.node.set node.set conflict)) ∙ apart))
         (basis.connected end.finished.node.task.key node.task.key (λ same. other (ap (λ (node : Node). node.id) (sym (own_key end.finished.node node ended has same))))))
 
     -- a running node isn't changed
     pub running_is_free : (node : Node) → Contains old.nodes node → node.running ≡ true → IsInTheWay node → ⊥
     running_is_free node has runs way =
-        let unblocked : is_unblocked app old.nodes node ≡ true = all_at (λ (node : Node). node.running ≡ true → is_unblocked app old.nodes node ≡ true) old.nodes node end.sound.running_unblocked has runs in
-        let parts = and_parts (not (is_blocked old.nodes node)) (app.is_safe node.task (map (λ (node : Node). node.task) (earlier_than node.task.key old.nodes))) unblocked in
+        let parts = and_parts (not (is_blocked old.nodes node)) (app.is_safe node.task (map (λ (node : Node). node.task) (earlier_than node.task.key old.nodes))) (runs_unblocked node has runs) in
         let is_free : is_blocked old.nodes node ≡ false = false_from_not (is_blocked old.nodes node) parts.0 in
         let clear : conflicts_with end.finished.node.set node.set ≡ false =
         none_passes (λ (other : Node). conflicts_with other.set node.set) (earlier_than node.task.key old.nodes) end.finished.node is_free

@@ -1,4 +1,4 @@
--- The running nodes stay unblocked where another task ends.
+-- The running nodes, and the clear ones, stay unblocked where another task ends.
 use Rattle.std.proofs.Common.{◌≡◌, ◌≢◌, Bool, true, false, not, cond, List, [], ◌∷◌, map, refl, sym, ap, subst, ◌∙◌, ⊎_elim}
 use Rattle.std.specs.Prelude.{Contains}
 use Rattle.std.specs.List.{AllByRecursion}
@@ -28,7 +28,7 @@ use Rattle.graph_update.specs.Finishes.{IsEnd, FinishesKeepUnblocked}
 use Rattle.graph_update.specs.Progress.{Progress, whole_state}
 use Rattle.graph_update.specs.Sound.{is_unblocked}
 use Rattle.graph_update.proofs.Ended.{covered, whole_after}
-use Rattle.graph_update.proofs.EndedNodes.{others_apart, running_is_free, runs_apart, set_unchanged}
+use Rattle.graph_update.proofs.EndedNodes.{others_apart, running_is_free, runs_unblocked, set_unchanged, unblocked_apart}
 use Rattle.graph_update.proofs.EndedSets.{covers_of, independent_tasks, item_set, moves_within, same_set, set_cases}
 use Rattle.graph_update.proofs.FinishMembers.{all_at, all_from, from_filter, from_map, in_filter, in_map, none_any}
 
@@ -56,24 +56,23 @@ module _ {V : Type 0} {app : Application V} (basis : FinishBasis app) where
       go false is = refl
 
   module _ {old now : Progress V} {done : Done V} {job : Job V} {jobs others : List (Job V)} {values : List V} (end : IsEnd app old jobs values done job others now) where
-    -- a node that still runs
-    record StillRuns (was : Node) : Type 0 where
-      has : Contains old.nodes was
-      apart : was.id ≢ end.finished.node.id
-      runs : was.running ≡ true
+    -- another node that is unblocked, and whose recorded set is the declared one
+    pub record IsAnotherUnblocked (was : Node) : Type 0 where
+      pub has : Contains old.nodes was
+      pub apart : was.id ≢ end.finished.node.id
+      pub unblocked : is_unblocked app old.nodes was ≡ true
+      pub own : was.set ≡ set_in app values was.task
 
-    apart_from_ended : (was : Node) → StillRuns was → ¬ Conflicts end.finished.node.set was.set
-    apart_from_ended was still = (basis.independent end.finished.node.set was.set).1 (others_apart basis end was still.has still.runs still.apart)
+    apart_from_ended : (was : Node) → IsAnotherUnblocked was → ¬ Conflicts end.finished.node.set was.set
+    apart_from_ended was still = (basis.independent end.finished.node.set was.set).1 (others_apart basis end was still.has still.unblocked still.apart)
 
-    apart_from_earlier : (was other : Node) → StillRuns was → Contains old.nodes other → is_lt (key_cmp other.task.key was.task.key) ≡ true → ¬ Conflicts other.set was.set
+    apart_from_earlier : (was other : Node) → IsAnotherUnblocked was → Contains old.nodes other → is_lt (key_cmp other.task.key was.task.key) ≡ true → ¬ Conflicts other.set was.set
     apart_from_earlier was other still has before conflict =
-        true≢false (sym ((basis.decided other.set was.set).1 conflict) ∙ runs_apart basis end other was has still.has still.runs (less_from_test _ before))
+        true≢false (sym ((basis.decided other.set was.set).1 conflict) ∙ unblocked_apart basis end other was has still.unblocked (less_from_test _ before))
 
-    clear_before : (was : Node) → StillRuns was → IsClear app (whole_state old values) was.task
+    clear_before : (was : Node) → IsAnotherUnblocked was → IsClear app (whole_state old values) was.task
     clear_before was still =
-        let own = (covers_of basis end was still.has).running still.runs in
-        let unblocked : is_unblocked app old.nodes was ≡ true = all_at (λ (node : Node). node.running ≡ true → is_unblocked app old.nodes node ≡ true) old.nodes was end.sound.running_unblocked still.has still.runs in
-        let parts = and_parts (not (is_blocked old.nodes was)) (app.is_safe was.task (tasks_of (earlier_than was.task.key old.nodes))) unblocked in
+        let parts = and_parts (not (is_blocked old.nodes was)) (app.is_safe was.task (tasks_of (earlier_than was.task.key old.nodes))) still.unblocked in
         record {
           pending = in_map (λ node. node.task) old.nodes was still.has;
           unblocked = record {
@@ -84,15 +83,15 @@ module _ {V : Type 0} {app : Application V} (basis : FinishBasis app) where
                 let declared : Conflicts (set_in app values node.0.task) (set_in app values was.task) = subst (λ task. Conflicts (set_in app values task) (set_in app values was.task)) (sym same) conflict in
                 let grown = basis.grows (set_in app values node.0.task) node.0.set (set_in app values was.task) (covers_of basis end node.0 node.1).within declared in
                 apart_from_earlier was node.0 still node.1 (subst (λ (task : Task). is_lt (key_cmp task.key was.task.key) ≡ true) (sym same) first.1)
-                (subst (λ set. Conflicts node.0.set set) (sym own) grown));
+                (subst (λ set. Conflicts node.0.set set) (sym still.own) grown));
             safe = subst (λ tasks. app.is_safe was.task tasks ≡ true) (tasks_earlier was.task.key old.nodes) parts.1;
           };
         }
 
-    free_of_ended : (was : Node) → StillRuns was → conflicts_with end.finished.node.set was.set ≡ false
+    pub free_of_ended : (was : Node) → IsAnotherUnblocked was → conflicts_with end.finished.node.set was.set ≡ false
     free_of_ended was still = no_conflict end.finished.node.set was.set (apart_from_ended was still)
 
-    clear_after : (was : Node) → StillRuns was → IsClear app (whole_state now (app.act job.task values).cells) was.task
+    clear_after : (was : Node) → IsAnotherUnblocked was → IsClear app (whole_state now (app.act job.task values).cells) was.task
     clear_after was still =
         subst (λ state. IsClear app state was.task) (sym (whole_after basis end))
         (basis.stay_clear (whole_state old values) job.task was.task end.sound.ready (independent_tasks basis end was still.has still.apart (free_of_ended was still)) (clear_before was still))
@@ -110,23 +109,23 @@ module _ {V : Type 0} {app : Application V} (basis : FinishBasis app) where
         renewed_within (answer.Known set) is = subst (λ set. IsWithin set (merged other.set end.finished.node.set)) (sym is) (moves_within basis end other has apart)
         renewed_within (answer.Out loc) is = basis.within_itself (merged other.set end.finished.node.set)
 
-    apart_from_kept : (was other : Node) → StillRuns was → Contains old.nodes other → other.id ≢ end.finished.node.id → is_lt (key_cmp other.task.key was.task.key) ≡ true
+    apart_from_kept : (was other : Node) → IsAnotherUnblocked was → Contains old.nodes other → other.id ≢ end.finished.node.id → is_lt (key_cmp other.task.key was.task.key) ≡ true
         → ¬ Conflicts (set_after (renewals app (cells_given old.cells done.effect.bundle) old.nodes end.finished.node) other) was.set
     apart_from_kept was other still has apart before conflict =
         ⊎_elim (apart_from_earlier was other still has before) (apart_from_ended was still)
         ((basis.by_parts other.set end.finished.node.set was.set (covers_of basis end other has).in_range.ascending (covered basis end).in_range.ascending).0
         (basis.grows _ (merged other.set end.finished.node.set) was.set (set_within other has apart) conflict))
 
-    apart_from_declared : (was other : Node) → StillRuns was → Contains now.nodes other → is_lt (key_cmp other.task.key was.task.key) ≡ true
+    apart_from_declared : (was other : Node) → IsAnotherUnblocked was → Contains now.nodes other → is_lt (key_cmp other.task.key was.task.key) ≡ true
         → ¬ Conflicts (set_in app (app.act job.task values).cells other.task) was.set
     apart_from_declared was other still has before conflict =
-        let own = (covers_of basis end was still.has).running still.runs ∙ sym (same_set basis end was still.has still.apart (free_of_ended was still)) in
+        let own = still.own ∙ sym (same_set basis end was still.has still.apart (free_of_ended was still)) in
         let all = (clear_after was still).unblocked.apart in
         all_at (λ task. ¬ Conflicts (set_in app (app.act job.task values).cells task) (set_in app (app.act job.task values).cells was.task)) (tasks_before was.task.key (tasks_of now.nodes)) other.task all
         (in_filter (is_earlier was.task.key) (tasks_of now.nodes) other.task (in_map (λ node. node.task) now.nodes other has) before)
         (subst (λ set. Conflicts (set_in app (app.act job.task values).cells other.task) set) own conflict)
 
-    apart_after : (was other : Node) → StillRuns was → Contains now.nodes other → is_lt (key_cmp other.task.key was.task.key) ≡ true → ¬ Conflicts other.set was.set
+    apart_after : (was other : Node) → IsAnotherUnblocked was → Contains now.nodes other → is_lt (key_cmp other.task.key was.task.key) ≡ true → ¬ Conflicts other.set was.set
     apart_after was other still has before conflict =
         ⊎_elim
         (λ kept.
@@ -141,7 +140,7 @@ module _ {V : Type 0} {app : Application V} (basis : FinishBasis app) where
         apart_from_declared was other still has before (subst (λ set. Conflicts set was.set) own conflict))
         (basis.no_other old.nodes end.finished.node.id (renewals app (cells_given old.cells done.effect.bundle) old.nodes end.finished.node) (fresh_from app done.task.key 0 done.effect.children) now.nodes end.finished.nodes other has)
 
-    unblocked_after : (was : Node) → StillRuns was → is_unblocked app now.nodes was ≡ true
+    pub unblocked_after : (was : Node) → IsAnotherUnblocked was → is_unblocked app now.nodes was ≡ true
     unblocked_after was still =
         let free : is_blocked now.nodes was ≡ false =
         none_any (λ (other : Node). conflicts_with other.set was.set) (earlier_than was.task.key now.nodes) (λ other has.
@@ -155,7 +154,12 @@ module _ {V : Type 0} {app : Application V} (basis : FinishBasis app) where
         ⊎_elim
         (λ kept.
         let still_runs : kept.0.running ≡ true = sym (ap (λ (node : Node). node.running) kept.3) ∙ runs in
-        let still : StillRuns kept.0 = record { has = kept.1; apart = kept.2; runs = still_runs } in
+        let still : IsAnotherUnblocked kept.0 = record {
+          has = kept.1;
+          apart = kept.2;
+          unblocked = runs_unblocked basis end kept.0 kept.1 still_runs;
+          own = (covers_of basis end kept.0 kept.1).running still_runs;
+        } in
         let unchanged = set_unchanged basis end kept.0 kept.1 (running_is_free basis end kept.0 kept.1 still_runs) in
         let same : node ≡ kept.0 = kept.3 ∙ ap (λ (set : Accesses). let made : Node = record kept.0 { set = set } in made) unchanged in
         subst (λ node. is_unblocked app now.nodes node ≡ true) (sym same) (unblocked_after kept.0 still))

@@ -16,7 +16,7 @@ module _ {V : Type 0} {app : Application V} (basis : Basis app) (finishes_keep_s
   sound_by_parts now progress jobs values progress_is jobs_are sound =
       (values, subst (λ held. IsSound app now.progress held values) (sym jobs_are) (subst (λ (come : Progress V). IsSound app come jobs values) (sym progress_is) sound))
 
-  event_keeps_sound : (event : Event V) (old now : Moment V) → IsSoundMoment app old → Leads app event old now → IsSoundMoment app now
+  pub event_keeps_sound : (event : Event V) (old now : Moment V) → IsSoundMoment app old → Leads app event old now → IsSoundMoment app now
   event_keeps_sound (Event.claims pick job) old now (values, sound) (may, claimed, jobs_are) =
       (values, subst (λ held. IsSound app now.progress held values) (sym jobs_are) (claims_keep_sound basis old.progress now.progress pick job old.jobs values sound claimed))
   event_keeps_sound (Event.finishes done) old now (values, sound) (performed, within, finished) =

@@ -1,7 +1,9 @@
+pub mod AtRest
 pub mod Beginnings
 pub mod Behind
 pub mod Claims
 pub mod ClearNodes
+pub mod ClearStays
 pub mod Ended
 pub mod EndedCells
 pub mod EndedCounts
@@ -18,5 +20,6 @@ pub mod Performed
 pub mod Standing
 pub mod StandingDrains
 pub mod StandingEnds
+pub mod StandingEvents
 pub mod Starting
 pub mod Whole
