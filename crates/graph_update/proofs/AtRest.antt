@@ -1,5 +1,5 @@
 -- An execution while nothing is running, and at its end.
-use Rattle.std.proofs.Common.{◌≡◌, ◌↔◌, ℕ, ◌+◌, ◌<◌, ◌≤◌, not, true, false, List, [], ◌∷◌, ◌++◌, map, length, Option, Some, None, refl, sym, ap, subst, ◌∙◌, arith}
+use Rattle.std.proofs.Common.{◌≡◌, not, true, false, List, [], ◌∷◌, map, length, Option, Some, None, refl, sym, ap, subst, ◌∙◌, arith}
 use Rattle.std.specs.Prelude.{Contains, IsSomeAnd}
 use Rattle.std.specs.List.{AllByRecursion}
 use Rattle.std.proofs.lemmas.Bool.{and_from, true≢false}
@@ -13,16 +13,16 @@ use Rattle.kdg_graph.specs.Node.{Node}
 use Rattle.kdg_graph.specs.Nodes.{earlier_than, tasks_of}
 use Rattle.app_laws.specs.Applications.{Application, IsFitTask, set_in}
 use Rattle.app_laws.specs.Execution.{Execution, run_to_end}
-use Rattle.commuting.specs.States.{State, execution_from}
+use Rattle.commuting.specs.States.{execution_from}
 use Rattle.graph_update.specs.Basis.{Basis}
 use Rattle.graph_update.specs.declared.job.Job.{Job}
 use Rattle.graph_update.specs.Progress.{Progress, whole_state}
 use Rattle.graph_update.specs.Sound.{Covers, HasJob, IsOfNode, IsSound}
-use Rattle.graph_update.specs.Standing.{StandsFor, ended_entries}
+use Rattle.graph_update.specs.Standing.{ended_entries}
 use Rattle.graph_update.specs.StandingBasis.{StandingBasis}
-use Rattle.graph_update.specs.StandingLaws.{IsAtRest, IsOver, IsSequentialEnd, NoJobsAreRest, NoJobsWhereNoneRuns, NoNodesAreTheEnd, NoneRuns}
+use Rattle.graph_update.specs.StandingLaws.{IsAtRest, IsSequentialEnd, NoJobsAreRest, NoJobsWhereNoneRuns, NoNodesAreTheEnd, NoneRuns}
 use Rattle.graph_update.proofs.ClearNodes.{earliest_first, idle, unblocked_where_first}
-use Rattle.graph_update.proofs.Members.{all_at, all_from, here, in_map, none}
+use Rattle.graph_update.proofs.Members.{all_at, all_from, here, in_map}
 
 module _ {V : Type 0} {app : Application V} (basis : Basis app) where
   idle_without_jobs : (progress : Progress V) (jobs : List (Job V)) (values : List V) → IsSound app progress jobs values → jobs ≡ [] → (node : Node) → Contains progress.nodes node → node.running ≡ false
@@ -43,9 +43,10 @@ module _ {V : Type 0} {app : Application V} (basis : Basis app) where
       absurd (true≢false (sym node.2 ∙ all_at (λ (n : Node). n.running ≡ false) progress.nodes node.0 idle node.1))
 
   pub no_jobs_where_none_runs : NoJobsWhereNoneRuns app
-  no_jobs_where_none_runs progress jobs values sound =
-      (λ no_jobs. all_from (λ (n : Node). n.running ≡ false) progress.nodes (idle_without_jobs progress jobs values sound no_jobs),
-      none_where_idle progress jobs sound.outs_match.named)
+  no_jobs_where_none_runs progress jobs values sound = (
+    λ no_jobs. all_from (λ (n : Node). n.running ≡ false) progress.nodes (idle_without_jobs progress jobs values sound no_jobs),
+    none_where_idle progress jobs sound.outs_match.named,
+  )
 
   module _ (progress : Progress V) (values : List V) (sound : IsSound app progress [] values) where
     all_home : AreAllHome progress.cells

@@ -1,9 +1,7 @@
 -- A clear node stays clear until it is claimed.
-use Rattle.std.proofs.Common.{◌≡◌, ◌≢◌, inl, inr, ⊎_elim, not, true, false, List, [], ◌∷◌, Some, refl, sym, ap, subst, ◌∙◌}
+use Rattle.std.proofs.Common.{◌≡◌, ◌≢◌, ⊎_elim, not, false, List, [], ◌∷◌, Some, sym, ap, subst, ◌∙◌}
 use Rattle.std.specs.Prelude.{Contains}
-use Rattle.std.specs.List.{AllByRecursion}
 use Rattle.std.proofs.lemmas.Bool.{and_from, true≢false}
-use Rattle.task_order.specs.declared.task.Task.{Task}
 use Rattle.cell_store.specs.Cells.{cells_given}
 use Rattle.rw_sets.specs.Accesses.{Accesses}
 use Rattle.kdg_graph.specs.Node.{Node}
@@ -12,11 +10,11 @@ use Rattle.kdg_graph.specs.Rewrite.{set_after}
 use Rattle.app_laws.specs.Applications.{Application}
 use Rattle.graph_update.specs.declared.job.Done.{Done}
 use Rattle.graph_update.specs.declared.job.Job.{Job}
-use Rattle.graph_update.specs.Events.{IsClaimed, IsFinished, IsOverLimit, clear_nodes, is_clear, renewals}
+use Rattle.graph_update.specs.Events.{renewals}
 use Rattle.graph_update.specs.Finishes.{IsEnd}
-use Rattle.graph_update.specs.Laws.{Event, IsPerformed, IsSoundMoment, Leads, Moment}
+use Rattle.graph_update.specs.Laws.{Event, IsSoundMoment, Leads, Moment}
 use Rattle.graph_update.specs.Progress.{Progress}
-use Rattle.graph_update.specs.Sound.{IsSound, is_unblocked}
+use Rattle.graph_update.specs.Sound.{is_unblocked}
 use Rattle.graph_update.specs.StandingBasis.{StandingBasis}
 use Rattle.graph_update.specs.StandingLaws.{ClaimsNode, ClearNodesStayClear, IsClearNode}
 use Rattle.graph_update.proofs.Claims.{claimed_is_clear, is_home, own_covers, same_node}

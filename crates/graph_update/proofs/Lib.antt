@@ -21,5 +21,6 @@ pub mod Standing
 pub mod StandingDrains
 pub mod StandingEnds
 pub mod StandingEvents
+pub mod StandingMeans
 pub mod Starting
 pub mod Whole

@@ -1,8 +1,8 @@
 -- The running node of a task that is performed.
-use Rattle.std.proofs.Common.{◌≡◌, ℕ, ◌+◌, ◌<◌, true, List, ◌∷◌, ◌++◌, length, sym, ap, subst, ◌∙◌, arith}
+use Rattle.std.proofs.Common.{◌≡◌, ◌+◌, ◌<◌, List, length, sym, ap, subst, ◌∙◌, arith}
 use Rattle.std.specs.Prelude.{Contains}
 use Rattle.std.specs.List.{AllByRecursion}
-use Rattle.task_order.specs.TaskList.{put_all, put_in, without}
+use Rattle.task_order.specs.TaskList.{put_all, without}
 use Rattle.cell_store.specs.Cells.{part_of}
 use Rattle.cell_store.specs.Values.{homes}
 use Rattle.kdg_graph.specs.Node.{Node}
@@ -21,7 +21,7 @@ use Rattle.graph_update.proofs.ClearNodes.{recorded_sets_suffice}
 use Rattle.graph_update.proofs.EndedCounts.{length-children}
 use Rattle.graph_update.proofs.FinishMembers.{all_in_middle}
 use Rattle.graph_update.proofs.FinishTasks.{length-mapped}
-use Rattle.graph_update.proofs.Members.{all_at, in_map}
+use Rattle.graph_update.proofs.Members.{all_at}
 
 module _ {V : Type 0} {app : Application V} (basis : StandingBasis app) where
   module _ {progress : Progress V} {done : Done V} {job : Job V} {jobs others : List (Job V)} {values : List V}

@@ -1,5 +1,5 @@
 -- What a drain takes out, and what it leaves standing for the sequential run.
-use Rattle.std.proofs.Common.{◌≡◌, ℕ, ◌+◌, ◌||◌, true, false, not, List, [], ◌∷◌, ◌++◌, length, drop, append_assoc, length-append, refl, sym, ap, subst, ◌∙◌, arith}
+use Rattle.std.proofs.Common.{◌≡◌, ◌+◌, ◌||◌, true, false, not, List, [], ◌∷◌, ◌++◌, length, drop, append_assoc, length-append, refl, sym, ap, subst, ◌∙◌, arith}
 use Rattle.std.specs.List.{AllByRecursion, list_any}
 use Rattle.std.specs.declared.cmp.Ordering.{Ordering}
 use Rattle.std.specs.declared.cmp.Ordering.TheVariants.{Less, Equal, Greater}
@@ -9,11 +9,11 @@ use Rattle.task_order.specs.declared.key.Key.{Key}
 use Rattle.task_order.specs.declared.task.Task.{Task}
 use Rattle.task_order.specs.Key.{at_key, end, is_before, key_cmp}
 use Rattle.task_order.specs.TaskList.{IsAscending}
-use Rattle.output_log.specs.Entries.{Entry, IsInKeyOrder, entries_before, entries_from, is_entry_before}
+use Rattle.output_log.specs.Entries.{Entry, entries_before, entries_from, is_entry_before}
 use Rattle.kdg_graph.specs.Node.{Node}
 use Rattle.kdg_graph.specs.Nodes.{tasks_of}
 use Rattle.app_laws.specs.Applications.{Application}
-use Rattle.app_laws.specs.Execution.{after_steps, is_clear_before}
+use Rattle.app_laws.specs.Execution.{after_steps}
 use Rattle.commuting.specs.Standing.{StandsFor as StateStandsFor}
 use Rattle.commuting.specs.States.{State, execution_from}
 use Rattle.graph_update.specs.declared.job.Job.{Job}
@@ -69,10 +69,11 @@ module _ {V : Type 0} {app : Application V} (basis : StandingBasis app) where
   before_later : (entries : List Entry) (key : Key) (nodes : List Node) → AllByRecursion (λ (entry : Entry). key_cmp entry.0 key ≡ Less) entries
       → AllByRecursion (λ (task : Task). key_cmp key task.key ≡ Less) (tasks_of nodes) → AreBeforeNodes entries nodes
   before_later entries key [] all later = tt
-  before_later entries key (node ∷ nodes) all later =
-      (all-weaker (λ (entry : Entry). key_cmp entry.0 key ≡ Less) (λ (entry : Entry). key_cmp entry.0 node.task.key ≡ Less)
-      (λ entry less. basis.begun.lower.transitive entry.0 key node.task.key less later.0) entries all,
-      before_later entries key nodes all later.1)
+  before_later entries key (node ∷ nodes) all later = (
+    all-weaker (λ (entry : Entry). key_cmp entry.0 key ≡ Less) (λ (entry : Entry). key_cmp entry.0 node.task.key ≡ Less)
+        (λ entry less. basis.begun.lower.transitive entry.0 key node.task.key less later.0) entries all,
+    before_later entries key nodes all later.1,
+  )
 
   drainable_before : (nodes : List Node) (log : List Entry) → IsAscending (tasks_of nodes) → AreBeforeNodes (drainable app nodes log) nodes
   drainable_before [] log ascending = tt

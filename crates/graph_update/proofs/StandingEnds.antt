@@ -1,11 +1,11 @@
 -- What the end of a task, and one that is over the limit, leave standing for the sequential run.
-use Rattle.std.proofs.Common.{◌≡◌, ℕ, suc, ◌+◌, ◌≤◌, ◌<◌, inl, inr, ⊎_elim, List, [], ◌∷◌, ◌++◌, length, Some, None, refl, sym, ap, subst, ◌∙◌, arith}
+use Rattle.std.proofs.Common.{◌≡◌, ℕ, suc, ◌+◌, ◌≤◌, ◌<◌, ⊎_elim, List, [], ◌∷◌, ◌++◌, length, None, refl, sym, ap, subst, ◌∙◌, arith}
 use Rattle.std.specs.List.{AllByRecursion}
 use Rattle.std.specs.declared.cmp.Ordering.TheVariants.{Less}
 use Rattle.task_order.specs.declared.key.Key.{Key}
 use Rattle.task_order.specs.declared.start.Start.{Start}
 use Rattle.task_order.specs.declared.task.Task.{Task}
-use Rattle.task_order.specs.Key.{at_key, child_key, key_cmp}
+use Rattle.task_order.specs.Key.{child_key, key_cmp}
 use Rattle.task_order.specs.TaskList.{without}
 use Rattle.output_log.specs.Entries.{Entry, with_entry}
 use Rattle.kdg_graph.specs.Node.{Node}
@@ -14,24 +14,23 @@ use Rattle.app_laws.specs.Applications.{Application}
 use Rattle.app_laws.specs.Execution.{children_from, run_to_end}
 use Rattle.commuting.specs.Standing.{StandsFor as StateStandsFor}
 use Rattle.commuting.specs.States.{State, after_task, execution_from}
-use Rattle.graph_update.specs.declared.answers.OverCause.{OverCause}
 use Rattle.graph_update.specs.declared.answers.OverCause.TheVariants as cause
 use Rattle.graph_update.specs.declared.job.Done.{Done}
 use Rattle.graph_update.specs.declared.job.Job.{Job}
-use Rattle.graph_update.specs.Events.{IsFinished, IsOverLimit, budget_marked}
+use Rattle.graph_update.specs.Events.{IsOverLimit, budget_marked}
 use Rattle.graph_update.specs.Finishes.{IsEnd}
 use Rattle.graph_update.specs.Laws.{IsPerformed}
 use Rattle.graph_update.specs.Progress.{Progress, whole_state}
-use Rattle.graph_update.specs.Standing.{HasTrueMark, StandsFor, drained_count, drained_entries, ended_entries}
+use Rattle.graph_update.specs.Standing.{StandsFor, drained_count, drained_entries, ended_entries}
 use Rattle.graph_update.specs.StandingBasis.{StandingBasis}
 use Rattle.graph_update.specs.StandingLaws.{FinishesKeepStanding, PassedLimitsKeepStanding, PassedLimitsNeverEnd}
-use Rattle.graph_update.proofs.Behind.{AreEarlierThan, by_tasks, earlier_by_order, of_tasks, put_behind}
-use Rattle.graph_update.proofs.Ended.{effect_is_of_whole, acts_on_whole, tasks_after}
+use Rattle.graph_update.proofs.Behind.{by_tasks, earlier_by_order, of_tasks, put_behind}
+use Rattle.graph_update.proofs.Ended.{acts_on_whole}
 use Rattle.graph_update.proofs.EndedCounts.{length-with_entry, log_is}
 use Rattle.graph_update.proofs.FinishTasks.{all-weaker, all-put_all}
 use Rattle.graph_update.proofs.Marks.{marks_and_drains_keep_sound}
 use Rattle.graph_update.proofs.Members.{all_at, all-filter}
-use Rattle.graph_update.proofs.Performed.{is_fit, is_there, its_children, its_effect, its_task, its_task_is_clear, of_node, pending_after, some_nodes}
+use Rattle.graph_update.proofs.Performed.{is_fit, is_there, its_effect, its_task, its_task_is_clear, of_node, pending_after, some_nodes}
 use Rattle.graph_update.proofs.Standing.{AreBeforeTasks, either_mark, mark_kept, same_drained, stands_kept}
 
 module _ {V : Type 0} {app : Application V} (basis : StandingBasis app) where
@@ -40,10 +39,11 @@ module _ {V : Type 0} {app : Application V} (basis : StandingBasis app) where
       → AllByRecursion (λ (entry : Entry). key_cmp entry.0 parent ≡ Less) entries → AreBeforeTasks entries (children_from parent number starts)
   before_children entries parent number [] later all = tt
   before_children entries parent number (start ∷ starts) later all =
-      let child = child_key parent number start.prio in
-      (all-weaker (λ (entry : Entry). key_cmp entry.0 parent ≡ Less) (λ (entry : Entry). key_cmp entry.0 child ≡ Less)
-      (λ entry less. basis.begun.lower.transitive entry.0 parent child less (basis.children_later parent number start.prio later.0)) entries all,
-      before_children entries parent (suc number) starts later.1 all)
+      let child = child_key parent number start.prio in (
+        all-weaker (λ (entry : Entry). key_cmp entry.0 parent ≡ Less) (λ (entry : Entry). key_cmp entry.0 child ≡ Less)
+            (λ entry less. basis.begun.lower.transitive entry.0 parent child less (basis.children_later parent number start.prio later.0)) entries all,
+        before_children entries parent (suc number) starts later.1 all,
+      )
 
   module _ {start : State V} {progress : Progress V} {done : Done V} {job : Job V} {jobs others : List (Job V)} {values : List V}
       (stands : StandsFor app start progress jobs values) (performed : IsPerformed app jobs done job others) where
@@ -98,9 +98,11 @@ module _ {V : Type 0} {app : Application V} (basis : StandingBasis app) where
         true_now : (created limit : ℕ) → cause.Budget (progress.created + length done.effect.children) progress.limit ≡ cause.Budget created limit
             → (limit ≡ progress.limit) × (limit < created) × (run_to_end app.act limit (execution_from start) ≡ None)
         true_now created limit same =
-            let parts = budgets same in
-            (sym parts.1, subst (λ n. n < created) parts.1 (subst (λ n. progress.limit < n) parts.0 over),
-            subst (λ n. run_to_end app.act n (execution_from start) ≡ None) parts.1 (never_ends over))
+            let parts = budgets same in (
+              sym parts.1,
+              subst (λ n. n < created) parts.1 (subst (λ n. progress.limit < n) parts.0 over),
+              subst (λ n. run_to_end app.act n (execution_from start) ≡ None) parts.1 (never_ends over),
+            )
 
   pub passed_limits_never_end : PassedLimitsNeverEnd app
   passed_limits_never_end start progress done job jobs others values stands performed over = never_ends stands performed over

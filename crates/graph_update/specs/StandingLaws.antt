@@ -6,7 +6,7 @@ use Rattle.task_order.specs.declared.start.Start.{Start}
 use Rattle.task_order.specs.Key.{Bound, at_key, end, key_cmp}
 use Rattle.task_order.specs.TaskList.{put_all}
 use Rattle.cell_store.specs.declared.cell.Cell.TheVariants.{Home}
-use Rattle.output_log.specs.Entries.{Entry, IsInKeyOrder, IsNewEntry, entries_before, joined_by_key}
+use Rattle.output_log.specs.Entries.{Entry, IsInKeyOrder, IsNewEntry, ShareNoKey, entries_before, joined_by_key}
 use Rattle.kdg_graph.specs.Node.{Node}
 use Rattle.app_laws.specs.Applications.{Application, AreFitStarts, set_in}
 use Rattle.app_laws.specs.Execution.{Execution, after_steps, first_from, run_until, run_to_end}
@@ -17,7 +17,7 @@ use Rattle.graph_update.specs.declared.job.Done.{Done}
 use Rattle.graph_update.specs.declared.job.Job.{Job}
 use Rattle.graph_update.specs.Answers.{IsBegun}
 use Rattle.graph_update.specs.Events.{IsClaimed, IsFinished, IsOverLimit, budget_marked, drainable, drained, is_clear, marked}
-use Rattle.graph_update.specs.Laws.{Event, Moment, IsPerformed, IsSoundMoment, Leads, Reaches}
+use Rattle.graph_update.specs.Laws.{Event, Moment, IsPerformed, IsSoundMoment, Reaches}
 use Rattle.graph_update.specs.Progress.{Progress, whole_state}
 use Rattle.graph_update.specs.Sound.{IsSound}
 use Rattle.graph_update.specs.Standing.{StandsFor, drained_count, drained_entries, ended_entries}
@@ -104,15 +104,18 @@ module _ {V : Type 0} (app : Application V) where
 
   -- ---- what it means
 
-  -- what the run from the start has logged is the entries and what the rest logs, by key; at the end the cells are the same
+  -- The log of the run from the start is the join by key of the entries and the log of the rest, which ascends and has none of
+  -- their keys. At the end the cells are the same.
   pub record IsJoinedRest (bound : Bound) (entries : List Entry) (e rest : Execution V) : Type 0 where
-    pub log : e.log ≡ joined_by_key rest.log entries
+    pub ascends : IsInKeyOrder rest.log
+    pub apart : ShareNoKey entries rest.log
+    pub log : e.log ≡ joined_by_key entries rest.log
     pub cells : bound ≡ end → e.cells ≡ rest.cells
 
   -- One entry is there for each task that has ended. They ascend, and none has a node's key; those that were drained are the
   -- first ones of the sequential log, and earlier than each node. To any bound, a run from the start takes as many steps more
   -- than one from the whole cells and the nodes' tasks as entries are earlier than the bound: both are given up, or the first
-  -- logs just these entries beside what the second logs.
+  -- logs these entries and what the second logs.
   pub record MeansTheSequentialRun (start : State V) (progress : Progress V) (values : List V) : Type 0 where
     pub one_each : length (ended_entries app start progress) ≡ progress.ended
     pub as_many_drained : length (drained_entries app start progress) ≡ drained_count progress

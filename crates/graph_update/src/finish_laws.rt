@@ -11,7 +11,7 @@ use rw_sets::{conflict_laws, independence_laws, merge_laws, within_laws};
 use task_order::{earlier_laws, key_order, put_all_laws, put_in_laws, without_laws};
 
 /// What the crates below promise of what a task's end changes, as one.
-fn basis<A: App>()
+pub(crate) fn basis<A: App>()
     ensures { (app : A) → FinishBasis (A.meaning app) }
 {
     lawful::<A>();

@@ -33,7 +33,7 @@ fn cell_laws<V>()
 }
 
 /// Both, the laws of an application, and that its first tasks make a state that is ready.
-fn basis<A: App>()
+pub(crate) fn basis<A: App>()
     ensures { (app : A) → Basis (A.meaning app) }
 {
     lower_laws();

@@ -5,6 +5,7 @@ mod answers;
 mod finish_laws;
 mod job;
 mod laws;
+mod standing_laws;
 
 pub use answers::{BeginFault, Claim, Counts, FinishFault, OverCause};
 pub use finish_laws::{
@@ -13,3 +14,7 @@ pub use finish_laws::{
 };
 pub use job::{Done, Job};
 pub use laws::{begin_laws, claim_laws, clear_laws, drain_laws, event_laws, whole_laws};
+pub use standing_laws::{
+    begin_standing_laws, claim_standing_laws, drain_standing_laws, end_laws, event_standing_laws,
+    finish_standing_laws, give_up_standing_laws, rest_laws, standing_run_laws, stay_clear_laws,
+};
