@@ -1,15 +1,18 @@
 -- Entries behind others that are earlier than a bound, and what holds of nodes by their tasks.
-use Rattle.std.proofs.Common.{◌≡◌, ℕ, true, not, cond, List, [], ◌∷◌, ◌++◌, append_assoc, refl, ap, ◌∙◌}
+use Rattle.std.proofs.Common.{◌≡◌, ◌≢◌, ℕ, true, false, not, cond, List, [], ◌∷◌, ◌++◌, append_assoc, refl, sym, ap, subst, ◌∙◌}
 use Rattle.std.specs.List.{AllByRecursion}
 use Rattle.std.specs.Ordering.{is_lt}
 use Rattle.std.specs.declared.cmp.Ordering.TheVariants.{Less}
 use Rattle.std.proofs.lemmas.List.Elements.{filter-append}
+use Rattle.std.proofs.lemmas.Bool.{true≢false}
 use Rattle.task_order.specs.declared.key.Key.{Key}
 use Rattle.task_order.specs.declared.task.Task.{Task}
 use Rattle.task_order.specs.Key.{Bound, at_key, end, key_cmp}
 use Rattle.output_log.specs.Entries.{Entry, entries_before, entries_from, is_entry_before, with_entry}
 use Rattle.kdg_graph.specs.Node.{Node}
 use Rattle.kdg_graph.specs.Nodes.{tasks_of}
+use Rattle.app_laws.specs.Order.{is_prefix}
+use Rattle.graph_update.proofs.FinishTasks.{prefix_of_itself}
 
 -- ---- entries
 
@@ -51,6 +54,13 @@ earlier_by_order key (entry ∷ entries) all = (ap is_lt all.0, earlier_by_order
 pub all-append : {X : Type 0} (P : X → Type 0) (xs ys : List X) → AllByRecursion P xs → AllByRecursion P ys → AllByRecursion P (xs ++ ys)
 all-append P [] ys first last = last
 all-append P (x ∷ xs) ys first last = (first.0, all-append P xs ys first.1 last)
+
+-- a path that another isn't a prefix of is another one
+pub differs_without_prefix : (path other : List ℕ) → is_prefix path other ≡ false → other ≢ path
+differs_without_prefix path other none same =
+    let itself = prefix_of_itself path in
+    let never : is_prefix path path ≡ false = subst (λ (held : List ℕ). is_prefix path held ≡ false) same none in
+    true≢false (sym itself ∙ never)
 
 -- ---- nodes
 

@@ -262,7 +262,7 @@ pub claimed_is_clear : {V : Type 0} {app : Application V} {old now : Progress V}
 claimed_is_clear {V} {app} {old} claimed = from_filter (is_clear app old.nodes) old.nodes claimed.node (found_is_there (clear_nodes app old.nodes) _ claimed.node claimed.chosen)
 
 pub claims_keep_sound : {V : Type 0} {app : Application V} → Basis app → ClaimsKeepSound app
-claims_keep_sound {V} {app} basis old now pick job jobs values sound claimed =
+claims_keep_sound {V} {app} basis old _ pick job jobs values sound claimed =
     let among = claimed_is_clear claimed in
     let first = claim_is_sound basis old jobs values claimed.node sound among.0 among.1 in
     subst (λ (progress : Progress V). IsSound app progress (job ∷ jobs) values) (sym claimed.after)

@@ -20,7 +20,7 @@ use Rattle.graph_update.specs.Progress.{Progress}
 use Rattle.graph_update.specs.Sound.{IsOfNode, IsWhole, is_written}
 use Rattle.graph_update.proofs.Ended.{ended_node, is_pending}
 use Rattle.graph_update.proofs.EndedJobs.{differ}
-use Rattle.graph_update.proofs.EndedNodes.{ended_key, others_apart, runs_unblocked}
+use Rattle.graph_update.proofs.EndedNodes.{ended_key, others_apart}
 use Rattle.graph_update.proofs.FinishMembers.{all_at, all_but_one, any_but_one}
 use Rattle.graph_update.proofs.FinishTasks.{all-joined, all-weaker, length-mapped}
 
@@ -72,7 +72,7 @@ module _ {V : Type 0} {app : Application V} (basis : FinishBasis app) where
         let node = of_node.0 in
         let has = basis.keys_find old.nodes other.task.key node of_node.1 in
         let apart : node.id ≢ end.finished.node.id = λ same. differ (same_key other node has.0 has.1 same) in
-        let sets : AreIndependent end.finished.node.set node.set = others_apart basis end node has.0 (runs_unblocked basis end node has.0 of_node.2.running) apart in
+        let sets : AreIndependent end.finished.node.set node.set = others_apart basis end node has.0 of_node.2.running apart in
         subst (λ set. AreIndependent job.bundle.set set) of_node.2.set (subst (λ set. AreIndependent set node.set) (ended_node basis end).job_set sets))
         (end.performed.before ++ end.performed.after) (differ basis end)
         (all_but_one (IsOfNode app old.nodes) end.performed.before job end.performed.after (subst (AllByRecursion (IsOfNode app old.nodes)) end.performed.there end.sound.outs_match.named))

@@ -29,7 +29,7 @@ length-children parent number (start ∷ starts) = ap suc (length-children paren
 abbrev IsUnlogged : Task → Entry → Type 0
 IsUnlogged task entry = is_prefix task.key.path entry.0.path ≡ false
 
-pub path_differs : (task : Task) (entry : Entry) → IsUnlogged task entry → entry.0.path ≢ task.key.path
+path_differs : (task : Task) (entry : Entry) → IsUnlogged task entry → entry.0.path ≢ task.key.path
 path_differs task entry none same =
     let itself = prefix_of_itself task.key.path in
     let never : is_prefix task.key.path task.key.path ≡ false = subst (λ (path : List ℕ). is_prefix task.key.path path ≡ false) same none in

@@ -125,9 +125,13 @@ module _ {V : Type 0} {app : Application V} (basis : FinishBasis app) where
     pub runs_unblocked : (node : Node) → Contains old.nodes node → node.running ≡ true → is_unblocked app old.nodes node ≡ true
     runs_unblocked node has runs = all_at (λ (node : Node). node.running ≡ true → is_unblocked app old.nodes node ≡ true) old.nodes node end.sound.running_unblocked has runs
 
+    pub runs_apart : (earlier node : Node) → Contains old.nodes earlier → Contains old.nodes node → node.running ≡ true → key_cmp earlier.task.key node.task.key ≡ Less
+        → conflicts_with earlier.set node.set ≡ false
+    runs_apart earlier node has_earlier has runs less = unblocked_apart earlier node has_earlier (runs_unblocked node has runs) less
+
     -- an unblocked node and the running one that ends are independent
-    pub others_apart : (node : Node) → Contains old.nodes node → is_unblocked app old.nodes node ≡ true → node.id ≢ end.finished.node.id → AreIndependent end.finished.node.set node.set
-    others_apart node has unblocked other =
+    pub independent_of_ended : (node : Node) → Contains old.nodes node → is_unblocked app old.nodes node ≡ true → node.id ≢ end.finished.node.id → AreIndependent end.finished.node.set node.set
+    independent_of_ended node has unblocked other =
         let ended = is_there basis end in
         (basis.independent end.finished.node.set node.set).0 (λ conflict.
         ⊎_elim
@@ -136,6 +140,9 @@ module _ {V : Type 0} {app : Application V} (basis : FinishBasis app) where
         (λ after. let apart = unblocked_apart node end.finished.node has (runs_unblocked end.finished.node ended (ended_node basis end).running) after in
         true≢false (sym ((basis.decided node.set end.finished.node.set).1 (basis.turned end.finished.node.set node.set conflict)) ∙ apart))
         (basis.connected end.finished.node.task.key node.task.key (λ same. other (ap (λ (node : Node). node.id) (sym (own_key end.finished.node node ended has same))))))
+
+    pub others_apart : (node : Node) → Contains old.nodes node → node.running ≡ true → node.id ≢ end.finished.node.id → AreIndependent end.finished.node.set node.set
+    others_apart node has runs other = independent_of_ended node has (runs_unblocked node has runs) other
 
     -- a running node isn't changed
     pub running_is_free : (node : Node) → Contains old.nodes node → node.running ≡ true → IsInTheWay node → ⊥

@@ -28,7 +28,7 @@ use Rattle.graph_update.specs.Finishes.{IsEnd, FinishesKeepUnblocked}
 use Rattle.graph_update.specs.Progress.{Progress, whole_state}
 use Rattle.graph_update.specs.Sound.{is_unblocked}
 use Rattle.graph_update.proofs.Ended.{covered, whole_after}
-use Rattle.graph_update.proofs.EndedNodes.{others_apart, running_is_free, runs_unblocked, set_unchanged, unblocked_apart}
+use Rattle.graph_update.proofs.EndedNodes.{independent_of_ended, running_is_free, runs_unblocked, set_unchanged, unblocked_apart}
 use Rattle.graph_update.proofs.EndedSets.{covers_of, independent_tasks, item_set, moves_within, same_set, set_cases}
 use Rattle.graph_update.proofs.FinishMembers.{all_at, all_from, from_filter, from_map, in_filter, in_map, none_any}
 
@@ -64,7 +64,7 @@ module _ {V : Type 0} {app : Application V} (basis : FinishBasis app) where
       pub own : was.set ≡ set_in app values was.task
 
     apart_from_ended : (was : Node) → IsAnotherUnblocked was → ¬ Conflicts end.finished.node.set was.set
-    apart_from_ended was still = (basis.independent end.finished.node.set was.set).1 (others_apart basis end was still.has still.unblocked still.apart)
+    apart_from_ended was still = (basis.independent end.finished.node.set was.set).1 (independent_of_ended basis end was still.has still.unblocked still.apart)
 
     apart_from_earlier : (was other : Node) → IsAnotherUnblocked was → Contains old.nodes other → is_lt (key_cmp other.task.key was.task.key) ≡ true → ¬ Conflicts other.set was.set
     apart_from_earlier was other still has before conflict =

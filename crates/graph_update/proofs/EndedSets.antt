@@ -29,7 +29,7 @@ use Rattle.graph_update.specs.Progress.{Progress, whole_state}
 use Rattle.graph_update.specs.Sound.{Covers}
 use Rattle.graph_update.proofs.Ended.{covered, ended_node, is_pending, is_there, ready_after}
 use Rattle.graph_update.proofs.EndedCells.{agrees_after, cell_after, fit_after, never_out}
-use Rattle.graph_update.proofs.EndedNodes.{IsInTheWay, ended_key, own_key, running_is_free, runs_unblocked, set_changed, set_unchanged, unblocked_apart}
+use Rattle.graph_update.proofs.EndedNodes.{IsInTheWay, ended_key, own_key, running_is_free, runs_apart, set_changed, set_unchanged}
 use Rattle.graph_update.proofs.FinishMembers.{all_at, all_from, in_map}
 
 joined_parts : (x y : Option Access) → is_some (joined x y) ≡ true → (is_some x ≡ true) ⊎ (is_some y ≡ true)
@@ -96,7 +96,7 @@ module _ {V : Type 0} {app : Application V} (basis : FinishBasis app) where
             ⊎_elim
             (λ before. subst P (sym (set_changed basis end was has (ap is_lt before, is))) (changed (ap is_lt before, is) (app.walk was.task.body (cells_given old.cells done.effect.bundle)) (walked was has)))
             (λ after.
-            let none = unblocked_apart basis end was end.finished.node has (runs_unblocked basis end end.finished.node (is_there basis end) (ended_node basis end).running) after in
+            let none = runs_apart basis end was end.finished.node has (is_there basis end) (ended_node basis end).running after in
             let both = basis.turned end.finished.node.set was.set ((basis.decided end.finished.node.set was.set).0 is) in
             absurd (true≢false (sym ((basis.decided was.set end.finished.node.set).1 both) ∙ none)))
             (basis.connected end.finished.node.task.key was.task.key (λ same. apart (ap (λ (node : Node). node.id) (own_key basis end was end.finished.node has (is_there basis end) (sym same)))))

@@ -16,11 +16,11 @@ pub mod FinishMembers
 pub mod FinishTasks
 pub mod Marks
 pub mod Members
-pub mod Performed
 pub mod Standing
 pub mod StandingDrains
 pub mod StandingEnds
 pub mod StandingEvents
+pub mod StandingJobs
 pub mod StandingMeans
 pub mod Starting
 pub mod Whole

@@ -30,7 +30,7 @@ use Rattle.graph_update.proofs.EndedCounts.{length-with_entry, log_is}
 use Rattle.graph_update.proofs.FinishTasks.{all-weaker, all-put_all}
 use Rattle.graph_update.proofs.Marks.{marks_and_drains_keep_sound}
 use Rattle.graph_update.proofs.Members.{all_at, all-filter}
-use Rattle.graph_update.proofs.Performed.{is_fit, is_there, its_effect, its_task, its_task_is_clear, of_node, pending_after, some_nodes}
+use Rattle.graph_update.proofs.StandingJobs.{is_fit, is_there, its_effect, its_task, its_task_is_clear, of_node, pending_after, some_nodes}
 use Rattle.graph_update.proofs.Standing.{AreBeforeTasks, either_mark, mark_kept, same_drained, stands_kept}
 
 module _ {V : Type 0} {app : Application V} (basis : StandingBasis app) where

@@ -21,8 +21,7 @@ use Rattle.graph_update.specs.Progress.{Progress, whole_state}
 use Rattle.graph_update.specs.Standing.{StandsFor, ended_entries}
 use Rattle.graph_update.specs.StandingBasis.{StandingBasis}
 use Rattle.graph_update.specs.StandingLaws.{IsJoinedRest, StandingMeansTheSequentialRun}
-use Rattle.graph_update.proofs.Behind.{all-append, by_tasks}
-use Rattle.graph_update.proofs.EndedCounts.{path_differs}
+use Rattle.graph_update.proofs.Behind.{all-append, by_tasks, differs_without_prefix}
 use Rattle.graph_update.proofs.FinishTasks.{all-put_all, all-swapped, all-weaker}
 use Rattle.graph_update.proofs.Members.{all-filter, all_from}
 use Rattle.graph_update.proofs.StandingDrains.{drained_length}
@@ -61,7 +60,7 @@ module _ {V : Type 0} {app : Application V} (basis : StandingBasis app) where
     pending = all-put_all (λ (task : Task). is_prefix task.key.path path ≡ false) (children_from task.key 0 (app.act task e.cells).children) others
         (basis.ended.children_new task.key (app.act task e.cells).children path passing.0) passing.1;
     logged = all-append (HasOtherPath path) e.log ((task.key, (app.act task e.cells).text) ∷ []) logged
-        ((λ same. path_differs task (record { prio = task.key.prio; path = path }, []) passing.0 (sym same)), tt);
+        ((λ same. differs_without_prefix task.key.path path passing.0 (sym same)), tt);
   }
 
   stays_passing : (path : List ℕ) (e : Execution V) → Passes path e → (steps : ℕ) → Passes path (after_steps app.act steps e)
@@ -136,7 +135,7 @@ module _ {V : Type 0} {app : Application V} (basis : StandingBasis app) where
         (all-weaker (λ (task : Task). AllByRecursion (λ (entry : Entry). is_prefix task.key.path entry.0.path ≡ false) (ended_entries app start progress))
         (λ (task : Task). IsNewEntry task.key (ended_entries app start progress))
         (λ task. all-weaker (λ (entry : Entry). is_prefix task.key.path entry.0.path ≡ false) (λ (entry : Entry). entry.0 ≢ task.key)
-        (λ entry none same. path_differs task entry none (ap (λ (key : Key). key.path) same)) (ended_entries app start progress))
+        (λ entry none same. differs_without_prefix task.key.path entry.0.path none (ap (λ (key : Key). key.path) same)) (ended_entries app start progress))
         (tasks_of progress.nodes) stands.state.unlogged)
 
   pub standing_means_the_sequential_run : StandingMeansTheSequentialRun app
