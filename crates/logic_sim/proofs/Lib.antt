@@ -1,3 +1,6 @@
 pub mod Changes
+pub mod Effects
 pub mod Ranges
 pub mod Readers
+pub mod SafeTasks
+pub mod Sets

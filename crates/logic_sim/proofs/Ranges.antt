@@ -22,7 +22,7 @@ filter_more p n b e =
     ∙ filter-append p (range_with_len 0 n) (n ∷ [])
     ∙ ap (λ (t : Bool). filter p (range_with_len 0 n) ++ (if t then n ∷ [] else [])) e
 
-read_signal : (signals : List Signal) (n : ℕ) (signal : Signal) → n < length signals → signal ≡ get_or signals n signal → signal ≡ signal_at signals n
+pub read_signal : (signals : List Signal) (n : ℕ) (signal : Signal) → n < length signals → signal ≡ get_or signals n signal → signal ≡ signal_at signals n
 read_signal signals n signal below is = get_or_read signals n signal below is no_signal
 
 gates_among-more : (signals : List Signal) (n : ℕ) (signal : Signal) (b : Bool) → n < length signals → signal ≡ get_or signals n signal → is_gate signal.form ≡ b →

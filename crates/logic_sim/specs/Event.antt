@@ -61,13 +61,17 @@ final_line name value = codes "final " ++ value_line name value
 abbrev pub nothing_done : List ℕ → Outcome ℕ
 nothing_done cells = record { cells = cells; children = []; text = [] }
 
+-- an output's change is written
+abbrev pub change_text : Deck → ℕ → ℕ → ℕ → List ℕ
+change_text deck time signal value = if is_among deck.outputs signal then change_line time (signal_at deck.signals signal).name value else []
+
 -- where the value is another one, it is set, each gate that reads the signal is to be evaluated at the same time, and
 -- an output's change is written
 abbrev pub change_of : Simulation → ℕ → ℕ → ℕ → List ℕ → Outcome ℕ
 change_of c time signal value cells = if value_in cells signal == value then nothing_done cells else record {
   cells = slice_set cells (value_place signal) value;
   children = map (eval_at time) (readers_of c.deck.signals signal);
-  text = if is_among c.deck.outputs signal then change_line time (signal_at c.deck.signals signal).name value else [];
+  text = change_text c.deck time signal value;
 }
 
 -- what a gate computes from the values of its fan-ins
@@ -75,12 +79,16 @@ abbrev pub computed_by : Form → List ℕ → ℕ
 computed_by Input cells = 0
 computed_by (Gate kind fan_in) cells = gate_value kind (map (value_in cells) fan_in)
 
+-- the gate is to take the value one unit of time later, if that is not too late
+abbrev pub next_changes : Simulation → ℕ → ℕ → ℕ → List Start
+next_changes c time gate value = if nat_le (time + 1) c.until then change_at (time + 1) gate value ∷ [] else []
+
 -- where the result is another one than what is planned, it is planned, and the gate is to take it one unit of time
 -- later, if that is not too late
 abbrev pub plan_of : Simulation → ℕ → ℕ → ℕ → List ℕ → Outcome ℕ
 plan_of c time gate value cells = if plan_in cells gate == value then nothing_done cells else record {
   cells = slice_set cells (plan_place gate) value;
-  children = if nat_le (time + 1) c.until then change_at (time + 1) gate value ∷ [] else [];
+  children = next_changes c time gate value;
   text = [];
 }
 

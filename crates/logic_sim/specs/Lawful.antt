@@ -10,7 +10,7 @@ use Rattle.std.proofs.lemmas.Bool.Decides.{nat_tests}
 use Rattle.std.proofs.lemmas.List.Elements.{All-get_or, recursion_from_All}
 use Rattle.std.proofs.lemmas.List.Folds.{list_all-append}
 use Rattle.std.proofs.lemmas.Option.{slice_get-get_or, same_Some}
-use Rattle.bench_reader.specs.Decks.{IsWired}
+use Rattle.bench_reader.specs.Decks.{IsSoundlyWired, IsWired}
 use Rattle.bench_reader.specs.declared.deck.Form.{Form}
 use Rattle.bench_reader.specs.declared.deck.Form.TheVariants.{Input, Gate}
 use Rattle.task_order.specs.declared.key.Key.{Key}
@@ -38,27 +38,27 @@ of_listed P [] p all (k, lt, e) = absurd (omega arith)
 of_listed P (q ∷ qs) p all (zero, lt, e) = subst P e all.0
 of_listed P (q ∷ qs) p all (suc k, lt, e) = of_listed P qs p all.1 (k, omega arith, e)
 
-listed_later : (q : ℕ × Access) (qs : Accesses) (p : ℕ × Access) → Contains qs p → Contains (q ∷ qs) p
+pub listed_later : (q : ℕ × Access) (qs : Accesses) (p : ℕ × Access) → Contains qs p → Contains (q ∷ qs) p
 listed_later q qs p (k, lt, e) = (suc k, omega arith, e)
 
-plan_listed : (fan_in : List ℕ) (gate : ℕ) → Contains (eval_accesses fan_in gate) (plan_place gate, Write)
+pub plan_listed : (fan_in : List ℕ) (gate : ℕ) → Contains (eval_accesses fan_in gate) (plan_place gate, Write)
 plan_listed [] gate = (0, omega arith, refl)
 plan_listed (signal ∷ fan_in) gate = listed_later (value_place signal, Read) (eval_accesses fan_in gate) (plan_place gate, Write) (plan_listed fan_in gate)
 
 -- the set of a change, by locations
-changed_is : (signal loc : ℕ) → IsSome (access_at (change_set signal) loc) → value_place signal ≡ loc
+pub changed_is : (signal loc : ℕ) → IsSome (access_at (change_set signal) loc) → value_place signal ≡ loc
 changed_is signal loc named = elim (cases_eq (value_place signal) loc) [
   | inl is ↦ is
   | inr differs ↦ absurd (false≢true (rw (access_other (value_place signal, Write) [] loc differs) at named))
 ]
 
-change_set-named : (signal : ℕ) → IsSome (access_at (change_set signal) (value_place signal))
+pub change_set-named : (signal : ℕ) → IsSome (access_at (change_set signal) (value_place signal))
 change_set-named signal = rw (access_first (value_place signal, Write) [] (value_place signal) refl) refl
 
-change_set-written : (signal : ℕ) → IsTrue (writes (change_set signal) (value_place signal))
+pub change_set-written : (signal : ℕ) → IsTrue (writes (change_set signal) (value_place signal))
 change_set-written signal = ap allows_write (access_first (value_place signal, Write) [] (value_place signal) refl)
 
-change_set-ascending : (signal : ℕ) → IsAscending (change_set signal)
+pub change_set-ascending : (signal : ℕ) → IsAscending (change_set signal)
 change_set-ascending signal = ascending_cons (value_place signal, Write) [] tt ascending_none
 
 -- what one location has, where a list is changed at one
@@ -129,8 +129,8 @@ module _ (c : Simulation) where
   }
 
   -- the fan-ins of a circuit's gate are its signals
-  wired : (cells : List ℕ) (gate : ℕ) → IsFitCells c cells → gate < length c.deck.signals → AllByRecursion (λ signal. signal < length c.deck.signals) (fan_in_of (signal_at c.deck.signals gate).form)
-  wired cells gate fit below = known (signal_at c.deck.signals gate).form (All-get_or (λ signal. IsWired (length c.deck.signals) signal.form) c.deck.signals gate _ below fit.deck.wired)
+  pub wired : (gate : ℕ) → IsSoundlyWired c.deck → gate < length c.deck.signals → AllByRecursion (λ signal. signal < length c.deck.signals) (fan_in_of (signal_at c.deck.signals gate).form)
+  wired gate sound below = known (signal_at c.deck.signals gate).form (All-get_or (λ signal. IsWired (length c.deck.signals) signal.form) c.deck.signals gate _ below sound.wired)
     where
       known : (form : Form) → IsWired (length c.deck.signals) form → AllByRecursion (λ signal. signal < length c.deck.signals) (fan_in_of form)
       known Input is = tt
@@ -141,24 +141,24 @@ module _ (c : Simulation) where
   accesses_in_range [] gate below all = (omega arith, tt)
   accesses_in_range (signal ∷ fan_in) gate below all = (omega (arith, all.0), accesses_in_range fan_in gate below all.1)
 
-  eval_set-ascending : (gate : ℕ) → IsAscending (eval_set c.deck gate)
+  pub eval_set-ascending : (gate : ℕ) → IsAscending (eval_set c.deck gate)
   eval_set-ascending gate = ascending_merged [] (eval_accesses (fan_in_of (signal_at c.deck.signals gate).form) gate) ascending_none
 
-  eval_set-named : (gate loc : ℕ) (access : Access) → Contains (eval_accesses (fan_in_of (signal_at c.deck.signals gate).form) gate) (loc, access) → IsSome (access_at (eval_set c.deck gate) loc)
+  pub eval_set-named : (gate loc : ℕ) (access : Access) → Contains (eval_accesses (fan_in_of (signal_at c.deck.signals gate).form) gate) (loc, access) → IsSome (access_at (eval_set c.deck gate) loc)
   eval_set-named gate loc access listed = (pairs_are_named [] (eval_accesses (fan_in_of (signal_at c.deck.signals gate).form) gate) loc ascending_none).1 (inr (access, listed))
 
-  eval_set-written : (gate : ℕ) → IsTrue (writes (eval_set c.deck gate) (plan_place gate))
+  pub eval_set-written : (gate : ℕ) → IsTrue (writes (eval_set c.deck gate) (plan_place gate))
   eval_set-written gate =
       (pairs_are_written [] (eval_accesses (fan_in_of (signal_at c.deck.signals gate).form) gate) (plan_place gate) ascending_none).1
       (inr (plan_listed (fan_in_of (signal_at c.deck.signals gate).form) gate))
 
-  eval_set-below : (cells : List ℕ) (gate loc : ℕ) → IsFitCells c cells → gate < length c.deck.signals → IsSome (access_at (eval_set c.deck gate) loc) → loc < 2 * length c.deck.signals
-  eval_set-below cells gate loc fit below named =
+  pub eval_set-below : (gate loc : ℕ) → IsSoundlyWired c.deck → gate < length c.deck.signals → IsSome (access_at (eval_set c.deck gate) loc) → loc < 2 * length c.deck.signals
+  eval_set-below gate loc sound below named =
       elim ((pairs_are_named [] (eval_accesses (fan_in_of (signal_at c.deck.signals gate).form) gate) loc ascending_none).0 named) [
         | inl none ↦ absurd (false≢true none)
         | inr (access, listed) ↦
             of_listed (λ p. p.0 < 2 * length c.deck.signals) (eval_accesses (fan_in_of (signal_at c.deck.signals gate).form) gate) (loc, access)
-            (accesses_in_range (fan_in_of (signal_at c.deck.signals gate).form) gate below (wired cells gate fit below)) listed
+            (accesses_in_range (fan_in_of (signal_at c.deck.signals gate).form) gate below (wired gate sound below)) listed
       ]
 
   pub cells_are_counted : CellsAreCounted (simulation c)
@@ -173,7 +173,7 @@ module _ (c : Simulation) where
   sets_are_in_range task cells fit (inr eval) =
       subst (λ (kind : ℕ). IsInRange (simulation c) (set_for c.deck kind task.body.at)) (sym eval.kind) (record {
         ascending = eval_set-ascending task.body.at;
-        below = λ loc named. eval_set-below cells task.body.at loc fit eval.in_range named;
+        below = λ loc named. eval_set-below task.body.at loc fit.deck eval.in_range named;
       })
 
   change_of-lines : (time signal value : ℕ) (cells : List ℕ) → IsWholeLines (change_of c time signal value cells).text
@@ -254,7 +254,7 @@ module _ (c : Simulation) where
       alike-at : (p : ℕ × Access) → Contains (eval_accesses (fan_in_of (signal_at c.deck.signals gate).form) gate) p → slice_index cells p.0 ≡ slice_index others p.0
       alike-at p listed =
           let named = eval_set-named gate p.0 p.1 listed in
-          let in_range = eval_set-below cells gate p.0 fit below named in
+          let in_range = eval_set-below gate p.0 fit.deck below named in
           same_index cells others p.0 (omega (arith, fit.count, in_range)) (omega (arith, fit-others.count, in_range)) (agree p.0 named)
 
   act_of-alike : (task : Task) (cells others : List ℕ) → IsFitCells c cells → IsFitCells c others → IsFitTask c task.key.prio task.body → AgreeOn (set_for c.deck task.body.kind task.body.at) cells others →

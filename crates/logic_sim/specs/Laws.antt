@@ -45,7 +45,7 @@ pub each_one : {X : Type 0} (P : X → Type 0) (f : ℕ → X) (zs : List ℕ) �
 each_one P f [] each = tt
 each_one P f (z ∷ zs) each = (each z, each_one P f zs each)
 
-length-filter_range : (p : ℕ → Bool) (n : ℕ) → length (filter p (range_with_len 0 n)) ≤ n
+pub length-filter_range : (p : ℕ → Bool) (n : ℕ) → length (filter p (range_with_len 0 n)) ≤ n
 length-filter_range p n =
     omega (arith, length-filter p (range_with_len 0 n), count_by-le-length p (range_with_len 0 n), length-range_with_len 0 n)
 

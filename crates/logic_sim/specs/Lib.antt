@@ -6,3 +6,4 @@ pub mod Tables
 pub mod Laws
 pub mod Meaning
 pub mod Lawful
+pub mod Bundles

@@ -109,17 +109,6 @@ fn push_changes(
     Ok(())
 }
 
-/// Each of the gates is evaluated at that time.
-pub(crate) fn push_evals(made: &mut StartList, time: u64, gates: &[u32]) -> Result<(), NoRoom>
-    requires { 2 * time + 1 < 2 ^ 64 }
-    ensures { OnOk result (made.new ≡ made.old ++ map (eval_at time) gates.now) }
-{
-    for &gate in gates {
-        made.push(eval_start(time, gate))?;
-    }
-    Ok(())
-}
-
 /// Writes that the signal of this name took the value at that time.
 pub(crate) fn push_change(text: &mut Text, time: u64, name: &[u8], value: u8) -> Result<(), NoRoom>
     ensures { OnOk result (text.new ≡ text.old ++ change_line time name.now value) }

@@ -1,9 +1,10 @@
-ghost use Rattle.std.specs.Prelude.{◌≡◌, ◌<◌, ◌*◌, All, length, map, count_by};
-ghost use Rattle.logic_sim.specs.Event.{computed_by, value_in, value_place};
-ghost use Rattle.logic_sim.specs.Gate.{bit_of, count_ones_of, gate_value, is_high};
+ghost use Rattle.std.specs.Prelude.{◌≡◌, All, map};
+ghost use Rattle.logic_sim.specs.Bundles.{IsHeld, computed_from, held_value};
+ghost use Rattle.logic_sim.specs.Gate.{bit_of, count_ones_of, is_high};
 ghost use Rattle.logic_sim.specs.Wiring.{fan_in_of};
 
 use bench_reader::{Form, GateKind};
+use cell_store::Bundle;
 
 /// What a gate computes where so many of its inputs are 1.
 pub(crate) fn output_of(kind: GateKind, ones: usize, inputs: usize) -> u8
@@ -20,32 +21,27 @@ pub(crate) fn output_of(kind: GateKind, ones: usize, inputs: usize) -> u8
     u8::from(is_high)
 }
 
-/// How many of the signals have the value 1.
-fn count_high(cells: &[u8], signals: &[u32]) -> usize
-    requires { All (λ signal. value_place signal < length cells.now) signals.now }
-    ensures { result ≡ count_ones_of (map (value_in cells.now) signals.now) }
+/// How many of the signals have the value 1 in a bundle.
+fn count_high(signals: &[u32], bundle: &Bundle<u8>) -> usize
+    requires { All (IsHeld bundle.now) signals.now }
+    ensures { result ≡ count_ones_of (map (held_value bundle.now) signals.now) }
 {
     signals
         .iter()
-        .filter(|&&signal| cells[2 * signal as usize] == 1)
+        .filter(|&&signal| *bundle.get(2 * signal) == 1)
         .count()
 }
 
-/// What a gate computes from the values of its fan-ins.
-pub(crate) fn value_of_gate(kind: GateKind, fan_in: &[u32], cells: &[u8]) -> u8
-    requires { All (λ signal. value_place signal < length cells.now) fan_in.now }
-    ensures { result ≡ gate_value kind (map (value_in cells.now) fan_in.now) }
-{
-    output_of(kind, count_high(cells, fan_in), fan_in.len())
-}
-
-/// What a signal's gate computes from the values of the cells; an input computes nothing.
-pub(crate) fn computed_value(form: &Form, cells: &[u8]) -> u8
-    requires { All (λ signal. value_place signal < length cells.now) (fan_in_of form.now) }
-    ensures { result ≡ computed_by form.now cells.now }
+/// What a gate computes from the values of its fan-ins; an input computes nothing.
+pub(crate) fn computed_value(form: &Form, bundle: &Bundle<u8>) -> u8
+    requires { All (IsHeld bundle.now) (fan_in_of form.now) }
+    ensures { result ≡ computed_from form.now bundle.now }
 {
     match form {
         Form::Input => 0,
-        Form::Gate { kind, fan_in } => value_of_gate(*kind, fan_in.items(), cells),
+        Form::Gate { kind, fan_in } => {
+            let fan_in = fan_in.items();
+            output_of(*kind, count_high(fan_in, bundle), fan_in.len())
+        }
     }
 }

@@ -1,10 +1,14 @@
-ghost use Rattle.std.specs.Prelude.{◌≡◌, ◌<◌, ◌≤◌, [], All, IfOk, OnOk, length, replicate};
+ghost use Rattle.std.specs.Prelude.{◌≡◌, ◌<◌, ◌≤◌, [], All, IfOk, OnOk, length, map, replicate};
 ghost use Rattle.bench_reader.specs.Decks.{IsWired};
-ghost use Rattle.logic_sim.specs.Wiring.{inputs_of};
-ghost use Rattle.logic_sim.specs.Tables.{AddsReader, ListsReaders, MarksOutputs, last_is};
+ghost use Rattle.rw_sets.specs.Accesses.{merged};
+ghost use Rattle.logic_sim.specs.Event.{value_place};
+ghost use Rattle.logic_sim.specs.Meaning.{eval_accesses};
+ghost use Rattle.logic_sim.specs.Tables.{AddsReader, ListsReaders, MarksOutputs, last_is, sets_among};
+ghost use Rattle.logic_sim.specs.Wiring.{fan_in_of, inputs_of};
 
 use bench_reader::{Form, Signal};
 use kdg_text::{NoRoom, NumList};
+use rw_sets::{Access, RwSet};
 use std::alloc::Global;
 
 /// The primary inputs, in order.
@@ -87,4 +91,45 @@ pub(crate) fn output_marks(
         marks[output as usize] = true;
     }
     Ok(marks)
+}
+
+/// For each signal, the set that its evaluation declares.
+#[tactic(auto, using(crate::proofs::Sets::sets_more))]
+pub(crate) fn evaluation_sets(alloc: Global, signals: &[Signal]) -> Result<Vec<RwSet>, NoRoom>
+    requires few { length signals.now ≤ 4096 }
+    requires wired { All (λ signal. IsWired (length signals.now) signal.form) signals.now }
+    ensures { IfOk result (λ sets. sets.items ≡ sets_among signals.now (length signals.now)) }
+{
+    let mut sets = Vec::with_capacity(alloc, signals.len())?;
+    for (number, signal) in signals.iter().enumerate() {
+        sets.push(evaluation_set(alloc, &signal.form, number as u32)?)?;
+    }
+    Ok(sets)
+}
+
+/// The set that the evaluation of a gate declares: the values of its fan-ins are read, and what is
+/// planned for it is written. A fan-in that stands twice is there once.
+fn evaluation_set(alloc: Global, form: &Form, gate: u32) -> Result<RwSet, NoRoom>
+    requires gate { gate < 4096 }
+    requires fan_in { All (λ signal. signal < 4096) (fan_in_of form.now) }
+    ensures { IfOk result (λ set. set ≡ merged [] (eval_accesses (fan_in_of form.now) gate)) }
+{
+    let mut pairs = match form {
+        Form::Input => Vec::new(alloc),
+        Form::Gate { fan_in, .. } => value_reads(alloc, fan_in.items())?,
+    };
+    pairs.push((2 * gate + 1, Access::Write))?;
+    Ok(RwSet::from_pairs(pairs))
+}
+
+/// The value of each of these signals is read.
+fn value_reads(alloc: Global, signals: &[u32]) -> Result<Vec<(u32, Access)>, NoRoom>
+    requires { All (λ signal. signal < 4096) signals.now }
+    ensures { IfOk result (λ pairs. pairs.items ≡ map (λ signal. (value_place signal, Access.Read)) signals.now) }
+{
+    let mut pairs = Vec::new(alloc);
+    for &signal in signals {
+        pairs.push((2 * signal, Access::Read))?;
+    }
+    Ok(pairs)
 }

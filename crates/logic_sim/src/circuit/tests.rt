@@ -1,30 +1,31 @@
 use super::Circuit;
-use crate::event::{change_start, eval_start};
 use crate::gate::output_of;
-use app_laws::{PlainRun, SerialFault, plain_serial as serial};
-use bench_reader::{Form, GateKind, read_deck};
+use app_laws::{Finals, SerialFault, serial};
+use bench_reader::{GateKind, read_deck};
+use cell_store::value_laws;
 use kdg_text::Text;
 use std::alloc::Global;
 use std::process::Abort;
 use std::test::Fail;
-use task_order::{Body, Start, StartList};
+use task_order::{Body, Start};
 
 const C17: &[u8] =
     b"INPUT(1)\nINPUT(2)\nINPUT(3)\nINPUT(6)\nINPUT(7)\nOUTPUT(22)\nOUTPUT(23)\n10 = NAND(1, 3)\n11 = NAND(3, 6)\n16 = NAND(2, 11)\n19 = NAND(11, 7)\n22 = NAND(10, 16)\n23 = NAND(16, 19)\n";
-
-/// `b` reads `a` twice, and `c` reads both and itself.
-const TANGLE: &[u8] = b"OUTPUT(c)\nOUTPUT(a)\nINPUT(a)\nb = NAND(a, a)\nc = NAND(b, a, c)\n";
 
 fn circuit_of(rt: &impl Abort, alloc: Global, deck: &[u8], until: u64) -> Result<Circuit, Fail> {
     assert!(rt; until <= 1_000_000_000);
     Ok(Circuit::new(alloc, read_deck(alloc, deck)?, until)?)
 }
 
-fn run(alloc: Global, circuit: &Circuit, budget: u64) -> Result<PlainRun<u8>, SerialFault> {
+/// What a run leaves, and the print of its cells.
+fn run(alloc: Global, circuit: &Circuit, budget: u64) -> Result<(Finals<u8>, Text), SerialFault> {
+    value_laws::<u8>();
     let budget = budget.min(1_000_000_000);
     let cells = circuit.first_cells()?;
     let first = circuit.first_tasks()?;
-    serial(alloc, circuit, cells, first, budget)
+    let finals = serial(alloc, circuit, cells, first, budget)?;
+    let last_lines = circuit.print_finals(&finals.store)?;
+    Ok((finals, last_lines))
 }
 
 #[test]
@@ -61,13 +62,6 @@ fn c17_starts_with_its_gates(rt: HostRuntime) -> Result<(), Fail> {
     let starts = [5, 6, 7, 8, 9, 10].map(evaluation);
     assert_eq!(rt; circuit.first_tasks()?.items(), starts.as_slice());
     Ok(())
-}
-
-/// The print of the cells at the end, which are seen to be fit.
-fn finals(rt: &impl Abort, circuit: &Circuit, cells: &Vec<u8>) -> Result<Text, Fail> {
-    assert!(rt; cells.len() == 2 * circuit.deck.signals.items().len());
-    assert!(rt; cells.iter().all(|&cell| cell <= 1));
-    Ok(circuit.print_finals(cells)?)
 }
 
 #[test]
@@ -118,10 +112,10 @@ fn circuits_run_to_their_end(rt: HostRuntime) -> Result<(), Fail> {
     ];
     for (deck, until, log, last_lines, count) in rows {
         let circuit = circuit_of(&rt, rt.alloc(), deck, until)?;
-        let run = run(rt.alloc(), &circuit, 100)?;
-        assert_eq!(rt; run.text.bytes(), log);
-        assert_eq!(rt; finals(&rt, &circuit, &run.cells)?.bytes(), last_lines);
-        assert_eq!(rt; run.count, count);
+        let (finals, last_text) = run(rt.alloc(), &circuit, 100)?;
+        assert_eq!(rt; finals.log.all()?.bytes(), log);
+        assert_eq!(rt; last_text.bytes(), last_lines);
+        assert_eq!(rt; finals.count, count);
     }
     Ok(())
 }
@@ -129,65 +123,10 @@ fn circuits_run_to_their_end(rt: HostRuntime) -> Result<(), Fail> {
 #[test]
 fn a_run_stays_within_its_budget(rt: HostRuntime) -> Result<(), Fail> {
     let circuit = circuit_of(&rt, rt.alloc(), C17, 1000)?;
-    assert_eq!(rt; run(rt.alloc(), &circuit, 20)?.count, 20);
+    assert_eq!(rt; run(rt.alloc(), &circuit, 20)?.0.count, 20);
     let fault = run(rt.alloc(), &circuit, 19).err();
     let created = 20;
     let limit = 19;
     assert_eq!(rt; fault, Some(SerialFault::Budget { created, limit }));
-    Ok(())
-}
-
-/// What a change to the value does to the cells of a circuit at its start: the cells, the gates
-/// that are evaluated, and the text.
-fn changed(
-    rt: &impl Abort,
-    circuit: &Circuit,
-    signal: u32,
-    value: u8,
-) -> Result<(Vec<u8>, StartList, Text), Fail> {
-    let mut cells = circuit.first_cells()?;
-    let mut made = StartList::new(circuit.alloc);
-    let mut text = Text::new(circuit.alloc);
-    assert!(rt; (signal as usize) < circuit.deck.signals.items().len());
-    circuit.change(7, signal, value, &mut cells, &mut made, &mut text)?;
-    Ok((cells, made, text))
-}
-
-#[test]
-fn changes(rt: HostRuntime) -> Result<(), Fail> {
-    let circuit = circuit_of(&rt, rt.alloc(), TANGLE, 7)?;
-    let rows: [(u32, u8, [u8; 6], &[Start], &[u8]); 4] = [
-        (0, 0, [0, 0, 0, 0, 0, 0], &[], b""),
-        (
-            0,
-            1,
-            [1, 0, 0, 0, 0, 0],
-            &[eval_start(7, 1), eval_start(7, 2)],
-            b"7 a 1\n",
-        ),
-        (1, 1, [0, 0, 1, 0, 0, 0], &[eval_start(7, 2)], b""),
-        (2, 1, [0, 0, 0, 0, 1, 0], &[eval_start(7, 2)], b"7 c 1\n"),
-    ];
-    for (signal, value, cells_after, evals, line) in rows {
-        let (cells, made, text) = changed(&rt, &circuit, signal, value)?;
-        assert_eq!(rt; cells.as_slice(), cells_after.as_slice());
-        assert_eq!(rt; made.items(), evals);
-        assert_eq!(rt; text.bytes(), line);
-    }
-    Ok(())
-}
-
-#[test]
-fn evaluations(rt: HostRuntime) -> Result<(), Fail> {
-    let circuit = circuit_of(&rt, rt.alloc(), TANGLE, 7)?;
-    for (time, change) in [(6, Some(change_start(7, 2, 1))), (7, None)] {
-        let mut cells = circuit.first_cells()?;
-        let mut made = StartList::new(rt.alloc());
-        assert!(rt; circuit.deck.signals.items().len() == 3);
-        assert!(rt; matches!(circuit.deck.signals.items()[2].form, Form::Gate { .. }));
-        circuit.evaluate(time, 2, &mut cells, &mut made)?;
-        assert_eq!(rt; cells.as_slice(), [0u8, 0, 0, 0, 0, 1].as_slice());
-        assert_eq!(rt; made.items().first().copied(), change);
-    }
     Ok(())
 }

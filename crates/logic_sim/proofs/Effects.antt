@@ -1,0 +1,145 @@
+-- What events make of their bundles is what the operator makes of all cells.
+use Rattle.std.proofs.Common.{◌≡◌, ◌≢◌, ◌∙◌, ℕ, ◌+◌, ◌*◌, ◌<◌, List, [], ◌∷◌, length, map, true, false, ap, sym, refl, subst, arith}
+use Rattle.std.specs.Prelude.{◌==◌, if◌then◌else◌, IsSome, slice_index, slice_set}
+use Rattle.std.specs.List.{AllByRecursion}
+use Rattle.std.proofs.lemmas.Bool.{eq-eqb, ne_eqb}
+use Rattle.bench_reader.specs.declared.deck.Form.{Form}
+use Rattle.bench_reader.specs.declared.deck.Form.TheVariants.{Input, Gate}
+use Rattle.bench_reader.specs.Decks.{IsSoundlyWired}
+use Rattle.bench_reader.specs.declared.deck.Signal.{Signal}
+use Rattle.task_order.specs.declared.start.Start.{Start}
+use Rattle.task_order.specs.declared.task.Task.{Task}
+use Rattle.rw_sets.specs.Accesses.{Accesses, IsAscending, access_at}
+use Rattle.cell_store.specs.declared.cell.Cell.TheVariants.{Home}
+use Rattle.cell_store.specs.Part.{Part}
+use Rattle.cell_store.specs.Cells.{cell_at, cell_in, part_of, with_value}
+use Rattle.cell_store.specs.Values.{homes}
+use Rattle.cell_store.specs.Laws.{PartsByLocation, HomesByLocation}
+use Rattle.app_laws.specs.declared.app.Effect.{Effect}
+use Rattle.app_laws.specs.declared.child.Child.{Child}
+use Rattle.app_laws.specs.Applications.{IsEffect}
+use Rattle.app_laws.specs.Execution.{Outcome}
+use Rattle.logic_sim.specs.Bundles.{child_of, computed_from, effect_on, held_value, value_of, IsEffectOn}
+use Rattle.logic_sim.specs.Circuit.{IsFitCells}
+use Rattle.logic_sim.specs.Event.{Simulation, change_of, change_text, computed_by, eval_at, eval_of, event_of, next_changes, nothing_done, plan_of, plan_place, time_of, value_in, value_place}
+use Rattle.logic_sim.specs.Gate.{gate_value}
+use Rattle.logic_sim.specs.Lawful.{change_set-ascending, change_set-named, changed_is, eval_set-ascending, eval_set-below}
+use Rattle.logic_sim.specs.Meaning.{change_set, eval_set, set_for, simulation}
+use Rattle.logic_sim.specs.Wiring.{fan_in_of, readers_of, signal_at}
+use Rattle.logic_sim.proofs.Sets.{fan_in_named, plan_named}
+
+-- the laws of bundles and cells that are used
+pub record HeldLaws : Type 0 where
+  pub parts : PartsByLocation ℕ
+  pub values : HomesByLocation ℕ
+
+-- a bundle that a set takes of cells
+record IsTakenBy (set : Accesses) (bundle : Part ℕ) (cells : List ℕ) : Type 0 where
+  laws : HeldLaws
+  ascending : IsAscending set
+  below : (loc : ℕ) → IsSome (access_at set loc) → loc < length cells
+  is : bundle ≡ part_of (homes cells) set
+
+same_effects : {one two : Part ℕ} {made others : List Child} {line more : List ℕ} → one ≡ two → made ≡ others → line ≡ more
+    → ◌≡◌ {A = Effect ℕ} (record { bundle = one; children = made; text = line }) (record { bundle = two; children = others; text = more })
+same_effects e f h = cc
+
+module _ {set : Accesses} {bundle : Part ℕ} {cells : List ℕ} (taken : IsTakenBy set bundle cells) where
+  cell_found : (loc : ℕ) → IsSome (access_at set loc) → cell_in bundle loc ≡ Home (slice_index cells loc)
+  cell_found loc named =
+      ap (λ (part : Part ℕ). cell_in part loc) taken.is ∙ taken.laws.parts.each (homes cells) set loc named ∙ taken.laws.values.in_range cells loc 0 (taken.below loc named)
+
+  value_found : (loc found : ℕ) → IsSome (access_at set loc) → cell_in bundle loc ≡ Home found → found ≡ slice_index cells loc
+  value_found loc found named at =
+      let same : Home found ≡ Home (slice_index cells loc) = sym at ∙ cell_found loc named in (cc)
+
+  -- the event finds what it would write
+  idle_effect : (c : Simulation) (loc found value : ℕ) (other : Outcome ℕ) → IsSome (access_at set loc) → cell_in bundle loc ≡ Home found → found ≡ value
+      → ◌≡◌ {A = Effect ℕ} (record { bundle = bundle; children = []; text = [] }) (effect_on c set (if slice_index cells loc == value then nothing_done cells else other))
+  idle_effect c loc found value other named at same =
+      let test : (slice_index cells loc == value) ≡ true = eq-eqb (slice_index cells loc) value (sym (value_found loc found named at) ∙ same) in
+      rw test (same_effects taken.is refl refl)
+
+  -- the event writes another value
+  acting_effect : (c : Simulation) (loc found value : ℕ) (children : List Start) (text : List ℕ) → IsSome (access_at set loc) → cell_in bundle loc ≡ Home found → found ≢ value
+      → ◌≡◌ {A = Effect ℕ} (record { bundle = with_value bundle loc value; children = map (child_of c) children; text = text })
+      (effect_on c set (if slice_index cells loc == value then nothing_done cells else record { cells = slice_set cells loc value; children = children; text = text }))
+  acting_effect c loc found value children text named at differs =
+      let test : (slice_index cells loc == value) ≡ false = ne_eqb (slice_index cells loc) value (λ same. differs (value_found loc found named at ∙ same)) in
+      rw test
+      (same_effects (ap (λ (part : Part ℕ). with_value part loc value) taken.is ∙ taken.laws.values.written cells set loc value taken.ascending (taken.below loc named)) refl refl)
+
+  values_found : (fan_in : List ℕ) → AllByRecursion (λ signal. IsSome (access_at set (value_place signal))) fan_in → map (held_value bundle) fan_in ≡ map (value_in cells) fan_in
+  values_found [] named = refl
+  values_found (signal ∷ fan_in) named =
+      ap (λ (value : ℕ). value ∷ map (held_value bundle) fan_in) (ap value_of (cell_found (value_place signal) named.0))
+      ∙ ap (λ (values : List ℕ). value_in cells signal ∷ values) (values_found fan_in named.1)
+
+  -- what a gate computes from its bundle is what it computes from all cells
+  computed_found : (form : Form) → AllByRecursion (λ signal. IsSome (access_at set (value_place signal))) (fan_in_of form) → computed_from form bundle ≡ computed_by form cells
+  computed_found Input named = refl
+  computed_found (Gate kind fan_in) named = ap (gate_value kind) (values_found fan_in named)
+
+module _ (c : Simulation) (laws : HeldLaws) where
+  changing : (signal : ℕ) (bundle : Part ℕ) (cells : List ℕ) → IsFitCells c cells → signal < length c.deck.signals → bundle ≡ part_of (homes cells) (change_set signal)
+      → IsTakenBy (change_set signal) bundle cells
+  changing signal bundle cells fit inside is = record {
+    laws = laws;
+    ascending = change_set-ascending signal;
+    below = λ loc named. let at = changed_is signal loc named in omega (arith, at, fit.count, inside);
+    is = is;
+  }
+
+  pub change_idle : (time signal value found : ℕ) (bundle : Part ℕ) → signal < length c.deck.signals → cell_in bundle (2 * signal) ≡ Home found → found ≡ value
+      → IsEffectOn c (change_set signal) (change_of c time signal value) bundle (record { bundle = bundle; children = []; text = [] })
+  change_idle time signal value found bundle inside at same cells fit is =
+      idle_effect (changing signal bundle cells fit inside is) c (value_place signal) found value _ (change_set-named signal) at same
+
+  pub change_acting : (time signal value found : ℕ) (bundle : Part ℕ) (children : List Child) (text : List ℕ) → signal < length c.deck.signals → cell_in bundle (2 * signal) ≡ Home found → found ≢ value
+      → children ≡ map (child_of c) (map (eval_at time) (readers_of c.deck.signals signal)) → text ≡ change_text c.deck time signal value
+      → IsEffectOn c (change_set signal) (change_of c time signal value) bundle (record { bundle = with_value bundle (2 * signal) value; children = children; text = text })
+  change_acting time signal value found bundle children text inside at differs children-are text-is cells fit is =
+      same_effects refl children-are text-is
+      ∙ acting_effect (changing signal bundle cells fit inside is) c (value_place signal) found value (map (eval_at time) (readers_of c.deck.signals signal)) (change_text c.deck time signal value) (change_set-named signal) at differs
+
+  evaluating : (gate : ℕ) (bundle : Part ℕ) (cells : List ℕ) → IsFitCells c cells → gate < length c.deck.signals → bundle ≡ part_of (homes cells) (eval_set c.deck gate)
+      → IsTakenBy (eval_set c.deck gate) bundle cells
+  evaluating gate bundle cells fit inside is = record {
+    laws = laws;
+    ascending = eval_set-ascending c gate;
+    below = λ loc named. let low = eval_set-below c gate loc fit.deck inside named in omega (arith, low, fit.count);
+    is = is;
+  }
+
+  value_computed : (gate : ℕ) (bundle : Part ℕ) (cells : List ℕ) (signal : Signal) (value : ℕ) → IsFitCells c cells → gate < length c.deck.signals → bundle ≡ part_of (homes cells) (eval_set c.deck gate)
+      → signal ≡ signal_at c.deck.signals gate → value ≡ computed_from signal.form bundle → value ≡ computed_by (signal_at c.deck.signals gate).form cells
+  value_computed gate bundle cells signal value fit inside is signal-is value-is =
+      value-is ∙ ap (λ (s : Signal). computed_from s.form bundle) signal-is
+      ∙ computed_found (evaluating gate bundle cells fit inside is) (signal_at c.deck.signals gate).form (fan_in_named c gate)
+
+  pub evaluation_idle : (time gate value found : ℕ) (bundle : Part ℕ) (signal : Signal) → gate < length c.deck.signals → signal ≡ signal_at c.deck.signals gate → value ≡ computed_from signal.form bundle
+      → cell_in bundle (2 * gate + 1) ≡ Home found → found ≡ value
+      → IsEffectOn c (eval_set c.deck gate) (eval_of c time gate) bundle (record { bundle = bundle; children = []; text = [] })
+  evaluation_idle time gate value found bundle signal inside signal-is value-is at same cells fit is =
+      let computed = value_computed gate bundle cells signal value fit inside is signal-is value-is in
+      subst (λ (v : ℕ). ◌≡◌ {A = Effect ℕ} (record { bundle = bundle; children = []; text = [] }) (effect_on c (eval_set c.deck gate) (plan_of c time gate v cells))) computed
+      (idle_effect (evaluating gate bundle cells fit inside is) c (plan_place gate) found value _ (plan_named c gate) at same)
+
+  pub evaluation_acting : (time gate value found : ℕ) (bundle : Part ℕ) (signal : Signal) (children : List Child) → gate < length c.deck.signals → signal ≡ signal_at c.deck.signals gate
+      → value ≡ computed_from signal.form bundle → cell_in bundle (2 * gate + 1) ≡ Home found → found ≢ value → children ≡ map (child_of c) (next_changes c time gate value)
+      → IsEffectOn c (eval_set c.deck gate) (eval_of c time gate) bundle (record { bundle = with_value bundle (2 * gate + 1) value; children = children; text = [] })
+  evaluation_acting time gate value found bundle signal children inside signal-is value-is at differs children-are cells fit is =
+      let computed = value_computed gate bundle cells signal value fit inside is signal-is value-is in
+      subst
+      (λ (v : ℕ). ◌≡◌ {A = Effect ℕ} (record { bundle = with_value bundle (2 * gate + 1) value; children = children; text = [] }) (effect_on c (eval_set c.deck gate) (plan_of c time gate v cells)))
+      computed
+      (same_effects refl children-are refl ∙ acting_effect (evaluating gate bundle cells fit inside is) c (plan_place gate) found value (next_changes c time gate value) [] (plan_named c gate) at differs)
+
+-- what is made of a bundle is the effect of a task that is a change
+pub change_is_effect : (c : Simulation) (task : Task) (bundle : Part ℕ) (effect : Effect ℕ) → task.body.kind ≡ 0
+    → IsEffectOn c (change_set task.body.at) (change_of c (time_of task.key.prio) task.body.at task.body.arg) bundle effect → IsEffect (simulation c) task bundle effect
+change_is_effect c task bundle effect kind made =
+    subst
+    (λ (k : ℕ). (cells : List ℕ) → IsFitCells c cells → bundle ≡ part_of (homes cells) (set_for c.deck k task.body.at) →
+    effect ≡ effect_on c (set_for c.deck k task.body.at) (event_of c k (time_of task.key.prio) task.body.at task.body.arg cells))
+    (sym kind) made

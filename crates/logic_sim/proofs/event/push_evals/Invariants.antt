@@ -1,7 +1,0 @@
-use Rattle.std.proofs.Common.{◌≡◌, ◌++◌, map, take}
-use Rattle.logic_sim.specs.Event.{eval_at}
-use Rattle.logic_sim.proofs.event.push_evals.Given as goal
-
--- the gates so far are to be evaluated
-abbrev pub invariant-loop-gate : goal.invariant-loop-gate
-invariant-loop-gate l = l.made ≡ l.initial.made ++ map (eval_at l.time) (take l.gate-index l.gates)

@@ -1,0 +1,54 @@
+-- What events find in their bundles, and what they make of them.
+use Rattle.std.specs.Prelude.{◌≡◌, ℕ, ◌^◌, ◌<◌, List, [], ◌∷◌, length, map, IsSome}
+use Rattle.bench_reader.specs.declared.deck.Form.{Form}
+use Rattle.bench_reader.specs.declared.deck.Form.TheVariants.{Input, Gate}
+use Rattle.task_order.specs.declared.start.Start.{Start}
+use Rattle.rw_sets.specs.Accesses.{Accesses, access_at}
+use Rattle.cell_store.specs.declared.cell.Cell.{Cell}
+use Rattle.cell_store.specs.declared.cell.Cell.TheVariants.{Home, Out}
+use Rattle.cell_store.specs.Part.{Part}
+use Rattle.cell_store.specs.Cells.{cell_in, part_of}
+use Rattle.cell_store.specs.Values.{homes}
+use Rattle.app_laws.specs.declared.app.Effect.{Effect}
+use Rattle.app_laws.specs.declared.child.Child.{Child}
+use Rattle.app_laws.specs.Applications.{handed}
+use Rattle.app_laws.specs.Execution.{Outcome}
+use Rattle.logic_sim.specs.Circuit.{IsFitCells}
+use Rattle.logic_sim.specs.Event.{Simulation, value_place}
+use Rattle.logic_sim.specs.Gate.{gate_value}
+use Rattle.logic_sim.specs.Meaning.{simulation}
+
+-- the value of a cell that is home
+abbrev pub value_of : Cell ℕ → ℕ
+value_of (Home value) = value
+value_of Out = 0
+
+-- the value of a signal in a part
+abbrev pub held_value : Part ℕ → ℕ → ℕ
+held_value part signal = value_of (cell_in part (value_place signal))
+
+-- whether a part has the value of a signal
+pub record IsHeld (part : Part ℕ) (signal : ℕ) : Type 0 where
+  pub small : signal < 2 ^ 31
+  pub named : IsSome (access_at part.set (value_place signal))
+
+-- what a gate computes from the values of its fan-ins in a part
+abbrev pub computed_from : Form → Part ℕ → ℕ
+computed_from Input part = 0
+computed_from (Gate kind fan_in) part = gate_value kind (map (held_value part) fan_in)
+
+-- a child as it is handed over, with the set that it declares
+abbrev pub child_of : Simulation → Start → Child
+child_of c start = handed (simulation c) [] start
+
+-- what an outcome makes of the part of the cells that a set names
+abbrev pub effect_on : Simulation → Accesses → Outcome ℕ → Effect ℕ
+effect_on c set outcome = record {
+  bundle = part_of (homes outcome.cells) set;
+  children = map (child_of c) outcome.children;
+  text = outcome.text;
+}
+
+-- the effect is what the operator makes of all cells of the circuit of which the set takes this bundle
+abbrev pub IsEffectOn : Simulation → Accesses → (List ℕ → Outcome ℕ) → Part ℕ → Effect ℕ → Type 0
+IsEffectOn c set act bundle effect = (cells : List ℕ) → IsFitCells c cells → bundle ≡ part_of (homes cells) set → effect ≡ effect_on c set (act cells)

@@ -1,0 +1,255 @@
+ghost use Rattle.std.specs.Prelude.{◌≡◌, ◌+◌, ◌-◌, ◌*◌, ◌^◌, ◌<◌, ◌≤◌, [], ◌∷◌, ◌++◌, All, length, map, IfOk, IfErr, OnOk};
+ghost use Rattle.app_laws.specs.Applications.{IsFitTask as IsTaskOf, IsTaken, IsEffect};
+ghost use Rattle.logic_sim.specs.Bundles.{IsEffectOn, child_of};
+ghost use Rattle.logic_sim.specs.Event.{change_of, change_text, eval_at, eval_of, next_changes};
+ghost use Rattle.logic_sim.specs.Meaning.{change_set, eval_set, simulation};
+ghost use Rattle.logic_sim.specs.Wiring.{readers_of};
+
+use super::Circuit;
+use crate::event::{CHANGE, change_start, eval_start, push_change};
+use crate::gate::computed_value;
+use app_laws::{App, Child, ChildList, Effect, SetAnswer};
+use cell_store::{Bundle, Store, location_laws, value_laws};
+use kdg_text::{NoRoom, Steps, Text};
+use rw_sets::{Access, RwSet};
+use std::alloc::Global;
+use std::sync::ledger::Ledger;
+use task_order::{Body, Start, Task, TaskList};
+
+impl App for Circuit {
+    ghost use Rattle.logic_sim.specs.Lawful as lawful;
+
+    type Val = u8;
+
+    ghost meaning = { simulation };
+
+    fn cells(&self) -> u32 {
+        2 * self.deck.signals.items().len() as u32
+    }
+
+    fn sets<L: Ledger>(
+        &self,
+        body: &Body,
+        _store: &Store<u8>,
+        steps: &mut Steps<L>,
+    ) -> Result<SetAnswer, NoRoom> {
+        steps.tick();
+        let set = if body.kind == CHANGE {
+            change_set(self.alloc, body.at)?
+        } else {
+            self.evaluation_set(body.at)?
+        };
+        Ok(SetAnswer::Known(set))
+    }
+
+    fn safe(&self, task: &Task, pending: &TaskList) -> bool {
+        match pending.iter().next() {
+            Some(first) => first.key.prio >= task.key.prio,
+            None => true,
+        }
+    }
+
+    fn run(&self, task: &Task, bundle: Bundle<u8>) -> Result<Effect<u8>, Bundle<u8>>
+        requires fit { IsTaskOf (simulation self.now) task.now }
+        requires cells { IsTaken (simulation self.now) task.now bundle }
+        ensures effect { IfOk result (IsEffect (simulation self.now) task.now bundle) }
+        ensures returned { IfErr result (λ back. back ≡ bundle) }
+    {
+        let time = task.key.prio / 2;
+        let Body { kind, at, arg } = task.body;
+        if kind == CHANGE {
+            self.change_effect(time, at, arg as u8, bundle)
+        } else {
+            self.evaluation_effect(time, at, bundle)
+        }
+    }
+
+    ghost cells_are_counted = { lawful.cells_are_counted };
+
+    ghost sets_are_in_range = { lawful.sets_are_in_range };
+
+    ghost acts_are_fit = { lawful.acts_are_fit };
+
+    ghost sets_are_local = { lawful.sets_are_local };
+
+    ghost acts_are_local = { lawful.acts_are_local };
+
+    ghost children_come_no_earlier = { lawful.children_come_no_earlier };
+
+    ghost sets_stay_within = { lawful.sets_stay_within };
+
+    ghost walks_are_true = { lawful.walks_are_true };
+
+    ghost safe_alone = { lawful.safe_alone };
+
+    ghost safe_tasks_stay_safe = { lawful.safe_tasks_stay_safe };
+}
+
+impl Circuit {
+    /// A copy of the set that the evaluation of a gate declares.
+    fn evaluation_set(&self, gate: u32) -> Result<RwSet, NoRoom>
+        requires { gate < length self.now.deck.signals }
+        ensures { IfOk result (λ set. set ≡ eval_set self.now.deck gate) }
+    {
+        self.sets[gate as usize].copy()
+    }
+
+    /// The gates that read a signal, each once, in file order.
+    fn gates_reading(&self, signal: u32) -> &[u32]
+        requires { signal < length self.now.deck.signals }
+        ensures all { result.now ≡ readers_of self.now.deck.signals signal }
+        ensures few { length result.now ≤ 4096 }
+        ensures in_range { All (λ gate. gate < length self.now.deck.signals) result.now }
+    {
+        self.readers[signal as usize].items()
+    }
+
+    /// The signal takes the value, unless it has it. Each gate that reads it is then evaluated at
+    /// the same time.
+    fn change_effect(
+        &self,
+        time: u64,
+        signal: u32,
+        value: u8,
+        bundle: Bundle<u8>,
+    ) -> Result<Effect<u8>, Bundle<u8>>
+        requires in_range { signal < length self.now.deck.signals }
+        requires time { 2 * time + 1 < 2 ^ 64 }
+        requires set { bundle.set ≡ change_set signal }
+        ensures effect { IfOk result (IsEffectOn self.now (change_set signal) (change_of self.now time signal value) bundle) }
+        ensures returned { IfErr result (λ back. back ≡ bundle) }
+    {
+        location_laws::<u8>();
+        value_laws::<u8>();
+        let alloc = self.alloc;
+        let mut bundle = bundle;
+        let place = 2 * signal;
+        if *bundle.get(place) == value {
+            return Ok(without_effect(alloc, bundle));
+        }
+        match self.change_outcome(time, signal, value) {
+            Ok((children, text)) => {
+                *bundle.get_mut(place) = value;
+                Ok(Effect {
+                    bundle,
+                    children,
+                    text,
+                })
+            }
+            Err(_) => Err(bundle),
+        }
+    }
+
+    /// The evaluations and the line that follow a change of a signal to the value.
+    fn change_outcome(&self, time: u64, signal: u32, value: u8) -> Result<(ChildList, Text), NoRoom>
+        requires in_range { signal < length self.now.deck.signals }
+        requires time { 2 * time + 1 < 2 ^ 64 }
+        ensures children { IfOk result (λ made. made.0 ≡ map (child_of self.now) (map (eval_at time) (readers_of self.now.deck.signals signal))) }
+        ensures text { IfOk result (λ made. made.1 ≡ change_text self.now.deck time signal value) }
+    {
+        let children = self.evaluations(time, signal)?;
+        let mut text = Text::new(self.alloc);
+        if self.is_output[signal as usize] {
+            let name = self.deck.signals.items()[signal as usize].name.bytes();
+            push_change(&mut text, time, name, value)?;
+        }
+        Ok((children, text))
+    }
+
+    /// An evaluation at that time of each gate that reads a signal.
+    fn evaluations(&self, time: u64, signal: u32) -> Result<ChildList, NoRoom>
+        requires in_range { signal < length self.now.deck.signals }
+        requires time { 2 * time + 1 < 2 ^ 64 }
+        ensures { IfOk result (λ children. children ≡ map (child_of self.now) (map (eval_at time) (readers_of self.now.deck.signals signal))) }
+    {
+        let mut children = ChildList::new(self.alloc);
+        for &gate in self.gates_reading(signal) {
+            let set = self.evaluation_set(gate)?;
+            push_child(&mut children, eval_start(time, gate), set)?;
+        }
+        Ok(children)
+    }
+
+    /// Plans what the gate computes, unless it is planned. The gate then takes that value one unit
+    /// of time later, if that is not too late.
+    fn evaluation_effect(
+        &self,
+        time: u64,
+        gate: u32,
+        bundle: Bundle<u8>,
+    ) -> Result<Effect<u8>, Bundle<u8>>
+        requires in_range { gate < length self.now.deck.signals }
+        requires time { time < 2 ^ 63 }
+        requires set { bundle.set ≡ eval_set self.now.deck gate }
+        ensures effect { IfOk result (IsEffectOn self.now (eval_set self.now.deck gate) (eval_of self.now time gate) bundle) }
+        ensures returned { IfErr result (λ back. back ≡ bundle) }
+    {
+        location_laws::<u8>();
+        value_laws::<u8>();
+        let mut bundle = bundle;
+        let value = computed_value(&self.deck.signals.items()[gate as usize].form, &bundle);
+        let place = 2 * gate + 1;
+        if *bundle.get(place) == value {
+            return Ok(without_effect(self.alloc, bundle));
+        }
+        match self.next_change(time, gate, value) {
+            Ok(children) => {
+                *bundle.get_mut(place) = value;
+                Ok(Effect {
+                    bundle,
+                    children,
+                    text: Text::new(self.alloc),
+                })
+            }
+            Err(_) => Err(bundle),
+        }
+    }
+
+    /// The change of a gate's signal one unit of time later, unless that is too late.
+    fn next_change(&self, time: u64, gate: u32, value: u8) -> Result<ChildList, NoRoom>
+        requires in_range { gate < length self.now.deck.signals }
+        requires time { time < 2 ^ 63 }
+        ensures { IfOk result (λ children. children ≡ map (child_of self.now) (next_changes self.now time gate value)) }
+    {
+        let mut children = ChildList::new(self.alloc);
+        if time < self.until {
+            let set = change_set(self.alloc, gate)?;
+            push_child(
+                &mut children,
+                change_start(time + 1, gate, u64::from(value)),
+                set,
+            )?;
+        }
+        Ok(children)
+    }
+}
+
+/// The set of a change of a signal.
+fn change_set(alloc: Global, signal: u32) -> Result<RwSet, NoRoom>
+    requires { signal < 2 ^ 31 }
+    ensures { IfOk result (λ set. set ≡ change_set signal) }
+{
+    let mut set = RwSet::new(alloc);
+    set.add(2 * signal, Access::Write)?;
+    Ok(set)
+}
+
+/// Adds a child with the set that it declares.
+fn push_child(children: &mut ChildList, start: Start, set: RwSet) -> Result<(), NoRoom>
+    requires { length children.old < 2 ^ 32 - 1 }
+    ensures { OnOk result (children.new ≡ children.old ++ record { prio = start.prio; body = start.body; set = set } ∷ []) }
+{
+    let Start { prio, body } = start;
+    children.push(Child { prio, body, set }).map_err(|_| NoRoom)
+}
+
+/// What an event leaves that has nothing to do.
+fn without_effect(alloc: Global, bundle: Bundle<u8>) -> Effect<u8>
+    ensures { result ≡ record { bundle = bundle; children = []; text = [] } }
+{
+    Effect {
+        bundle,
+        children: ChildList::new(alloc),
+        text: Text::new(alloc),
+    }
+}
