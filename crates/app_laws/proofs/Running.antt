@@ -13,7 +13,7 @@ use Rattle.task_order.specs.TaskList.{IsNewKey}
 use Rattle.output_log.specs.Entries.{IsNewEntry}
 use Rattle.app_laws.specs.Applications.{Application, IsLawful, handed, starts_of}
 use Rattle.app_laws.specs.Execution.{Operator, children_from, start_of, after_steps}
-use Rattle.app_laws.specs.Laws.{AllFit, NoneEarlier, IsFitOutcome, IsFit}
+use Rattle.app_laws.specs.Laws.{AllFit, NoneEarlier, IsFit}
 use Rattle.app_laws.specs.Lower.{LowerLaws}
 use Rattle.app_laws.specs.Order.{Pairwise, IsOrderly}
 use Rattle.app_laws.proofs.Apart.{TasksApart, apart_longer, differ_from_no_prefix, All-children}
@@ -73,9 +73,6 @@ module _ {V : Type 0} {is_fit_cells : List V → Type 0} {is_fit_task : ℕ → 
   task_fit =
       let fit = subst (λ ts. AllByRecursion (λ (t : Task). is_fit_task t.key.prio t.body) ts) (sym reached.pending-are ∙ is) (fit_after run count).pending in
       fit.0
-
-  pub outcome_fit : IsFitOutcome is_fit_cells is_fit_task (act task cells)
-  outcome_fit = run.keeps task cells (cells_fit run reached) task_fit
 
   pub none_earlier : NoneEarlier task.key.prio (act task cells).children
   none_earlier = run.not_earlier task cells (cells_fit run reached) task_fit

@@ -8,7 +8,6 @@ use Rattle.task_order.specs.declared.task.Task.{Task}
 use Rattle.task_order.specs.Key.{Bound, end, is_before, child_key}
 use Rattle.task_order.specs.TaskList.{put_all}
 use Rattle.output_log.specs.Entries.{Entry}
-pub use Rattle.output_log.specs.Entries.{joined_texts as joined}
 
 -- what a task does: the cells after it, its children in order, and the text that it writes
 pub record Outcome (V : Type 0) : Type 0 where

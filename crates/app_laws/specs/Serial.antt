@@ -1,9 +1,7 @@
 -- What a serial run answers.
 use Rattle.std.specs.Prelude.{ℕ, ◌≡◌, ◌<◌, ◌≤◌, length, Some, None}
 use Rattle.cell_store.specs.Values.{homes}
-use Rattle.output_log.specs.Entries.{joined_texts}
 use Rattle.app_laws.specs.Execution.{Operator, Execution, run_to_end, created_after}
-use Rattle.app_laws.specs.declared.plain_run.PlainRun.{PlainRun}
 use Rattle.app_laws.specs.declared.serial_run.Finals.{Finals}
 use Rattle.app_laws.specs.declared.serial_run.SerialFault.{SerialFault}
 use Rattle.app_laws.specs.declared.serial_run.SerialFault.TheVariants.{Budget, NoRoom}
@@ -15,14 +13,6 @@ pub record IsRun {V : Type 0} (act : Operator V) (budget : ℕ) (start : Executi
   pub store : finals.store ≡ homes end.cells
   pub log : finals.log.entries ≡ end.log
   pub count : finals.count ≡ length end.log
-
--- the same of a run on the whole list of cells, with its joined log
-pub record IsPlainRun {V : Type 0} (act : Operator V) (budget : ℕ) (start : Execution V) (run : PlainRun V) : Type 0 where
-  pub end : Execution V
-  pub ends : run_to_end act budget start ≡ Some end
-  pub cells : run.cells.items ≡ end.cells
-  pub text : run.text ≡ joined_texts end.log
-  pub count : run.count ≡ length end.log
 
 -- this many tasks are created when first there are more than the limit
 pub record FirstPasses {V : Type 0} (act : Operator V) (limit : ℕ) (start : Execution V) (created : ℕ) : Type 0 where

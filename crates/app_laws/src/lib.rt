@@ -5,16 +5,12 @@ mod app;
 mod child;
 mod family;
 mod laws;
-mod plain_app;
-mod plain_run;
 mod serial_run;
 
 pub use app::{App, Effect, SetAnswer};
 pub use child::{Child, ChildList};
 pub use family::family_laws;
 pub use laws::{execution_laws, lawful, orderly_laws};
-pub use plain_app::PlainApp;
-pub use plain_run::{PlainRun, plain_serial};
 pub use serial_run::{Finals, SerialFault, serial};
 
 #[cfg(test)]

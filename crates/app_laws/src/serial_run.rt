@@ -127,7 +127,7 @@ pub(crate) fn lower_laws()
 }
 
 /// That number of created tasks, where it is within the limit.
-pub(crate) fn within(created: u64, limit: u64) -> Result<u64, SerialFault>
+fn within(created: u64, limit: u64) -> Result<u64, SerialFault>
     ensures ok { IfOk result (λ same. (same ≡ created) × (created ≤ limit)) }
     ensures over { IfErr result (λ fault. (fault ≡ SerialFault.Budget created limit) × (limit < created)) }
 {
@@ -189,7 +189,7 @@ fn act<A: App, L: Ledger>(
 }
 
 /// The first tasks, with their keys.
-pub(crate) fn first_tasks(alloc: Global, first: &[Start]) -> Result<TaskList, NoRoom>
+fn first_tasks(alloc: Global, first: &[Start]) -> Result<TaskList, NoRoom>
     requires few { length first.now < 2 ^ 32 }
     ensures tasks { IfOk result (λ tasks. tasks ≡ put_all (first_from 0 first.now) []) }
 {
@@ -222,7 +222,7 @@ fn put_children(pending: &mut TaskList, parent: &Key, children: &[Child]) -> Res
 }
 
 /// Puts a task with a new key among the pending ones.
-pub(crate) fn put(pending: &mut TaskList, key: Key, body: Body) -> Result<(), NoRoom>
+fn put(pending: &mut TaskList, key: Key, body: Body) -> Result<(), NoRoom>
     requires new { IsNewKey key pending.old }
     ensures put { OnOk result (pending.new ≡ put_in (record { key = key; body = body }) pending.old) }
 {

@@ -4,7 +4,10 @@ use Rattle.std.specs.Fmt.{decimal}
 use Rattle.kdg_text.specs.declared.fault.Fault.{Fault}
 use Rattle.bench_reader.specs.declared.deck.Deck.{Deck}
 use Rattle.bench_reader.specs.Grammar.{deck_of}
-use Rattle.app_laws.specs.Execution.{Execution, Operator, start_of, run_to_end, joined}
+use Rattle.cell_store.specs.Values.{values_of}
+use Rattle.output_log.specs.Entries.{joined_texts}
+use Rattle.app_laws.specs.declared.serial_run.Finals.{Finals}
+use Rattle.app_laws.specs.Execution.{Execution, Operator, start_of, run_to_end}
 use Rattle.app_laws.specs.Serial.{FirstPasses}
 use Rattle.logic_sim.specs.Circuit.{start_cells, start_tasks, finals_of}
 use Rattle.logic_sim.specs.Event.{Simulation, act_of}
@@ -40,7 +43,11 @@ tasks_line count = codes "tasks " ++ decimal count ++ codes "\n"
 
 -- the texts of the log in order, then the finals, then the number of tasks
 abbrev pub print_of : Deck → Execution ℕ → List ℕ
-print_of deck end = joined end.log ++ finals_of deck end.cells ++ tasks_line (length end.log)
+print_of deck end = joined_texts end.log ++ finals_of deck end.cells ++ tasks_line (length end.log)
+
+-- the same of what a run leaves
+abbrev pub print_of_finals : Deck → Finals ℕ → List ℕ
+print_of_finals deck finals = joined_texts finals.log.entries ++ finals_of deck (values_of finals.store) ++ tasks_line finals.count
 
 -- ---- every command
 

@@ -1,13 +1,16 @@
 ghost use Rattle.std.specs.Prelude.{◌≡◌, ◌≢◌, ◌++◌, map, string_bytes, IfOk, IfErr, OnOk};
 ghost use Rattle.outer_edge.specs.Transfers.{transfer_of};
-ghost use Rattle.kdg_prog.specs.Answer.{answer_of, tasks_line, whole_print};
+ghost use Rattle.cell_store.specs.Values.{AreAllHome, values_of};
+ghost use Rattle.logic_sim.specs.Circuit.{IsFitCells};
+ghost use Rattle.kdg_prog.specs.Answer.{answer_of, print_of_finals, tasks_line, whole_print};
 ghost use Rattle.kdg_prog.specs.Headline.{CompletesInMemory, Promises, TellsBadWord};
 ghost use Rattle.kdg_prog.specs.Refusals.{IsRefusal};
 ghost use Rattle.kdg_prog.specs.Words.{IsAllowed, options_of};
 
 use crate::{Options, Status, read_words};
-use app_laws::{PlainRun, plain_serial as serial};
+use app_laws::{Finals, serial};
 use bench_reader::read_deck;
+use cell_store::value_laws;
 use kdg_text::{NoRoom, Text, push_u64};
 use logic_sim::Circuit;
 use outer_edge::{CleanSink, CleanSource, Sink, Source, read_all, write_whole};
@@ -94,17 +97,26 @@ fn print_of(alloc: Global, options: &Options, input: Text) -> Result<Text, Statu
     ensures print { IfOk result (λ bytes. answer_of options.now input ≡ whole_print bytes) }
     ensures refusal { IfErr result (IsRefusal options.now input) }
 {
+    value_laws::<u8>();
     let deck = read_deck(alloc, input.bytes())?;
     drop(input);
     let circuit = Circuit::new(alloc, deck, options.until)?;
     let cells = circuit.first_cells()?;
     let tasks = circuit.first_tasks()?;
-    let PlainRun {
-        cells,
-        mut text,
-        count,
-    } = serial(alloc, &circuit, cells, tasks, options.budget)?;
-    text.push_all(circuit.print_finals(&cells)?.bytes())?;
+    let finals = serial(alloc, &circuit, cells, tasks, options.budget)?;
+    Ok(finals_print(&circuit, finals)?)
+}
+
+/// The print of a run that has ended: its log, the finals, and the number of tasks.
+fn finals_print(circuit: &Circuit, finals: Finals<u8>) -> Result<Text, NoRoom>
+    requires home { AreAllHome finals.store }
+    requires cells { IsFitCells circuit.now (values_of finals.store) }
+    ensures { IfOk result (λ bytes. bytes ≡ print_of_finals circuit.now.deck finals) }
+{
+    let Finals { store, log, count } = finals;
+    let mut text = log.all()?;
+    drop(log);
+    text.push_all(circuit.print_finals(&store)?.bytes())?;
     push_tasks_line(&mut text, count)?;
     Ok(text)
 }
