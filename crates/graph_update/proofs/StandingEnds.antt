@@ -23,7 +23,7 @@ use Rattle.graph_update.specs.Laws.{IsPerformed}
 use Rattle.graph_update.specs.Progress.{Progress, whole_state}
 use Rattle.graph_update.specs.Standing.{StandsFor, drained_count, drained_entries, ended_entries}
 use Rattle.graph_update.specs.StandingBasis.{StandingBasis}
-use Rattle.graph_update.specs.StandingLaws.{FinishesKeepStanding, PassedLimitsKeepStanding, PassedLimitsNeverEnd}
+use Rattle.graph_update.specs.StandingLaws.{EndsAddTheirEntry, FinishesKeepStanding, PassedLimitsKeepStanding, PassedLimitsNeverEnd}
 use Rattle.graph_update.proofs.Behind.{by_tasks, earlier_by_order, of_tasks, put_behind}
 use Rattle.graph_update.proofs.Ended.{acts_on_whole}
 use Rattle.graph_update.proofs.EndedCounts.{length-with_entry, log_is}
@@ -110,31 +110,48 @@ module _ {V : Type 0} {app : Application V} (basis : StandingBasis app) where
   pub passed_limits_keep_standing : PassedLimitsKeepStanding app
   passed_limits_keep_standing start progress done job jobs others values stands performed over = over_limit stands performed over
 
+  module _ {start : State V} {old now : Progress V} {done : Done V} {job : Job V} {jobs others : List (Job V)} {values : List V}
+      (stands : StandsFor app start old jobs values) (end : IsEnd app old jobs values done job others now) where
+    log_now : now.log ≡ with_entry job.task.key (app.act job.task values).text old.log
+    log_now = log_is basis.ended end ∙ ap (λ (effect : _). with_entry job.task.key effect.text old.log) (its_effect basis stands.sound end.performed)
+
+    one_more_ended : now.ended ≡ suc old.ended
+    one_more_ended = ap (λ (progress : Progress V). progress.ended) end.finished.after
+
+    same_count : drained_count now ≡ drained_count old
+    same_count =
+        let longer = ap length log_now ∙ length-with_entry basis.ended job.task.key (app.act job.task values).text old.log stands.sound.keys_and_counts.log_ordered in
+        let later = one_more_ended in
+        omega (arith, longer, later)
+
+    drained_are : drained_entries app start now ≡ drained_entries app start old
+    drained_are = same_drained app start old now same_count
+
+    entries_now : ended_entries app start now ≡ with_entry job.task.key (app.act job.task values).text (ended_entries app start old)
+    entries_now =
+        let drained = drained_entries app start old in
+        ap (λ front. front ++ now.log) drained_are ∙ ap (λ log. drained ++ log) log_now
+        ∙ sym (put_behind job.task.key (app.act job.task values).text drained old.log (earlier_by_order job.task.key drained (drained_before stands end.performed)))
+
+    whole_now : whole_state now (app.act job.task values).cells ≡ after_task app.act job.task (whole_state old values)
+    whole_now = acts_on_whole basis.ended old now done job jobs others values end
+
+    end_stands : StandsFor app start now others (app.act job.task values).cells
+    end_stands = record {
+      sound = basis.finishes_sound old now done job jobs others values stands.sound end.performed end.within end.finished;
+      one_each = ap length entries_now ∙ one_more stands end.performed ∙ sym one_more_ended;
+      drained_earlier = by_tasks (λ (task : Task). AllByRecursion (λ (entry : Entry). key_cmp entry.0 task.key ≡ Less) (drained_entries app start now)) now.nodes
+          (subst (λ entries. AreBeforeTasks entries (tasks_of now.nodes)) (sym drained_are)
+          (subst (AreBeforeTasks (drained_entries app start old)) (sym (ap (λ (state : State V). state.pending) whole_now)) (drained_before_all stands end.performed)));
+      state = subst (λ entries. StateStandsFor app start entries (whole_state now (app.act job.task values).cells)) (sym entries_now)
+          (subst (StateStandsFor app start (entries_after stands end.performed)) (sym whole_now) (state_after stands end.performed));
+      true_mark = mark_kept app start old now (ap (λ (progress : Progress V). progress.over) end.finished.after) (ap (λ (progress : Progress V). progress.limit) end.finished.after) stands.true_mark;
+    }
+
+  pub ends_add_their_entry : EndsAddTheirEntry app
+  ends_add_their_entry start old now done job jobs others values stands performed within finished =
+      entries_now stands (record { sound = stands.sound; performed = performed; within = within; finished = finished })
+
   pub finishes_keep_standing : FinishesKeepStanding app
   finishes_keep_standing start old now done job jobs others values stands performed within finished =
-      let end : IsEnd app old jobs values done job others now = record { sound = stands.sound; performed = performed; within = within; finished = finished } in
-      let text = (app.act job.task values).text in
-      let drained = drained_entries app start old in
-      let whole = basis_whole end in
-      let log_now : now.log ≡ with_entry job.task.key text old.log =
-      log_is basis.ended end ∙ ap (λ (effect : _). with_entry job.task.key effect.text old.log) (its_effect basis stands.sound performed) in
-      let longer = ap length log_now ∙ length-with_entry basis.ended job.task.key text old.log stands.sound.keys_and_counts.log_ordered in
-      let later = ap (λ (progress : Progress V). progress.ended) finished.after in
-      let count : drained_count now ≡ drained_count old = omega (arith, longer, later) in
-      let drained_are = same_drained app start old now count in
-      let entries_are : ended_entries app start now ≡ entries_after stands performed =
-      ap (λ front. front ++ now.log) drained_are ∙ ap (λ log. drained ++ log) log_now
-      ∙ sym (put_behind job.task.key text drained old.log (earlier_by_order job.task.key drained (drained_before stands performed))) in
-      record {
-        sound = basis.finishes_sound old now done job jobs others values stands.sound performed within finished;
-        one_each = ap length entries_are ∙ one_more stands performed ∙ sym later;
-        drained_earlier = by_tasks (λ (task : Task). AllByRecursion (λ (entry : Entry). key_cmp entry.0 task.key ≡ Less) (drained_entries app start now)) now.nodes
-            (subst (λ entries. AreBeforeTasks entries (tasks_of now.nodes)) (sym drained_are)
-            (subst (AreBeforeTasks drained) (sym (ap (λ (state : State V). state.pending) whole)) (drained_before_all stands performed)));
-        state = subst (λ entries. StateStandsFor app start entries (whole_state now (app.act job.task values).cells)) (sym entries_are)
-            (subst (StateStandsFor app start (entries_after stands performed)) (sym whole) (state_after stands performed));
-        true_mark = mark_kept app start old now (ap (λ (progress : Progress V). progress.over) finished.after) (ap (λ (progress : Progress V). progress.limit) finished.after) stands.true_mark;
-      }
-    where
-      basis_whole : IsEnd app old jobs values done job others now → whole_state now (app.act job.task values).cells ≡ after_task app.act job.task (whole_state old values)
-      basis_whole end = acts_on_whole basis.ended old now done job jobs others values end
+      end_stands stands (record { sound = stands.sound; performed = performed; within = within; finished = finished })

@@ -6,7 +6,7 @@ use Rattle.task_order.specs.declared.start.Start.{Start}
 use Rattle.task_order.specs.Key.{Bound, at_key, end, key_cmp}
 use Rattle.task_order.specs.TaskList.{put_all}
 use Rattle.cell_store.specs.declared.cell.Cell.TheVariants.{Home}
-use Rattle.output_log.specs.Entries.{Entry, IsInKeyOrder, IsNewEntry, ShareNoKey, entries_before, joined_by_key}
+use Rattle.output_log.specs.Entries.{Entry, IsInKeyOrder, IsNewEntry, ShareNoKey, entries_before, joined_by_key, with_entry}
 use Rattle.kdg_graph.specs.Node.{Node}
 use Rattle.app_laws.specs.Applications.{Application, AreFitStarts, set_in}
 use Rattle.app_laws.specs.Execution.{Execution, after_steps, first_from, run_until, run_to_end}
@@ -54,6 +54,12 @@ module _ {V : Type 0} (app : Application V) where
   FinishesKeepStanding = (start : State V) (old now : Progress V) (done : Done V) (job : Job V) (jobs others : List (Job V)) (values : List V) →
       StandsFor app start old jobs values → IsPerformed app jobs done job others → ¬ IsOverLimit app old done → IsFinished app old done now →
       StandsFor app start now others (app.act job.task values).cells
+
+  -- its entry comes in among the ended ones, at its place by key
+  abbrev pub EndsAddTheirEntry : Type 0
+  EndsAddTheirEntry = (start : State V) (old now : Progress V) (done : Done V) (job : Job V) (jobs others : List (Job V)) (values : List V) →
+      StandsFor app start old jobs values → IsPerformed app jobs done job others → ¬ IsOverLimit app old done → IsFinished app old done now →
+      ended_entries app start now ≡ with_entry job.task.key (app.act job.task values).text (ended_entries app start old)
 
   -- where the children of a task are more than may be created, the sequential run doesn't end within the limit
   abbrev pub PassedLimitsNeverEnd : Type 0

@@ -1,5 +1,5 @@
 ghost use Rattle.graph_update.specs.StandingBasis.{StandingBasis};
-ghost use Rattle.graph_update.specs.StandingLaws.{BeginningsStand, ClaimsKeepStanding, FinishesKeepStanding, PassedLimitsKeepStanding, PassedLimitsNeverEnd, GivingUpKeepsStanding, DrainsKeepStanding, DrainsTakeTheNext, EventsKeepStanding, ExecutionsStand, StandingMeansTheSequentialRun, NoNodesAreTheEnd, NoJobsWhereNoneRuns, NoJobsAreRest, ClearNodesStayClear};
+ghost use Rattle.graph_update.specs.StandingLaws.{BeginningsStand, ClaimsKeepStanding, FinishesKeepStanding, EndsAddTheirEntry, PassedLimitsKeepStanding, PassedLimitsNeverEnd, GivingUpKeepsStanding, DrainsKeepStanding, DrainsTakeTheNext, EventsKeepStanding, ExecutionsStand, StandingMeansTheSequentialRun, NoNodesAreTheEnd, NoJobsWhereNoneRuns, NoJobsAreRest, ClearNodesStayClear};
 
 use crate::finish_laws::sound_finish_laws;
 use crate::{finish_laws, laws};
@@ -40,6 +40,7 @@ pub fn claim_standing_laws<A: App>()
 /// than may be created, the sequential run doesn't end within the limit, and the mark says so.
 pub fn finish_standing_laws<A: App>()
     ensures stands { (app : A) → FinishesKeepStanding (A.meaning app) }
+    ensures entry { (app : A) → EndsAddTheirEntry (A.meaning app) }
     ensures over_limit { (app : A) → PassedLimitsKeepStanding (A.meaning app) }
     ensures never_ends { (app : A) → PassedLimitsNeverEnd (A.meaning app) }
 {

@@ -1,8 +1,11 @@
-use Rattle.graph_update.proofs.StandingEnds.{finishes_keep_standing, passed_limits_keep_standing, passed_limits_never_end}
+use Rattle.graph_update.proofs.StandingEnds.{ends_add_their_entry, finishes_keep_standing, passed_limits_keep_standing, passed_limits_never_end}
 use Rattle.graph_update.proofs.standing_laws.finish_standing_laws.Goals as goal
 
 pub returns-clause-stands : goal.returns-clause-stands
 returns-clause-stands g c = λ app. finishes_keep_standing (c.standing_basis.ensures app)
+
+pub returns-clause-entry : goal.returns-clause-entry
+returns-clause-entry g c = λ app. ends_add_their_entry (c.standing_basis.ensures app)
 
 pub returns-clause-over_limit : goal.returns-clause-over_limit
 returns-clause-over_limit g c = λ app. passed_limits_keep_standing (c.standing_basis.ensures app)
