@@ -12,6 +12,7 @@ use Rattle.app_laws.specs.Applications.{Application}
 use Rattle.app_laws.specs.Execution.{Operator, Execution, after_steps}
 use Rattle.commuting.specs.Standing.{StandsFor as StateStandsFor}
 use Rattle.commuting.specs.States.{State, state_of, execution_from}
+use Rattle.graph_update.specs.declared.answers.Claim.TheVariants as claim
 use Rattle.graph_update.specs.declared.answers.OverCause.{OverCause}
 use Rattle.graph_update.specs.declared.answers.OverCause.TheVariants as cause
 use Rattle.graph_update.specs.declared.job.Job.{Job}
@@ -20,7 +21,7 @@ use Rattle.graph_update.specs.Progress.{Progress, whole_state}
 use Rattle.graph_update.specs.Sound.{IsSound}
 use Rattle.graph_update.specs.Standing.{HasTrueMark, StandsFor, drained_count, drained_entries, ended_entries}
 use Rattle.graph_update.specs.StandingBasis.{StandingBasis}
-use Rattle.graph_update.specs.StandingLaws.{BeginningsStand, ClaimsKeepStanding, GivingUpKeepsStanding, start_from}
+use Rattle.graph_update.specs.StandingLaws.{BeginningsStand, ClaimAnswersKeepStanding, ClaimsKeepStanding, GivingUpKeepsStanding, start_from}
 use Rattle.graph_update.proofs.Beginnings.{beginnings_are_sound}
 use Rattle.graph_update.proofs.Behind.{by_tasks, of_tasks}
 use Rattle.graph_update.proofs.Claims.{claims_keep_sound}
@@ -109,6 +110,15 @@ module _ {V : Type 0} {app : Application V} (basis : StandingBasis app) where
       (ap (λ (progress : Progress V). progress.ended) claimed.after)
       (ap (λ (progress : Progress V). tasks_of progress.nodes) claimed.after ∙ basis.begun.lower.starts_keep_tasks claimed.node.id old.nodes)
       (mark_kept app start old now (ap (λ (progress : Progress V). progress.over) claimed.after) (ap (λ (progress : Progress V). progress.limit) claimed.after) stands.true_mark)
+
+  pub unchanged : (start : State V) (old now : Progress V) (jobs : List (Job V)) (values : List V) → now ≡ old → StandsFor app start old jobs values → StandsFor app start now jobs values
+  unchanged start old now jobs values same stands = subst (λ (progress : Progress V). StandsFor app start progress jobs values) (sym same) stands
+
+  pub claim_answers_keep_standing : ClaimAnswersKeepStanding app
+  claim_answers_keep_standing start old now pick (claim.Over cause) jobs values stands answered = unchanged start old now jobs values answered.1 stands
+  claim_answers_keep_standing start old now pick claim.Ended jobs values stands answered = unchanged start old now jobs values answered.2 stands
+  claim_answers_keep_standing start old now pick claim.NotYet jobs values stands answered = unchanged start old now jobs values answered.3 stands
+  claim_answers_keep_standing start old now pick (claim.Job job) jobs values stands answered = claims_keep_standing start old now pick job jobs values stands answered.1
 
   pub giving_up_keeps_standing : GivingUpKeepsStanding app
   giving_up_keeps_standing start progress jobs values stands =

@@ -14,6 +14,7 @@ use Rattle.app_laws.specs.Applications.{Application}
 use Rattle.app_laws.specs.Execution.{children_from, run_to_end}
 use Rattle.commuting.specs.Standing.{StandsFor as StateStandsFor}
 use Rattle.commuting.specs.States.{State, after_task, execution_from}
+use Rattle.graph_update.specs.declared.answers.FinishFault.TheVariants as fault
 use Rattle.graph_update.specs.declared.answers.OverCause.TheVariants as cause
 use Rattle.graph_update.specs.declared.job.Done.{Done}
 use Rattle.graph_update.specs.declared.job.Job.{Job}
@@ -23,7 +24,7 @@ use Rattle.graph_update.specs.Laws.{IsPerformed}
 use Rattle.graph_update.specs.Progress.{Progress, whole_state}
 use Rattle.graph_update.specs.Standing.{StandsFor, drained_count, drained_entries, ended_entries}
 use Rattle.graph_update.specs.StandingBasis.{StandingBasis}
-use Rattle.graph_update.specs.StandingLaws.{EndsAddTheirEntry, FinishesKeepStanding, PassedLimitsKeepStanding, PassedLimitsNeverEnd}
+use Rattle.graph_update.specs.StandingLaws.{EndsAddTheirEntry, FinishesKeepStanding, PassedLimitsKeepStanding, PassedLimitsNeverEnd, RefusalsKeepStanding}
 use Rattle.graph_update.proofs.Behind.{by_tasks, earlier_by_order, of_tasks, put_behind}
 use Rattle.graph_update.proofs.Ended.{acts_on_whole}
 use Rattle.graph_update.proofs.EndedCounts.{length-with_entry, log_is}
@@ -31,7 +32,7 @@ use Rattle.graph_update.proofs.FinishTasks.{all-weaker, all-put_all}
 use Rattle.graph_update.proofs.Marks.{marks_and_drains_keep_sound}
 use Rattle.graph_update.proofs.Members.{all_at, all-filter}
 use Rattle.graph_update.proofs.StandingJobs.{is_fit, is_there, its_effect, its_task, its_task_is_clear, of_node, pending_after, some_nodes}
-use Rattle.graph_update.proofs.Standing.{AreBeforeTasks, either_mark, mark_kept, same_drained, stands_kept}
+use Rattle.graph_update.proofs.Standing.{AreBeforeTasks, either_mark, mark_kept, same_drained, stands_kept, unchanged}
 
 module _ {V : Type 0} {app : Application V} (basis : StandingBasis app) where
   -- what is earlier than a task is earlier than its children
@@ -109,6 +110,11 @@ module _ {V : Type 0} {app : Application V} (basis : StandingBasis app) where
 
   pub passed_limits_keep_standing : PassedLimitsKeepStanding app
   passed_limits_keep_standing start progress done job jobs others values stands performed over = over_limit stands performed over
+
+  pub refusals_keep_standing : RefusalsKeepStanding app
+  refusals_keep_standing start old now done (fault.Budget back created limit) job jobs others values stands performed refused =
+      unchanged basis start (budget_marked app old done) now jobs values refused.4 (over_limit stands performed refused.1)
+  refusals_keep_standing start old now done (fault.NoRoom back) job jobs others values stands performed refused = unchanged basis start old now jobs values refused.2 stands
 
   module _ {start : State V} {old now : Progress V} {done : Done V} {job : Job V} {jobs others : List (Job V)} {values : List V}
       (stands : StandsFor app start old jobs values) (end : IsEnd app old jobs values done job others now) where

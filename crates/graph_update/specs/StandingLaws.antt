@@ -12,10 +12,13 @@ use Rattle.app_laws.specs.Applications.{Application, AreFitStarts, set_in}
 use Rattle.app_laws.specs.Execution.{Execution, after_steps, first_from, run_until, run_to_end}
 use Rattle.commuting.specs.Commuting.{BothEnd}
 use Rattle.commuting.specs.States.{State, state_of, execution_from}
+use Rattle.graph_update.specs.declared.answers.Claim.{Claim}
+use Rattle.graph_update.specs.declared.answers.Claim.TheVariants as claim
+use Rattle.graph_update.specs.declared.answers.FinishFault.{FinishFault}
 use Rattle.graph_update.specs.declared.answers.OverCause.{OverCause}
 use Rattle.graph_update.specs.declared.job.Done.{Done}
 use Rattle.graph_update.specs.declared.job.Job.{Job}
-use Rattle.graph_update.specs.Answers.{IsBegun}
+use Rattle.graph_update.specs.Answers.{IsBegun, IsClaimAnswer, IsFinishRefusal}
 use Rattle.graph_update.specs.Events.{IsClaimed, IsFinished, IsOverLimit, budget_marked, drainable, drained, is_clear, marked}
 use Rattle.graph_update.specs.Laws.{Event, Moment, IsPerformed, IsSoundMoment, Reaches}
 use Rattle.graph_update.specs.Progress.{Progress, whole_state}
@@ -30,6 +33,13 @@ start_from cells first = state_of cells (put_all (first_from 0 first) [])
 abbrev pub least_bound : List Node → Bound
 least_bound [] = end
 least_bound (least ∷ nodes) = at_key least.task.key
+
+-- the jobs in hand after what a claim answers
+abbrev pub in_hand : {V : Type 0} → Claim V → List (Job V) → List (Job V)
+in_hand (claim.Job job) jobs = job ∷ jobs
+in_hand (claim.Over cause) jobs = jobs
+in_hand claim.Ended jobs = jobs
+in_hand claim.NotYet jobs = jobs
 
 -- no node is running
 abbrev pub NoneRuns : List Node → Type 0
@@ -48,6 +58,11 @@ module _ {V : Type 0} (app : Application V) where
   abbrev pub ClaimsKeepStanding : Type 0
   ClaimsKeepStanding = (start : State V) (old now : Progress V) (pick : ℕ) (job : Job V) (jobs : List (Job V)) (values : List V) →
       StandsFor app start old jobs values → IsClaimed app old pick now job → StandsFor app start now (job ∷ jobs) values
+
+  -- and so does whatever a claim answers
+  abbrev pub ClaimAnswersKeepStanding : Type 0
+  ClaimAnswersKeepStanding = (start : State V) (old now : Progress V) (pick : ℕ) (answer : Claim V) (jobs : List (Job V)) (values : List V) →
+      StandsFor app start old jobs values → IsClaimAnswer app old pick now answer → StandsFor app start now (in_hand answer jobs) values
 
   -- so does the end of a task, with one job less and with the whole cells as that task makes them
   abbrev pub FinishesKeepStanding : Type 0
@@ -72,6 +87,11 @@ module _ {V : Type 0} (app : Application V) where
   PassedLimitsKeepStanding = (start : State V) (progress : Progress V) (done : Done V) (job : Job V) (jobs others : List (Job V)) (values : List V) →
       StandsFor app start progress jobs values → IsPerformed app jobs done job others → IsOverLimit app progress done →
       StandsFor app start (budget_marked app progress done) jobs values
+
+  -- and so does each refusal of a finish
+  abbrev pub RefusalsKeepStanding : Type 0
+  RefusalsKeepStanding = (start : State V) (old now : Progress V) (done : Done V) (fault : FinishFault V) (job : Job V) (jobs others : List (Job V)) (values : List V) →
+      StandsFor app start old jobs values → IsPerformed app jobs done job others → IsFinishRefusal app old done now fault → StandsFor app start now jobs values
 
   abbrev pub GivingUpKeepsStanding : Type 0
   GivingUpKeepsStanding = (start : State V) (progress : Progress V) (jobs : List (Job V)) (values : List V) →

@@ -1,5 +1,5 @@
 ghost use Rattle.graph_update.specs.StandingBasis.{StandingBasis};
-ghost use Rattle.graph_update.specs.StandingLaws.{BeginningsStand, ClaimsKeepStanding, FinishesKeepStanding, EndsAddTheirEntry, PassedLimitsKeepStanding, PassedLimitsNeverEnd, GivingUpKeepsStanding, DrainsKeepStanding, DrainsTakeTheNext, EventsKeepStanding, ExecutionsStand, StandingMeansTheSequentialRun, NoNodesAreTheEnd, NoJobsWhereNoneRuns, NoJobsAreRest, ClearNodesStayClear};
+ghost use Rattle.graph_update.specs.StandingLaws.{BeginningsStand, ClaimsKeepStanding, ClaimAnswersKeepStanding, FinishesKeepStanding, EndsAddTheirEntry, PassedLimitsKeepStanding, PassedLimitsNeverEnd, RefusalsKeepStanding, GivingUpKeepsStanding, DrainsKeepStanding, DrainsTakeTheNext, EventsKeepStanding, ExecutionsStand, StandingMeansTheSequentialRun, NoNodesAreTheEnd, NoJobsWhereNoneRuns, NoJobsAreRest, ClearNodesStayClear};
 
 use crate::finish_laws::sound_finish_laws;
 use crate::{finish_laws, laws};
@@ -29,20 +29,24 @@ pub fn begin_standing_laws<A: App>()
     standing_basis::<A>();
 }
 
-/// Where a job is claimed, an execution goes on standing for the sequential run.
+/// Where a job is claimed, an execution goes on standing for the sequential run, and so it does
+/// whatever a claim answers.
 pub fn claim_standing_laws<A: App>()
     ensures stands { (app : A) → ClaimsKeepStanding (A.meaning app) }
+    ensures answers { (app : A) → ClaimAnswersKeepStanding (A.meaning app) }
 {
     standing_basis::<A>();
 }
 
 /// So it does where a task ends, whichever of the running ones it is. Where its children are more
-/// than may be created, the sequential run doesn't end within the limit, and the mark says so.
+/// than may be created, the sequential run doesn't end within the limit, and the mark says so. A
+/// refusal keeps the rest as it was.
 pub fn finish_standing_laws<A: App>()
     ensures stands { (app : A) → FinishesKeepStanding (A.meaning app) }
     ensures entry { (app : A) → EndsAddTheirEntry (A.meaning app) }
     ensures over_limit { (app : A) → PassedLimitsKeepStanding (A.meaning app) }
     ensures never_ends { (app : A) → PassedLimitsNeverEnd (A.meaning app) }
+    ensures refused { (app : A) → RefusalsKeepStanding (A.meaning app) }
 {
     standing_basis::<A>();
 }

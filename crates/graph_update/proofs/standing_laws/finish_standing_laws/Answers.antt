@@ -1,4 +1,4 @@
-use Rattle.graph_update.proofs.StandingEnds.{ends_add_their_entry, finishes_keep_standing, passed_limits_keep_standing, passed_limits_never_end}
+use Rattle.graph_update.proofs.StandingEnds.{ends_add_their_entry, finishes_keep_standing, passed_limits_keep_standing, passed_limits_never_end, refusals_keep_standing}
 use Rattle.graph_update.proofs.standing_laws.finish_standing_laws.Goals as goal
 
 pub returns-clause-stands : goal.returns-clause-stands
@@ -12,3 +12,6 @@ returns-clause-over_limit g c = λ app. passed_limits_keep_standing (c.standing_
 
 pub returns-clause-never_ends : goal.returns-clause-never_ends
 returns-clause-never_ends g c = λ app. passed_limits_never_end (c.standing_basis.ensures app)
+
+pub returns-clause-refused : goal.returns-clause-refused
+returns-clause-refused g c = λ app. refusals_keep_standing (c.standing_basis.ensures app)
