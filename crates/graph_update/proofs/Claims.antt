@@ -34,7 +34,7 @@ use Rattle.graph_update.proofs.Starting.{start, start_cases, start_keeps_running
 Some-injective : {X : Type 0} (a b : X) → Some a ≡ Some b → a ≡ b
 Some-injective a b same = cc
 
-found_is_there : {X : Type 0} (xs : List X) (i : ℕ) (x : X) → slice_get xs i ≡ Some x → Contains xs x
+pub found_is_there : {X : Type 0} (xs : List X) (i : ℕ) (x : X) → slice_get xs i ≡ Some x → Contains xs x
 found_is_there [] i x found = cc
 found_is_there {X} (y ∷ xs) zero x found = subst (λ (z : X). Contains (y ∷ xs) z) (Some-injective y x found) (here y xs)
 found_is_there (y ∷ xs) (suc i) x found = there y x xs (found_is_there xs i x found)

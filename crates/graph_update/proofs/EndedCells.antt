@@ -1,33 +1,28 @@
 -- The whole cells after the end of a task.
-use Rattle.std.proofs.Common.{◌≡◌, ◌≢◌, ℕ, ◌<◌, ◌||◌, Bool, true, false, List, [], ◌∷◌, ◌++◌, length, Option, Some, None, refl, sym, ap, subst, ◌∙◌}
-use Rattle.std.specs.Prelude.{Contains, IsTrue, IsFalse, ◌↔◌, is_some, if◌then◌else◌}
+use Rattle.std.proofs.Common.{◌≡◌, ◌≢◌, ℕ, ◌<◌, ◌||◌, Bool, true, false, List, [], ◌∷◌, ◌++◌, length, refl, sym, ap, subst, ◌∙◌}
+use Rattle.std.specs.Prelude.{Contains, IsTrue, ◌↔◌, if◌then◌else◌}
 use Rattle.std.specs.List.{AllByRecursion, list_any}
 use Rattle.std.proofs.lemmas.Bool.{true≢false}
-use Rattle.rw_sets.specs.declared.access.Access.{Access}
 use Rattle.rw_sets.specs.Accesses.{AreIndependent, access_at, allows_write, writes}
 use Rattle.cell_store.specs.declared.cell.Cell.{Cell}
 use Rattle.cell_store.specs.declared.cell.Cell.TheVariants.{Home, Out}
-use Rattle.cell_store.specs.Cells.{cell_at, cell_in, cells_given, cells_taken, part_of}
+use Rattle.cell_store.specs.Cells.{cell_at, cell_in, cells_given, part_of}
 use Rattle.cell_store.specs.Home.{IsHome}
-use Rattle.cell_store.specs.Values.{AgreesWith, ChangesOnlyWritten, homes}
+use Rattle.cell_store.specs.Values.{AgreesWith, homes}
 use Rattle.kdg_graph.specs.Node.{Node}
-use Rattle.app_laws.specs.Applications.{Application, set_in, IsFitTask}
+use Rattle.app_laws.specs.Applications.{Application}
 use Rattle.graph_update.specs.declared.job.Done.{Done}
 use Rattle.graph_update.specs.declared.job.Job.{Job}
 use Rattle.graph_update.specs.FinishBasis.{FinishBasis}
 use Rattle.graph_update.specs.Finishes.{IsEnd, FinishesKeepWhole}
 use Rattle.graph_update.specs.Progress.{Progress}
 use Rattle.graph_update.specs.Sound.{IsOfNode, IsWhole, is_written}
-use Rattle.graph_update.proofs.Ended.{ended_node, is_pending}
+use Rattle.graph_update.proofs.Ended.{ended_node}
 use Rattle.graph_update.proofs.EndedJobs.{differ}
 use Rattle.graph_update.proofs.EndedNodes.{ended_key, others_apart}
-use Rattle.graph_update.proofs.FinishMembers.{all_at, all_but_one, any_but_one}
+use Rattle.graph_update.proofs.FinishMembers.{all_but_one, any_but_one}
+use Rattle.graph_update.proofs.Performed.{agrees_given, changes_written, given_is, some_where_written}
 use Rattle.graph_update.proofs.FinishTasks.{all-joined, all-weaker, length-mapped}
-
--- what is written is there
-pub some_where_written : (access : Option Access) → allows_write access ≡ true → is_some access ≡ true
-some_where_written None is = absurd (true≢false (sym is))
-some_where_written (Some access) is = refl
 
 pub never_out : {V : Type 0} (cell : Cell V) → IsHome cell → cell ≡ Out → ⊥
 never_out cell home is = subst IsHome is home
@@ -44,26 +39,12 @@ any_more p (y ∷ xs) x ys any = by_case (p y) any (any_more p xs x ys)
     by_case true any later = refl
     by_case false any later = later any
 
-any_in_middle : {X : Type 0} (p : X → Bool) (xs : List X) (x : X) (ys : List X) → p x ≡ true → list_any p (xs ++ x ∷ ys) ≡ true
-any_in_middle p [] x ys is = ap (λ (test : Bool). test || list_any p ys) is
-any_in_middle p (y ∷ xs) x ys is = by_case (p y) (any_in_middle p xs x ys is)
-  where
-    by_case : (test : Bool) → list_any p (xs ++ x ∷ ys) ≡ true → (test || list_any p (xs ++ x ∷ ys)) ≡ true
-    by_case true any = refl
-    by_case false any = any
-
 none_from_all : {X : Type 0} (p : X → Bool) (xs : List X) → AllByRecursion (λ x. p x ≡ false) xs → list_any p xs ≡ false
 none_from_all p [] all = refl
 none_from_all p (x ∷ xs) all = ap (λ (test : Bool). test || list_any p xs) all.0 ∙ none_from_all p xs all.1
 
 module _ {V : Type 0} {app : Application V} (basis : FinishBasis app) where
   module _ {old now : Progress V} {done : Done V} {job : Job V} {jobs others : List (Job V)} {values : List V} (end : IsEnd app old jobs values done job others now) where
-    pub fit_task : IsFitTask app job.task
-    fit_task = all_at (IsFitTask app) _ job.task end.sound.ready.tasks (is_pending basis end)
-
-    pub fit_after : app.is_fit_cells (app.act job.task values).cells
-    fit_after = (basis.lawful.acts_are_fit job.task values end.sound.ready.cells fit_task).cells
-
     -- the other jobs' sets are independent of that of the task that ended
     independent : AllByRecursion (λ other. AreIndependent job.bundle.set other.bundle.set) (end.performed.before ++ end.performed.after)
     independent =
@@ -84,34 +65,13 @@ module _ {V : Type 0} {app : Application V} (basis : FinishBasis app) where
             let ended = ended_key basis end in
             cc
 
-    job_set : job.bundle.set ≡ set_in app values job.task
-    job_set = sym (ended_node basis end).job_set ∙ (ended_node basis end).set
-
-    pub changes_written : ChangesOnlyWritten job.bundle.set values (app.act job.task values).cells
-    changes_written = record {
-      as_many = basis.lawful.cells_are_counted (app.act job.task values).cells fit_after ∙ sym (basis.lawful.cells_are_counted values end.sound.ready.cells);
-      elsewhere = λ loc unwritten. basis.lawful.acts_are_local.unchanged job.task values end.sound.ready.cells fit_task loc (subst (λ set. IsFalse (writes set loc)) job_set unwritten);
-    }
-
     pub cells_are : now.cells ≡ cells_given old.cells (part_of (homes (app.act job.task values).cells) job.bundle.set)
-    cells_are =
-        ap (λ (progress : Progress V). progress.cells) end.finished.after
-        ∙ ap (λ (effect : _). cells_given old.cells effect.bundle) (ended_node basis end).effect
-        ∙ ap (λ set. cells_given old.cells (part_of (homes (app.act job.task values).cells) set)) (sym job_set)
-
-    written_is_out : (loc : ℕ) → loc < length old.cells → writes job.bundle.set loc ≡ true → cell_at old.cells loc ≡ Out
-    written_is_out loc inside written =
-        (end.sound.whole.away loc inside).1
-        (subst (λ jobs. is_written app jobs loc ≡ true) (sym end.performed.there)
-        (any_in_middle (λ job. writes job.bundle.set loc) end.performed.before job end.performed.after written))
+    cells_are = ap (λ (progress : Progress V). progress.cells) end.finished.after ∙ given_is basis end.sound end.performed
 
     pub agrees_after : AgreesWith now.cells (app.act job.task values).cells
     agrees_after =
-        let new = (app.act job.task values).cells in
-        let set = job.bundle.set in
-        let taken = basis.agreement.taken old.cells values new set end.sound.whole.home changes_written in
-        let given = basis.agreement.given (cells_taken old.cells set) new set taken in
-        subst (λ (cells : List (Cell V)). AgreesWith cells new) (basis.giving_forgets old.cells set (part_of (homes new) set) (basis.within_itself set) ∙ sym cells_are) given
+        subst (λ (cells : List (Cell V)). AgreesWith cells (app.act job.task values).cells) (sym (ap (λ (progress : Progress V). progress.cells) end.finished.after))
+        (agrees_given basis end.sound end.performed)
 
     as_many_after : length now.cells ≡ length old.cells
     as_many_after = ap length cells_are ∙ basis.given.as_many old.cells (part_of (homes (app.act job.task values).cells) job.bundle.set)
@@ -130,7 +90,7 @@ module _ {V : Type 0} {app : Application V} (basis : FinishBasis app) where
         cell_after loc inside
         ∙ ap (λ test. if test then cell_in (part_of (homes new) set) loc else cell_at old.cells loc) written
         ∙ basis.parts.each (homes new) set loc (some_where_written (access_at set loc) written) in
-        let many : length (homes new) ≡ length old.cells = length-mapped Home new ∙ changes_written.as_many ∙ sym end.sound.whole.home.as_many in
+        let many : length (homes new) ≡ length old.cells = length-mapped Home new ∙ (changes_written basis end.sound end.performed).as_many ∙ sym end.sound.whole.home.as_many in
         subst IsHome (sym here) (basis.all_homes.all_home new loc (subst (λ n. loc < n) (sym many) inside))
 
     unwritten_by_others : (loc : ℕ) → writes job.bundle.set loc ≡ true → is_written app (end.performed.before ++ end.performed.after) loc ≡ false
@@ -158,7 +118,7 @@ module _ {V : Type 0} {app : Application V} (basis : FinishBasis app) where
     bundles_after : AllByRecursion (λ other. other.bundle ≡ part_of (homes (app.act job.task values).cells) other.bundle.set) (end.performed.before ++ end.performed.after)
     bundles_after =
         all-joined (λ other. AreIndependent job.bundle.set other.bundle.set) (λ other. other.bundle ≡ part_of (homes values) other.bundle.set) (λ other. other.bundle ≡ part_of (homes (app.act job.task values).cells) other.bundle.set)
-        (λ other apart is. is ∙ sym (basis.changes.elsewhere values (app.act job.task values).cells job.bundle.set other.bundle.set (basis.independence_turned job.bundle.set other.bundle.set apart) changes_written))
+        (λ other apart is. is ∙ sym (basis.changes.elsewhere values (app.act job.task values).cells job.bundle.set other.bundle.set (basis.independence_turned job.bundle.set other.bundle.set apart) (changes_written basis end.sound end.performed)))
         (end.performed.before ++ end.performed.after) independent
         (all_but_one (λ other. other.bundle ≡ part_of (homes values) other.bundle.set) end.performed.before job end.performed.after
         (subst (AllByRecursion (λ other. other.bundle ≡ part_of (homes values) other.bundle.set)) end.performed.there end.sound.whole.bundles))

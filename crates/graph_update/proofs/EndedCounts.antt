@@ -1,39 +1,29 @@
 -- The counts, the log and the keys after the end of a task.
-use Rattle.std.proofs.Common.{◌≡◌, ◌≢◌, ℕ, suc, ◌+◌, ◌<◌, false, List, [], ◌∷◌, ◌++◌, length, refl, sym, ap, subst, ◌∙◌, arith}
+use Rattle.std.proofs.Common.{◌≡◌, ◌≢◌, ℕ, suc, ◌+◌, ◌<◌, List, [], ◌∷◌, ◌++◌, length, refl, sym, ap, subst, ◌∙◌, arith}
 use Rattle.std.specs.List.{AllByRecursion}
 use Rattle.task_order.specs.declared.key.Key.{Key}
 use Rattle.task_order.specs.declared.start.Start.{Start}
 use Rattle.task_order.specs.declared.task.Task.{Task}
 use Rattle.task_order.specs.Key.{at_key}
-use Rattle.task_order.specs.TaskList.{put_in, without}
-use Rattle.output_log.specs.Entries.{Entry, IsInKeyOrder, IsNewEntry, entries_before, entries_from, with_entry}
+use Rattle.task_order.specs.TaskList.{without}
+use Rattle.output_log.specs.Entries.{Entry, IsInKeyOrder, entries_before, entries_from, with_entry}
 use Rattle.kdg_graph.specs.Nodes.{tasks_of}
 use Rattle.app_laws.specs.Applications.{Application, handed}
 use Rattle.app_laws.specs.Execution.{children_from}
-use Rattle.app_laws.specs.Order.{is_prefix, Pairwise}
+use Rattle.app_laws.specs.Order.{Pairwise}
 use Rattle.graph_update.specs.declared.job.Done.{Done}
 use Rattle.graph_update.specs.declared.job.Job.{Job}
 use Rattle.graph_update.specs.FinishBasis.{FinishBasis}
 use Rattle.graph_update.specs.Finishes.{IsEnd, FinishesKeepKeysAndCounts}
 use Rattle.graph_update.specs.Progress.{Progress}
 use Rattle.graph_update.specs.Sound.{KeysAndCounts}
-use Rattle.graph_update.proofs.Ended.{ended_node, tasks_after, is_pending}
-use Rattle.graph_update.proofs.FinishMembers.{all_at}
-use Rattle.graph_update.proofs.FinishTasks.{all-weaker, all-joined, all-swapped, all-filter, all-put_all, prefix_of_itself, TasksApart, apart_from_put_in, all_parts, all-inserted, pairwise-inserted, length-inserted, length-mapped}
+use Rattle.graph_update.proofs.Ended.{ended_node, tasks_after}
+use Rattle.graph_update.proofs.Performed.{IsUnlogged, new_entry, path_differs, restored, tasks_unlogged}
+use Rattle.graph_update.proofs.FinishTasks.{all-weaker, all-joined, all-swapped, all-filter, all-put_all, TasksApart, apart_from_put_in, all_parts, all-inserted, pairwise-inserted, length-inserted, length-mapped}
 
 pub length-children : (parent : Key) (number : ℕ) (starts : List Start) → length (children_from parent number starts) ≡ length starts
 length-children parent number [] = refl
 length-children parent number (start ∷ starts) = ap suc (length-children parent (suc number) starts)
-
--- the task's path is no prefix of the entry's
-abbrev IsUnlogged : Task → Entry → Type 0
-IsUnlogged task entry = is_prefix task.key.path entry.0.path ≡ false
-
-path_differs : (task : Task) (entry : Entry) → IsUnlogged task entry → entry.0.path ≢ task.key.path
-path_differs task entry none same =
-    let itself = prefix_of_itself task.key.path in
-    let never : is_prefix task.key.path task.key.path ≡ false = subst (λ (path : List ℕ). is_prefix task.key.path path ≡ false) same none in
-    cc
 
 module _ {V : Type 0} {app : Application V} (basis : FinishBasis app) where
   module _ (key : Key) (text : List ℕ) (log : List Entry) (ordered : IsInKeyOrder log) where
@@ -61,18 +51,12 @@ module _ {V : Type 0} {app : Application V} (basis : FinishBasis app) where
     pub log_is : now.log ≡ with_entry job.task.key done.effect.text old.log
     log_is = ap (λ (progress : Progress V). progress.log) end.finished.after ∙ ap (λ (task : Task). with_entry task.key done.effect.text old.log) (sym end.performed.task)
 
-    tasks_unlogged : AllByRecursion (IsUnlogged job.task) old.log
-    tasks_unlogged = all_at (λ task. AllByRecursion (IsUnlogged task) old.log) (tasks_of old.nodes) job.task end.sound.keys_and_counts.unlogged (is_pending basis end)
-
-    restored : put_in job.task (without job.task.key (tasks_of old.nodes)) ≡ tasks_of old.nodes
-    restored = basis.put_without job.task (tasks_of old.nodes) end.sound.ready.ascending (is_pending basis end)
-
     rest_unlogged : AllByRecursion (λ task. AllByRecursion (IsUnlogged task) (with_entry job.task.key done.effect.text old.log)) (without job.task.key (tasks_of old.nodes))
     rest_unlogged =
         all-joined (TasksApart job.task) (λ task. AllByRecursion (IsUnlogged task) old.log) (λ task. AllByRecursion (IsUnlogged task) (with_entry job.task.key done.effect.text old.log))
         (λ task apart all. all-with_entry job.task.key done.effect.text old.log end.sound.keys_and_counts.log_ordered (IsUnlogged task) apart.not_after all)
         (without job.task.key (tasks_of old.nodes))
-        (apart_from_put_in job.task (without job.task.key (tasks_of old.nodes)) (subst (Pairwise TasksApart) (sym restored) end.sound.ready.apart))
+        (apart_from_put_in job.task (without job.task.key (tasks_of old.nodes)) (subst (Pairwise TasksApart) (sym (restored basis end.sound end.performed)) end.sound.ready.apart))
         (all-filter (λ task. AllByRecursion (IsUnlogged task) old.log) _ (tasks_of old.nodes) end.sound.keys_and_counts.unlogged)
 
     children_unlogged : AllByRecursion (λ task. AllByRecursion (IsUnlogged task) (with_entry job.task.key done.effect.text old.log)) (children_from job.task.key 0 (app.act job.task values).children)
@@ -82,7 +66,7 @@ module _ {V : Type 0} {app : Application V} (basis : FinishBasis app) where
         all-with_entry job.task.key done.effect.text old.log end.sound.keys_and_counts.log_ordered (λ (entry : Entry). AllByRecursion (λ (child : Task). IsUnlogged child entry) (children_from job.task.key 0 starts))
         (basis.children_go_on job.task.key starts)
         (all-weaker (IsUnlogged job.task) (λ (entry : Entry). AllByRecursion (λ (child : Task). IsUnlogged child entry) (children_from job.task.key 0 starts))
-        (λ entry none. basis.children_new job.task.key starts entry.0.path none) old.log tasks_unlogged) in
+        (λ entry none. basis.children_new job.task.key starts entry.0.path none) old.log (tasks_unlogged basis end.sound end.performed)) in
         all-swapped IsUnlogged (children_from job.task.key 0 starts) (with_entry job.task.key done.effect.text old.log) each
 
     unlogged_after : AllByRecursion (λ task. AllByRecursion (IsUnlogged task) now.log) (tasks_of now.nodes)
@@ -90,11 +74,6 @@ module _ {V : Type 0} {app : Application V} (basis : FinishBasis app) where
         subst (λ log. AllByRecursion (λ task. AllByRecursion (IsUnlogged task) log) (tasks_of now.nodes)) (sym log_is)
         (subst (AllByRecursion (λ task. AllByRecursion (IsUnlogged task) (with_entry job.task.key done.effect.text old.log))) (sym (tasks_after basis end))
         (all-put_all (λ task. AllByRecursion (IsUnlogged task) (with_entry job.task.key done.effect.text old.log)) (children_from job.task.key 0 (app.act job.task values).children) (without job.task.key (tasks_of old.nodes)) children_unlogged rest_unlogged))
-
-    new_entry : IsNewEntry job.task.key old.log
-    new_entry =
-        all-weaker (IsUnlogged job.task) (λ (entry : Entry). entry.0 ≢ job.task.key)
-        (λ entry none same. path_differs job.task entry none (ap (λ (key : Key). key.path) same)) old.log tasks_unlogged
 
     nodes_after : length now.nodes + 1 ≡ length old.nodes + length done.effect.children
     nodes_after =
@@ -104,7 +83,7 @@ module _ {V : Type 0} {app : Application V} (basis : FinishBasis app) where
         ∙ basis.adds_each (children_from job.task.key 0 starts) (without job.task.key (tasks_of old.nodes))
         ∙ ap (λ n. length (without job.task.key (tasks_of old.nodes)) + n) (length-children job.task.key 0 starts) in
         let old_is : length (without job.task.key (tasks_of old.nodes)) + 1 ≡ length old.nodes =
-        sym (basis.puts_add_one job.task (without job.task.key (tasks_of old.nodes))) ∙ ap length restored ∙ length-mapped (λ node. node.task) old.nodes in
+        sym (basis.puts_add_one job.task (without job.task.key (tasks_of old.nodes))) ∙ ap length (restored basis end.sound end.performed) ∙ length-mapped (λ node. node.task) old.nodes in
         let handed_over : length done.effect.children ≡ length starts =
         ap (λ (effect : _). length effect.children) (ended_node basis end).effect ∙ length-mapped (handed app (app.act job.task values).cells) starts in
         omega (arith, now_is, old_is, handed_over)
@@ -122,11 +101,11 @@ module _ {V : Type 0} {app : Application V} (basis : FinishBasis app) where
         let not_over : old.limit < old.created + length done.effect.children → ⊥ = end.within in
         record {
           graph = end.finished.graph;
-          log_ordered = subst IsInKeyOrder (sym log_is) (basis.entries_in_order job.task.key done.effect.text old.log new_entry counts.log_ordered);
+          log_ordered = subst IsInKeyOrder (sym log_is) (basis.entries_in_order job.task.key done.effect.text old.log (new_entry basis end.sound end.performed) counts.log_ordered);
           log_differs =
               subst (Pairwise (λ entry other. entry.0.path ≢ other.0.path)) (sym log_is)
               (differs-with_entry job.task.key done.effect.text old.log counts.log_ordered
-              (all-weaker (IsUnlogged job.task) (λ (entry : Entry). entry.0.path ≢ job.task.key.path) (λ entry none. path_differs job.task entry none) old.log tasks_unlogged)
+              (all-weaker (IsUnlogged job.task) (λ (entry : Entry). entry.0.path ≢ job.task.key.path) (λ entry none. path_differs job.task entry none) old.log (tasks_unlogged basis end.sound end.performed))
               counts.log_differs);
           unlogged = unlogged_after;
           created = omega (arith, created_is, ended_is, nodes_are, was_created);

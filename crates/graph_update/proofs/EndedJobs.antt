@@ -81,7 +81,7 @@ module _ {V : Type 0} {app : Application V} (basis : FinishBasis app) where
         let still : kept.0.running ≡ true = sym (ap (λ (node : Node). node.running) kept.3) ∙ runs in
         subst (λ task. list_any (λ job. is_eq (key_cmp job.task.key task.key)) (end.performed.before ++ end.performed.after) ≡ true) (sym same) (has_other_job kept.0 kept.1 kept.2 still))
         (λ fresh. absurd (true≢false (sym runs ∙ ap (λ (node : Node). node.running) fresh.2)))
-        (basis.no_other old.nodes end.finished.node.id (renewals app (cells_given old.cells done.effect.bundle) old.nodes end.finished.node) (fresh_from app done.task.key 0 done.effect.children) now.nodes end.finished.nodes node has))
+        (basis.no_other old.nodes end.finished.node.id (renewals app (cells_given old.cells done.effect.bundle) old.nodes end.finished.node) (fresh_from done.task.key 0 done.effect.children) now.nodes end.finished.nodes node has))
 
     jobs_match_after : JobsMatch app now.nodes others
     jobs_match_after = subst (JobsMatch app now.nodes) (sym end.performed.others_are) (record { named = others_named; all = all_have_jobs; own = others_own })

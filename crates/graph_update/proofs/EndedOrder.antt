@@ -138,7 +138,7 @@ module _ {V : Type 0} {app : Application V} (basis : FinishBasis app) where
         let same_task : other.task ≡ fresh.0.task = ap (λ (node : Node). node.task) fresh.2 in
         let own : other.set ≡ set_in app (app.act job.task values).cells other.task = new_set ∙ item_set basis end fresh.0 fresh.1 ∙ ap (λ task. set_in app (app.act job.task values).cells task) (sym same_task) in
         apart_from_declared was other still has before (subst (λ set. Conflicts set was.set) own conflict))
-        (basis.no_other old.nodes end.finished.node.id (renewals app (cells_given old.cells done.effect.bundle) old.nodes end.finished.node) (fresh_from app done.task.key 0 done.effect.children) now.nodes end.finished.nodes other has)
+        (basis.no_other old.nodes end.finished.node.id (renewals app (cells_given old.cells done.effect.bundle) old.nodes end.finished.node) (fresh_from done.task.key 0 done.effect.children) now.nodes end.finished.nodes other has)
 
     pub unblocked_after : (was : Node) → IsAnotherUnblocked was → is_unblocked app now.nodes was ≡ true
     unblocked_after was still =
@@ -164,7 +164,7 @@ module _ {V : Type 0} {app : Application V} (basis : FinishBasis app) where
         let same : node ≡ kept.0 = kept.3 ∙ ap (λ (set : Accesses). let made : Node = record kept.0 { set = set } in made) unchanged in
         subst (λ node. is_unblocked app now.nodes node ≡ true) (sym same) (unblocked_after kept.0 still))
         (λ fresh. absurd (true≢false (sym runs ∙ ap (λ (node : Node). node.running) fresh.2)))
-        (basis.no_other old.nodes end.finished.node.id (renewals app (cells_given old.cells done.effect.bundle) old.nodes end.finished.node) (fresh_from app done.task.key 0 done.effect.children) now.nodes end.finished.nodes node has))
+        (basis.no_other old.nodes end.finished.node.id (renewals app (cells_given old.cells done.effect.bundle) old.nodes end.finished.node) (fresh_from done.task.key 0 done.effect.children) now.nodes end.finished.nodes node has))
 
   pub keeps_unblocked : FinishesKeepUnblocked app
   keeps_unblocked old now done job jobs others values end = all_unblocked end

@@ -27,9 +27,10 @@ use Rattle.graph_update.specs.FinishBasis.{FinishBasis}
 use Rattle.graph_update.specs.Finishes.{IsEnd, FinishesKeepCover}
 use Rattle.graph_update.specs.Progress.{Progress, whole_state}
 use Rattle.graph_update.specs.Sound.{Covers}
-use Rattle.graph_update.proofs.Ended.{covered, ended_node, is_pending, is_there, ready_after}
-use Rattle.graph_update.proofs.EndedCells.{agrees_after, cell_after, fit_after, never_out}
+use Rattle.graph_update.proofs.Ended.{covered, ended_node, is_there, ready_after}
+use Rattle.graph_update.proofs.EndedCells.{agrees_after, cell_after, never_out}
 use Rattle.graph_update.proofs.EndedNodes.{IsInTheWay, ended_key, own_key, running_is_free, runs_apart, set_changed, set_unchanged}
+use Rattle.graph_update.proofs.Performed.{fit_after, is_pending}
 use Rattle.graph_update.proofs.FinishMembers.{all_at, all_from, in_map}
 
 joined_parts : (x y : Option Access) → is_some (joined x y) ≡ true → (is_some x ≡ true) ⊎ (is_some y ≡ true)
@@ -40,7 +41,7 @@ joined_parts (Some x) (Some y) some = inl refl
 module _ {V : Type 0} (app : Application V) where
   -- fresh tasks have their declared sets in the cells with which they were handed over
   pub fresh_sets : (cells : List V) (parent : Key) (number : ℕ) (starts : List Start)
-      → AllByRecursion (λ (item : Fresh). item.set ≡ set_in app cells item.task) (fresh_from app parent number (map (handed app cells) starts))
+      → AllByRecursion (λ (item : Fresh). item.set ≡ set_in app cells item.task) (fresh_from parent number (map (handed app cells) starts))
   fresh_sets cells parent number [] = tt
   fresh_sets cells parent number (start ∷ starts) = (refl, fresh_sets cells parent (suc number) starts)
 
@@ -60,7 +61,7 @@ module _ {V : Type 0} {app : Application V} (basis : FinishBasis app) where
     pub independent_tasks : (was : Node) → Contains old.nodes was → was.id ≢ end.finished.node.id → conflicts_with end.finished.node.set was.set ≡ false
         → AreIndependentTasks app (whole_state old values) job.task was.task
     independent_tasks was has apart free = record {
-      task_pending = is_pending basis end;
+      task_pending = is_pending basis end.sound end.performed;
       other_pending = in_map (λ node. node.task) old.nodes was has;
       differ = keys_differ was has apart;
       apart = λ conflict.
@@ -80,7 +81,7 @@ module _ {V : Type 0} {app : Application V} (basis : FinishBasis app) where
     walked : (was : Node) → Contains old.nodes was → IsTrueAnswer app (set_in app (app.act job.task values).cells was.task) now.cells (app.walk was.task.body (cells_given old.cells done.effect.bundle))
     walked was has =
         subst (λ (cells : List (Cell V)). IsTrueAnswer app (set_in app (app.act job.task values).cells was.task) cells (app.walk was.task.body (cells_given old.cells done.effect.bundle))) (sym cells_done)
-        (basis.lawful.walks_are_true was.task (cells_given old.cells done.effect.bundle) (app.act job.task values).cells (fit_after basis end) (fit_node was has)
+        (basis.lawful.walks_are_true was.task (cells_given old.cells done.effect.bundle) (app.act job.task values).cells (fit_after basis end.sound end.performed) (fit_node was has)
         (subst (λ (cells : List (Cell V)). AgreesWith cells (app.act job.task values).cells) cells_done (agrees_after basis end)))
 
     -- a set after the end is the one before where there is no conflict, and else a renewed one
@@ -103,7 +104,7 @@ module _ {V : Type 0} {app : Application V} (basis : FinishBasis app) where
 
     covers_exact : (node : Node) → IsFitTask app node.task → node.set ≡ set_in app (app.act job.task values).cells node.task → Covers app now.cells (app.act job.task values).cells node
     covers_exact node fit same = record {
-      in_range = subst (IsInRange app) (sym same) (basis.lawful.sets_are_in_range node.task (app.act job.task values).cells (fit_after basis end) fit);
+      in_range = subst (IsInRange app) (sym same) (basis.lawful.sets_are_in_range node.task (app.act job.task values).cells (fit_after basis end.sound end.performed) fit);
       within = subst (IsWithin (set_in app (app.act job.task values).cells node.task)) (sym same) (basis.within_itself (set_in app (app.act job.task values).cells node.task));
       running = λ runs. same;
       home = λ home. same;
@@ -139,7 +140,7 @@ module _ {V : Type 0} {app : Application V} (basis : FinishBasis app) where
         let covers = covers_of was has in
         let ended = covered basis end in
         let holds = basis.merges_hold was.set end.finished.node.set covers.in_range.ascending ended.in_range.ascending in
-        let within = basis.lawful.sets_stay_within job.task was.task values end.sound.ready.cells (all_at (IsFitTask app) (tasks_of old.nodes) job.task end.sound.ready.tasks (is_pending basis end)) (fit_node was has) (λ same. keys_differ was has apart (sym same)) in
+        let within = basis.lawful.sets_stay_within job.task was.task values end.sound.ready.cells (all_at (IsFitTask app) (tasks_of old.nodes) job.task end.sound.ready.tasks (is_pending basis end.sound end.performed)) (fit_node was has) (λ same. keys_differ was has apart (sym same)) in
         let first = basis.lawful.sets_are_in_range was.task values end.sound.ready.cells (fit_node was has) in
         let second : IsInRange app (set_in app values job.task) = subst (IsInRange app) (ended_node basis end).set ended.in_range in
         basis.within_all _ (merged (set_in app values was.task) (set_in app values job.task)) _ within
@@ -173,11 +174,11 @@ module _ {V : Type 0} {app : Application V} (basis : FinishBasis app) where
     kept_covers was has apart =
         set_cases (λ set. Covers app now.cells (app.act job.task values).cells (record was { set = set })) was has apart (free_covers was has apart) (changed_covers was has apart)
 
-    pub item_set : (item : Fresh) → Contains (fresh_from app done.task.key 0 done.effect.children) item → item.set ≡ set_in app (app.act job.task values).cells item.task
+    pub item_set : (item : Fresh) → Contains (fresh_from done.task.key 0 done.effect.children) item → item.set ≡ set_in app (app.act job.task values).cells item.task
     item_set item has =
         let sets = fresh_sets app (app.act job.task values).cells done.task.key 0 (app.act job.task values).children in
-        all_at (λ (item : Fresh). item.set ≡ set_in app (app.act job.task values).cells item.task) (fresh_from app done.task.key 0 done.effect.children) item
-        (subst (λ (effect : _). AllByRecursion (λ (item : Fresh). item.set ≡ set_in app (app.act job.task values).cells item.task) (fresh_from app done.task.key 0 effect.children)) (sym (ended_node basis end).effect) sets) has
+        all_at (λ (item : Fresh). item.set ≡ set_in app (app.act job.task values).cells item.task) (fresh_from done.task.key 0 done.effect.children) item
+        (subst (λ (effect : _). AllByRecursion (λ (item : Fresh). item.set ≡ set_in app (app.act job.task values).cells item.task) (fresh_from done.task.key 0 effect.children)) (sym (ended_node basis end).effect) sets) has
 
     covers_after : AllByRecursion (Covers app now.cells (app.act job.task values).cells) now.nodes
     covers_after = all_from (λ node. Covers app now.cells (app.act job.task values).cells node) now.nodes (λ node has.
@@ -188,7 +189,7 @@ module _ {V : Type 0} {app : Application V} (basis : FinishBasis app) where
         let same_item : node.set ≡ fresh.0.set = ap (λ (node : Node). node.set) fresh.2 in
         let same_task : node.task ≡ fresh.0.task = ap (λ (node : Node). node.task) fresh.2 in
         covers_exact node fit (same_item ∙ item_set fresh.0 fresh.1 ∙ ap (λ task. set_in app (app.act job.task values).cells task) (sym same_task)))
-        (basis.no_other old.nodes end.finished.node.id (renewals app (cells_given old.cells done.effect.bundle) old.nodes end.finished.node) (fresh_from app done.task.key 0 done.effect.children) now.nodes end.finished.nodes node has))
+        (basis.no_other old.nodes end.finished.node.id (renewals app (cells_given old.cells done.effect.bundle) old.nodes end.finished.node) (fresh_from done.task.key 0 done.effect.children) now.nodes end.finished.nodes node has))
 
   pub keeps_cover : FinishesKeepCover app
   keeps_cover old now done job jobs others values end = covers_after end

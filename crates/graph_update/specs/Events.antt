@@ -23,6 +23,12 @@ use Rattle.graph_update.specs.declared.job.Job.{Job}
 use Rattle.graph_update.specs.Progress.{Progress}
 use Rattle.graph_update.specs.Sound.{is_unblocked}
 
+-- the children of a task as fresh tasks, numbered from a number on, with the sets that were handed over
+abbrev pub fresh_from : Key → ℕ → List Child → List Fresh
+fresh_from parent number [] = []
+fresh_from parent number (child ∷ children) =
+    record { task = record { key = child_key parent number child.prio; body = child.body }; set = child.set } ∷ fresh_from parent (suc number) children
+
 module _ {V : Type 0} (app : Application V) where
   -- a clear node is not running, no earlier node's recorded set conflicts with its own, and its task is safe against the earlier ones
   abbrev pub is_clear : List Node → Node → Bool
@@ -50,12 +56,6 @@ module _ {V : Type 0} (app : Application V) where
   renewals cells nodes ended = map
       (λ other. record { node = other.id; set = renewed ended.set other.set (app.walk other.task.body cells) })
       (filter (λ other. conflicts_with ended.set other.set) (later_than ended.task.key nodes))
-
-  -- the children of a task as fresh tasks, numbered from a number on, with the sets that were handed over
-  abbrev pub fresh_from : Key → ℕ → List Child → List Fresh
-  fresh_from parent number [] = []
-  fresh_from parent number (child ∷ children) =
-      record { task = record { key = child_key parent number child.prio; body = child.body }; set = child.set } ∷ fresh_from parent (suc number) children
 
   -- The end of a task: its written values are home, its node is gone, its children are nodes, the later nodes in conflict with
   -- it have new recorded sets, its text is logged, and the counts have risen.

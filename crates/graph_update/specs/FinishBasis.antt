@@ -28,6 +28,8 @@ pub record FinishBasis {V : Type 0} (app : Application V) : Type 0 where
   pub puts_add_one : tasks.PutsAddOne
   pub entries_in_order : logs.PutsKeepOrder
   pub earlier_first : logs.EarlierEntriesComeFirst
+  pub children_apart : family.ChildrenAreApart
+  pub siblings_apart : family.SiblingsAreApart
   pub children_new : family.ChildrenAreNew
   pub children_go_on : family.ChildrenGoOn
   pub independent : sets.IndependentWithoutConflict
@@ -45,6 +47,8 @@ pub record FinishBasis {V : Type 0} (app : Application V) : Type 0 where
   pub merges_ascend : sets.MergesAscend
   pub given : cells.GivenByLocation V
   pub parts : cells.PartsByLocation V
+  pub takes_back : cells.TakesBackWhatWasGiven V
+  pub regains : cells.RegainsWhatWasGiven V
   pub giving_forgets : cells.GivingForgetsTaking V
   pub all_homes : cells.HomesAreValues V
   pub agreement : cells.AgreementLasts V

@@ -1,5 +1,6 @@
 pub mod Answers
 pub mod Basis
+pub mod Engine
 pub mod Events
 pub mod FinishBasis
 pub mod Finishes

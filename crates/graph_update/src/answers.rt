@@ -1,5 +1,6 @@
 use crate::{Done, Job};
 use cell_store::Held;
+use kdg_text::NoRoom;
 
 /// Why nothing more is to be claimed.
 #[derive(Clone, Copy, Debug, PartialEq, Eq)]
@@ -40,6 +41,17 @@ pub enum BeginFault {
     },
     /// No memory was to be had.
     NoRoom,
+}
+
+impl From<NoRoom> for BeginFault {
+    ghost use Rattle.std.specs.Prelude.{◌≡◌};
+    ghost use Rattle.graph_update.specs.declared.answers.BeginFault.TheVariants.{NoRoom};
+
+    ghost from_gives = { λ _ fault. fault ≡ NoRoom };
+
+    fn from(_: NoRoom) -> BeginFault {
+        BeginFault::NoRoom
+    }
 }
 
 /// What a claim answers.

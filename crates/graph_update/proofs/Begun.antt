@@ -1,0 +1,43 @@
+-- An execution that has just begun.
+use Rattle.std.proofs.Common.{◌≡◌, ℕ, ◌≤◌, false, List, [], Option, None, length, refl, subst}
+use Rattle.std.specs.List.{AllByRecursion}
+use Rattle.task_order.specs.declared.start.Start.{Start}
+use Rattle.cell_store.specs.declared.cell.Cell.{Cell}
+use Rattle.cell_store.specs.Values.{homes}
+use Rattle.output_log.specs.Entries.{Entry}
+use Rattle.kdg_graph.specs.Node.{Node}
+use Rattle.app_laws.specs.Applications.{Application, AreFitStarts}
+use Rattle.graph_update.specs.Answers.{IsBegun}
+use Rattle.graph_update.specs.Engine.{AreFirstNodes, IsKept, most_tasks}
+use Rattle.graph_update.specs.Laws.{BeginningsAreSound}
+use Rattle.graph_update.specs.Progress.{Progress}
+use Rattle.graph_update.specs.Sound.{IsSound}
+
+module _ {V : Type 0} (app : Application V) (cells values : List V) (first starts : List Start) (budget created : ℕ) (store : List (Cell V)) (nodes : List Node) (log : List Entry)
+    (same : values ≡ cells) (listed : starts ≡ first) (home : store ≡ homes cells) (are : AreFirstNodes app values starts nodes) (empty : log ≡ []) (many : created ≡ length first) where
+  abbrev fresh : Progress V
+  fresh = record { cells = store; nodes = nodes; log = log; created = created; ended = 0; limit = budget; over = None }
+
+  of_cells : AreFirstNodes app cells first nodes
+  of_cells = subst (λ held. AreFirstNodes app held first nodes) same (subst (λ (held : List Start). AreFirstNodes app values held nodes) listed are)
+
+  pub begun : IsBegun app cells first budget fresh
+  begun = record {
+    cells_are = home;
+    graph = of_cells.graph;
+    tasks_are = of_cells.tasks;
+    sets_are = of_cells.sets;
+    none_runs = of_cells.none_runs;
+    nothing_logged = empty;
+    created_are = many;
+    none_ended = refl;
+    limit_is = refl;
+    not_over = refl;
+  }
+
+  module _ (laws : BeginningsAreSound app) (fit_cells : app.is_fit_cells cells) (fit : AreFitStarts app first) (few : length first ≤ budget) where
+    pub begun_sound : IsSound app fresh [] cells
+    begun_sound = laws cells first budget fresh fit_cells fit few begun
+
+    pub begun_kept : budget ≤ most_tasks → IsKept app fresh
+    begun_kept limited = record { jobs = []; values = cells; sound = begun_sound; limited = limited }

@@ -1,0 +1,126 @@
+-- A claim takes a clear node.
+use Rattle.std.proofs.Common.{◌≡◌, ◌≢◌, ℕ, ◌||◌, Bool, true, false, List, [], ◌∷◌, Option, Some, None, is_some, refl, sym, ap, subst, ◌∙◌}
+use Rattle.std.specs.Prelude.{Contains, IsSome}
+use Rattle.std.specs.List.{list_any}
+use Rattle.std.specs.Option.{option_map}
+use Rattle.std.proofs.lemmas.Bool.{true≢false}
+use Rattle.task_order.specs.declared.task.Task.{Task}
+use Rattle.rw_sets.specs.Accesses.{Accesses}
+use Rattle.cell_store.specs.declared.cell.Cell.{Cell}
+use Rattle.cell_store.specs.Cells.{AreHome, cells_taken, part_of}
+use Rattle.cell_store.specs.Part.{Part}
+use Rattle.cell_store.specs.Values.{homes}
+use Rattle.kdg_graph.specs.declared.node_id.NodeId.{NodeId}
+use Rattle.kdg_graph.specs.Node.{Node}
+use Rattle.kdg_graph.specs.Nodes.{HasNode, least_of, node_at, set_at, started, task_at, tasks_of}
+use Rattle.app_laws.specs.Applications.{Application, IsFitTask, set_in}
+use Rattle.graph_update.specs.Basis.{Basis}
+use Rattle.graph_update.specs.declared.job.Job.{Job}
+use Rattle.graph_update.specs.Engine.{IsKept, IsPick, IsPicked, MayRun, SomeRuns}
+use Rattle.graph_update.specs.Events.{IsClaimed, clear_nodes, is_clear}
+use Rattle.graph_update.specs.Progress.{Progress}
+use Rattle.graph_update.specs.Sound.{Covers, IsSound}
+use Rattle.graph_update.proofs.Claims.{claims_keep_sound, found_is_there, is_home}
+use Rattle.graph_update.proofs.ClearNodes.{some_is_clear}
+use Rattle.graph_update.proofs.Ending.{no_jobs}
+use Rattle.graph_update.proofs.Members.{all_at, from_filter, here, in_map, none_passes, there as from_there}
+
+Some-injective : {X : Type 0} (a b : X) → Some a ≡ Some b → a ≡ b
+Some-injective a b same = cc
+
+any_one : {X : Type 0} (p : X → Bool) (xs : List X) → list_any p xs ≡ true → (x : X) × Contains xs x × (p x ≡ true)
+any_one p [] never = absurd (true≢false (sym never))
+any_one {X} p (x ∷ xs) some = by_test (p x) refl some (any_one p xs)
+  where
+    by_test : (test : Bool) → p x ≡ test → (test || list_any p xs) ≡ true → (list_any p xs ≡ true → (y : X) × Contains xs y × (p y ≡ true)) → (y : X) × Contains (x ∷ xs) y × (p y ≡ true)
+    by_test true is _ rest = (x, here x xs, is)
+    by_test false is some rest =
+        let found = rest some in
+        (found.0, from_there x found.0 xs found.1, found.2)
+
+module _ {V : Type 0} {app : Application V} (basis : Basis app) where
+  module _ (old : Progress V) (jobs : List (Job V)) (values : List V) (sound : IsSound app old jobs values) (pick : ℕ) (id : NodeId) (picked : IsPicked app old.nodes pick id) where
+    there : Contains old.nodes picked.node × (is_clear app old.nodes picked.node ≡ true)
+    there = from_filter (is_clear app old.nodes) old.nodes picked.node (found_is_there (clear_nodes app old.nodes) _ picked.node picked.chosen)
+
+    at : node_at old.nodes id ≡ Some picked.node
+    at = ap (node_at old.nodes) (sym picked.id_is) ∙ basis.lower.have_ids old.nodes picked.node sound.keys_and_counts.graph there.0
+
+    pub has_node : HasNode old.nodes id
+    has_node = subst IsSome (sym at) refl
+
+    pub picked_task : (task : Task) → task_at old.nodes id ≡ Some task → picked.node.task ≡ task
+    picked_task task found = Some-injective picked.node.task task (sym (ap (option_map (λ (n : Node). n.task)) at) ∙ found)
+
+    pub picked_set : (set : Accesses) → set_at old.nodes id ≡ Some set → picked.node.set ≡ set
+    picked_set set found = Some-injective picked.node.set set (sym (ap (option_map (λ (n : Node). n.set)) at) ∙ found)
+
+    pub picked_home : (set : Accesses) → set_at old.nodes id ≡ Some set → AreHome old.cells set
+    picked_home set found = subst (AreHome old.cells) (picked_set set found) (is_home basis old jobs values picked.node sound there.0 there.1)
+
+  -- the first of the jobs of a sound execution may run
+  pub job_may_run : (progress : Progress V) (job : Job V) (jobs : List (Job V)) (values : List V) → IsSound app progress (job ∷ jobs) values → MayRun app job
+  job_may_run progress job jobs values sound =
+      let found = sound.outs_match.named.0 in
+      let node = found.0 in
+      let there = (basis.lower.keys_find progress.nodes job.task.key node found.1).0 in
+      let covers = all_at (Covers app progress.cells values) progress.nodes node sound.recorded_covers there in
+      let fit = all_at (IsFitTask app) (tasks_of progress.nodes) node.task sound.ready.tasks (in_map (λ (n : Node). n.task) progress.nodes node there) in
+      let set : job.bundle.set ≡ set_in app values job.task = sym found.2.set ∙ covers.running found.2.running ∙ ap (set_in app values) found.2.task in
+      record {
+        fit = subst (IsFitTask app) found.2.task fit;
+        taken = record { cells = values; fit = sound.ready.cells; is = sound.whole.bundles.0 ∙ ap (part_of (homes values)) set };
+      }
+
+  module _ (old : Progress V) (kept : IsKept app old) (pick : ℕ) (id : NodeId) (picked : IsPicked app old.nodes pick id)
+      (found copy : Task) (set : Accesses) (bundle : Part V) (cells : List (Cell V)) (nodes : List Node)
+      (task_is : task_at old.nodes id ≡ Some found) (copied : copy ≡ found) (set_is : set_at old.nodes id ≡ Some set) (bundle_is : bundle ≡ part_of old.cells set)
+      (cells_are : cells ≡ cells_taken old.cells set) (nodes_are : nodes ≡ started id old.nodes) where
+    abbrev now : Progress V
+    now = record old { nodes = nodes; cells = cells }
+
+    abbrev job : Job V
+    job = record { task = copy; bundle = bundle }
+
+    same_task : copy ≡ picked.node.task
+    same_task = copied ∙ sym (picked_task old kept.jobs kept.values kept.sound pick id picked found task_is)
+
+    same_set : set ≡ picked.node.set
+    same_set = sym (picked_set old kept.jobs kept.values kept.sound pick id picked set set_is)
+
+    -- the claim of the picked node
+    pub claimed : IsClaimed app old pick now job
+    claimed = record {
+      node = picked.node;
+      chosen = picked.chosen;
+      job_is = λ i. record { task = same_task i; bundle = (bundle_is ∙ ap (part_of old.cells) same_set) i };
+      after = λ i. record old { nodes = (nodes_are ∙ ap (λ one. started one old.nodes) (sym picked.id_is)) i; cells = (cells_are ∙ ap (cells_taken old.cells) same_set) i };
+    }
+
+    pub sound_after : (jobs : List (Job V)) (values : List V) → IsSound app old jobs values → IsSound app now (job ∷ jobs) values
+    sound_after jobs values sound = claims_keep_sound basis old now pick job jobs values sound claimed
+
+    pub kept_after : IsKept app now
+    kept_after = record { jobs = job ∷ kept.jobs; values = kept.values; sound = sound_after kept.jobs kept.values kept.sound; limited = kept.limited }
+
+    pub may_run : MayRun app job
+    may_run = job_may_run now job kept.jobs kept.values (sound_after kept.jobs kept.values kept.sound)
+
+  -- where no node is clear, although nodes are there, some node is running
+  pub some_runs : (progress : Progress V) (jobs : List (Job V)) (values : List V) → IsSound app progress jobs values → progress.nodes ≢ [] → clear_nodes app progress.nodes ≡ [] → SomeRuns progress.nodes
+  some_runs progress jobs values sound some none_clear = by_search (list_any (λ (n : Node). n.running) progress.nodes) refl
+    where
+      by_search : (found : Bool) → list_any (λ (n : Node). n.running) progress.nodes ≡ found → SomeRuns progress.nodes
+      by_search true is =
+          let found = any_one (λ (n : Node). n.running) progress.nodes is in
+          record { node = found.0; there = found.1; running = found.2 }
+      by_search false is =
+          let idle = no_jobs basis progress.nodes jobs (λ node there running. true≢false (sym running ∙ none_passes (λ (n : Node). n.running) progress.nodes node is there)) sound.outs_match.named in
+          absurd (some_is_clear basis progress values (subst (λ left. IsSound app progress left values) idle sound) some none_clear)
+
+  -- the same where nothing is picked of a graph that has a least node
+  pub runs_where_none : (old : Progress V) (pick : ℕ) (found least : Option NodeId) → IsKept app old → least ≡ least_of old.nodes → is_some least ≡ true
+      → ((id : NodeId) → found ≡ Some id → ⊥) → IsPick app old.nodes pick found → SomeRuns old.nodes
+  runs_where_none old pick (Some id) least kept is some never pick_is = absurd (never id refl)
+  runs_where_none old pick None least kept is some never none_clear =
+      some_runs old kept.jobs kept.values kept.sound (λ empty. true≢false (sym some ∙ ap is_some (is ∙ ap least_of empty))) none_clear

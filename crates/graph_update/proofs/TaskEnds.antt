@@ -1,0 +1,165 @@
+-- What is known where a task that was performed ends.
+use Rattle.std.proofs.Common.{◌≡◌, ℕ, suc, ◌+◌, ◌<◌, ◌≤◌, Option, Some, None, List, [], ◌∷◌, length, sym, ap, subst, ◌∙◌, arith}
+use Rattle.std.specs.Prelude.{Contains, option_map}
+use Rattle.std.specs.Option.{option_or}
+use Rattle.task_order.specs.declared.task.Task.{Task}
+use Rattle.cell_store.specs.declared.cell.Cell.{Cell}
+use Rattle.cell_store.specs.Cells.{AreWrittenOut, IsBundle, bundle_of, cells_given, cells_taken, shell_of}
+use Rattle.cell_store.specs.Laws.{RegainsWhatWasGiven, TakesBackWhatWasGiven}
+use Rattle.cell_store.specs.Part.{Part}
+use Rattle.cell_store.specs.Values.{AgreesWith}
+use Rattle.output_log.specs.Entries.{Entry, IsNewEntry, with_entry}
+use Rattle.kdg_graph.specs.declared.change.Fresh.{Fresh}
+use Rattle.kdg_graph.specs.declared.node_id.NodeId.{NodeId}
+use Rattle.kdg_graph.specs.Edges.{laters_of}
+use Rattle.kdg_graph.specs.Node.{Node}
+use Rattle.kdg_graph.specs.Nodes.{IsGraph, node_at, node_with_key}
+use Rattle.kdg_graph.specs.Rewrite.{IsRewritten}
+use Rattle.app_laws.specs.Applications.{Application}
+use Rattle.graph_update.specs.declared.answers.OverCause.{OverCause}
+use Rattle.graph_update.specs.declared.answers.OverCause.TheVariants as cause
+use Rattle.graph_update.specs.declared.job.Done.{Done}
+use Rattle.graph_update.specs.Engine.{FinishStaysSound, IsDone, IsKept, IsOneStepEach, StaysSound, most_tasks}
+use Rattle.graph_update.specs.Events.{IsFinished, IsOverLimit, budget_marked, fresh_from, renewals}
+use Rattle.graph_update.specs.FinishBasis.{FinishBasis}
+use Rattle.graph_update.specs.Laws.{FinishesKeepSound, MarksAndDrainsKeepSound}
+use Rattle.graph_update.specs.Progress.{EngineState, Progress}
+use Rattle.graph_update.specs.Sound.{IsSound}
+use Rattle.graph_update.proofs.FinishMembers.{none}
+use Rattle.graph_update.proofs.Performed.{IsEnded, agrees_given, fit_after, named, new_entry, performed_node}
+use Rattle.graph_update.proofs.Renewing.{part_is}
+
+some_there : (nodes : List Node) (node : Node) → Contains nodes node → 1 ≤ length nodes
+some_there [] node has = absurd (none node has)
+some_there (first ∷ nodes) node has = omega arith
+
+never_none : (found : Option Node) (node : Node) → found ≡ Some node → option_map (λ (node : Node). node.id) found ≡ None → ⊥
+never_none found node is absent =
+    let id : option_map (λ (node : Node). node.id) found ≡ Some node.id = ap (option_map (λ (node : Node). node.id)) is in
+    cc
+
+-- what was given and is regained is as it was before
+module _ {V : Type 0} (cells given : List (Cell V)) (bundle shell : Part V) (out : AreWrittenOut cells bundle.set) (given_is : given ≡ cells_given cells bundle) (shell_is : shell ≡ shell_of bundle) where
+  pub cells_back : TakesBackWhatWasGiven V → (back : List (Cell V)) → back ≡ cells_taken given shell.set → back ≡ cells
+  cells_back takes_back back is =
+      is ∙ ap (λ (cells : List (Cell V)). cells_taken cells shell.set) given_is ∙ ap (λ (shell : Part V). cells_taken (cells_given cells bundle) shell.set) shell_is ∙ takes_back cells bundle out
+
+  pub bundle_back : RegainsWhatWasGiven V → IsBundle bundle → (back : Part V) → back ≡ bundle_of given shell → back ≡ bundle
+  bundle_back regains whole back is =
+      is ∙ ap (λ (cells : List (Cell V)). bundle_of cells shell) given_is ∙ ap (bundle_of (cells_given cells bundle)) shell_is ∙ regains cells bundle whole out
+
+pub done_back : {V : Type 0} (done : Done V) (bundle : Part V) → bundle ≡ done.effect.bundle → (record done { effect = record done.effect { bundle = bundle } }) ≡ done
+done_back {V} done bundle is = ap (λ (bundle : Part V). let back : Done V = record done { effect = record done.effect { bundle = bundle } } in back) is
+
+pub progress_back : {V : Type 0} (old : Progress V) (cells : List (Cell V)) (nodes : List Node) (log : List Entry) → cells ≡ old.cells → nodes ≡ old.nodes → log ≡ old.log
+    → (record old { cells = cells; nodes = nodes; log = log }) ≡ old
+progress_back {V} old cells nodes log cells_are nodes_are log_is =
+    ap (λ (cells : List (Cell V)). let back : Progress V = record old { cells = cells; nodes = nodes; log = log } in back) cells_are
+    ∙ ap (λ (nodes : List Node). let back : Progress V = record old { nodes = nodes; log = log } in back) nodes_are
+    ∙ ap (λ (log : List Entry). let back : Progress V = record old { log = log } in back) log_is
+
+-- what is said of an engine is said of its parts, and the other way round
+module _ {A V : Type 0} (meaning : A → Application V) (inside engine : EngineState A V) (done : Done V) (same : inside ≡ engine) where
+  pub inside_done : IsDone (meaning engine.app) engine.progress done → IsDone (meaning inside.app) inside.progress done
+  inside_done is = subst (λ (state : EngineState A V). IsDone (meaning state.app) state.progress done) (sym same) is
+
+  pub engine_finished : (now : Progress V) → IsFinished (meaning inside.app) inside.progress done now → IsFinished (meaning engine.app) engine.progress done now
+  engine_finished now is = subst (λ (state : EngineState A V). IsFinished (meaning state.app) state.progress done now) same is
+
+  pub engine_sound : (now : Progress V) → FinishStaysSound (meaning inside.app) inside.progress done now → FinishStaysSound (meaning engine.app) engine.progress done now
+  engine_sound now is = subst (λ (state : EngineState A V). FinishStaysSound (meaning state.app) state.progress done now) same is
+
+  -- a mark where a task is over the limit leaves an execution sound
+  pub over_sound : MarksAndDrainsKeepSound (meaning engine.app) → (over : Option OverCause)
+      → over ≡ option_or inside.progress.over (Some (cause.Budget (inside.progress.created + length done.effect.children) inside.progress.limit))
+      → StaysSound (meaning engine.app) engine.progress (record inside.progress { over = over })
+  over_sound laws over over_is jobs values sound =
+      let marked : (record inside.progress { over = over }) ≡ budget_marked (meaning engine.app) engine.progress done =
+      ap (λ (over : Option OverCause). let now : Progress V = record inside.progress { over = over } in now) over_is
+      ∙ ap (λ (state : EngineState A V). budget_marked (meaning state.app) state.progress done) same in
+      subst (λ (now : Progress V). IsSound (meaning engine.app) now jobs values) (sym marked) (laws.over_limit engine.progress done jobs values sound)
+
+module _ {V : Type 0} {app : Application V} (basis : FinishBasis app) (old : Progress V) (done : Done V) (is : IsDone app old done) where
+  ended : IsEnded app old is.values done is.job (named basis is.sound is.performed).0
+  ended = performed_node basis is.sound is.performed
+
+  -- the task has a node
+  pub has_node : option_map (λ (node : Node). node.id) (node_with_key old.nodes done.task.key) ≡ None → ⊥
+  has_node = never_none (node_with_key old.nodes done.task.key) (named basis is.sound is.performed).0 ended.found
+
+  pub fit_given : (values : List V) × app.is_fit_cells values × AgreesWith (cells_given old.cells done.effect.bundle) values
+  fit_given = ((app.act is.job.task is.values).cells, fit_after basis is.sound is.performed, agrees_given basis is.sound is.performed)
+
+  pub entry_is_new : IsNewEntry done.task.key old.log
+  entry_is_new = subst (λ (task : Task). IsNewEntry task.key old.log) is.performed.task (new_entry basis is.sound is.performed)
+
+  pub ended_below : old.ended + 1 ≤ old.created
+  ended_below =
+      let some = some_there old.nodes (named basis is.sound is.performed).0 ended.there in
+      let created = is.sound.keys_and_counts.created in
+      omega (arith, some, created)
+
+  pub created_within : old.created ≤ old.limit
+  created_within = is.sound.keys_and_counts.within
+
+  module _ (id : NodeId) (found : option_map (λ (node : Node). node.id) (node_with_key old.nodes done.task.key) ≡ Some id) where
+    -- the node that has the key has the id
+    node_of_id : (node : Node) → node_with_key old.nodes done.task.key ≡ Some node → node_at old.nodes id ≡ Some node
+    node_of_id node has =
+        let same : node.id ≡ id = part_is (λ (node : Node). node.id) (node_with_key old.nodes done.task.key) id node found has in
+        let there = (basis.keys_find old.nodes done.task.key node has).0 in
+        ap (node_at old.nodes) (sym same) ∙ basis.have_ids old.nodes node is.sound.keys_and_counts.graph there
+
+    pub step_each : (before after : ℕ) → ((node : Node) → node_at old.nodes id ≡ Some node → after ≤ before + length (laters_of old.nodes node)) → IsOneStepEach old.nodes done.task.key before after
+    step_each before after each node has = each node (node_of_id node has)
+
+    module _ (cells : List (Cell V)) (fresh : List Fresh) (nodes : List Node) (log : List Entry) (created count : ℕ)
+        (cells_are : cells ≡ cells_given old.cells done.effect.bundle) (fresh_are : fresh ≡ fresh_from done.task.key 0 done.effect.children) (graph : IsGraph nodes)
+        (rewritten : (node : Node) → node_at old.nodes id ≡ Some node → IsRewritten old.nodes id (renewals app cells old.nodes node) fresh nodes)
+        (log_is : log ≡ with_entry done.task.key done.effect.text old.log)
+        (created_are : created ≡ old.created + length done.effect.children) (count_is : count ≡ old.ended + 1) where
+      abbrev now : Progress V
+      now = record old { cells = cells; nodes = nodes; log = log; created = created; ended = count }
+
+      pub is_finished : IsFinished app old done now
+      is_finished =
+          let node = (named basis is.sound is.performed).0 in
+          let same : node.id ≡ id = part_is (λ (node : Node). node.id) (node_with_key old.nodes done.task.key) id node found ended.found in
+          let one_more : count ≡ suc old.ended = omega (arith, count_is) in
+          record {
+            graph = graph;
+            node = node;
+            found = ended.found;
+            nodes =
+                subst (λ (id : NodeId). IsRewritten old.nodes id (renewals app (cells_given old.cells done.effect.bundle) old.nodes node) (fresh_from done.task.key 0 done.effect.children) nodes) (sym same)
+                (subst (λ (cells : List (Cell V)). IsRewritten old.nodes id (renewals app cells old.nodes node) (fresh_from done.task.key 0 done.effect.children) nodes) cells_are
+                (subst (λ (fresh : List Fresh). IsRewritten old.nodes id (renewals app cells old.nodes node) fresh nodes) fresh_are (rewritten node (node_of_id node ended.found))));
+            after =
+                ap (λ (cells : List (Cell V)). let next : Progress V = record old { cells = cells; nodes = nodes; log = log; created = created; ended = count } in next) cells_are
+                ∙ ap (λ (log : List Entry). let next : Progress V = record old { cells = cells_given old.cells done.effect.bundle; nodes = nodes; log = log; created = created; ended = count } in next) log_is
+                ∙ ap (λ (created : ℕ). let next : Progress V = record old { cells = cells_given old.cells done.effect.bundle; nodes = nodes; log = with_entry done.task.key done.effect.text old.log; created = created; ended = count } in next) created_are
+                ∙ ap (λ (count : ℕ). let next : Progress V = record old {
+                  cells = cells_given old.cells done.effect.bundle;
+                  nodes = nodes;
+                  log = with_entry done.task.key done.effect.text old.log;
+                  created = old.created + length done.effect.children;
+                  ended = count;
+                } in next) one_more;
+          }
+
+      module _ (keeps : FinishesKeepSound app) (within : created ≤ old.limit) where
+        not_over : ¬ IsOverLimit app old done
+        not_over over =
+            let is_over : old.limit < old.created + length done.effect.children = over in
+            omega (arith, is_over, created_are, within)
+
+        pub stays_sound : FinishStaysSound app old done now
+        stays_sound jobs others job values sound performed = keeps old now done job jobs others values sound performed not_over is_finished
+
+        pub stays_kept : old.limit ≤ most_tasks → IsKept app now
+        stays_kept limited = record {
+          jobs = is.others;
+          values = (app.act is.job.task is.values).cells;
+          sound = stays_sound is.jobs is.others is.job is.values is.sound is.performed;
+          limited = limited;
+        }

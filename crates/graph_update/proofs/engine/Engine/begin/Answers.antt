@@ -1,0 +1,40 @@
+use Rattle.std.proofs.Common.{◌≡◌, ◌≤◌, List, length, sym, ap, subst, ◌∙◌}
+use Rattle.task_order.specs.declared.start.Start.{Start}
+use Rattle.cell_store.specs.Values.{homes, values_of}
+use Rattle.graph_update.proofs.Begun.{begun, begun_kept, begun_sound}
+use Rattle.graph_update.proofs.engine.Engine.begin.Goals as goal
+
+pub first_graph-requires-clause-home : goal.first_graph-requires-clause-home
+first_graph-requires-clause-home g c κs within =
+    let values = ap values_of c.in_ok-store.ensures ∙ c.value_laws.ensures.values.values_of_homes c.args.cells.items in
+    c.in_ok-store.ensures ∙ ap homes (sym values)
+
+pub first_graph-requires-clause-fit_cells : goal.first_graph-requires-clause-fit_cells
+first_graph-requires-clause-fit_cells g c κs within =
+    let values = ap values_of c.in_ok-store.ensures ∙ c.value_laws.ensures.values.values_of_homes c.args.cells.items in
+    subst (g.A.App.meaning c.args.app.now).is_fit_cells (sym values) c.requires.fit_cells
+
+pub invariant_of-result : goal.invariant_of-result
+invariant_of-result g c =
+    let app = g.A.App.meaning c.args.app.now in
+    let values = ap values_of c.in_ok-store.ensures ∙ c.value_laws.ensures.values.values_of_homes c.args.cells.items in
+    let first = c.items-starts.ensures in
+    let few : length c.args.first ≤ c.args.budget = subst (λ (starts : List Start). length starts ≤ c.args.budget) first c.if-asked-budget.false in
+    begun_kept app c.args.cells.items _ c.args.first _ c.args.budget _ _ _ _ values first c.in_ok-store.ensures c.in_ok-graph.ensures.nodes c.new.ensures (ap length first)
+    (c.begin_laws.ensures.sound c.args.app.now) c.requires.fit_cells c.requires.fit_first few c.requires.budget
+
+pub returns-clause-begun : goal.returns-clause-begun
+returns-clause-begun g c =
+    let app = g.A.App.meaning c.args.app.now in
+    let values = ap values_of c.in_ok-store.ensures ∙ c.value_laws.ensures.values.values_of_homes c.args.cells.items in
+    let first = c.items-starts.ensures in
+    begun app c.args.cells.items _ c.args.first _ c.args.budget _ _ _ _ values first c.in_ok-store.ensures c.in_ok-graph.ensures.nodes c.new.ensures (ap length first)
+
+pub returns-clause-sound : goal.returns-clause-sound
+returns-clause-sound g c =
+    let app = g.A.App.meaning c.args.app.now in
+    let values = ap values_of c.in_ok-store.ensures ∙ c.value_laws.ensures.values.values_of_homes c.args.cells.items in
+    let first = c.items-starts.ensures in
+    let few : length c.args.first ≤ c.args.budget = subst (λ (starts : List Start). length starts ≤ c.args.budget) first c.if-asked-budget.false in
+    begun_sound app c.args.cells.items _ c.args.first _ c.args.budget _ _ _ _ values first c.in_ok-store.ensures c.in_ok-graph.ensures.nodes c.new.ensures (ap length first)
+    (c.begin_laws.ensures.sound c.args.app.now) c.requires.fit_cells c.requires.fit_first few

@@ -1,0 +1,114 @@
+-- What is kept of every engine, and what its calls find.
+use Rattle.std.specs.Prelude.{◌≡◌, ◌+◌, ◌<◌, ◌≤◌, ℕ, Bool, true, false, List, Contains, [], ◌∷◌, ◌%◌, length, slice_get, Option, Some, None, unwrap_or}
+use Rattle.std.specs.List.{AllByRecursion}
+use Rattle.std.specs.Option.{option_map}
+use Rattle.task_order.specs.declared.key.Key.{Key}
+use Rattle.task_order.specs.declared.start.Start.{Start}
+use Rattle.task_order.specs.TaskList.{put_all}
+use Rattle.kdg_graph.specs.declared.node_id.NodeId.{NodeId}
+use Rattle.kdg_graph.specs.Node.{Node}
+use Rattle.kdg_graph.specs.Edges.{laters_of}
+use Rattle.kdg_graph.specs.Nodes.{IsGraph, node_with_key, tasks_of}
+use Rattle.app_laws.specs.Applications.{Application, IsFitTask, IsTaken, set_in}
+use Rattle.app_laws.specs.Execution.{first_from}
+use Rattle.graph_update.specs.declared.answers.BeginFault.{BeginFault}
+use Rattle.graph_update.specs.declared.answers.BeginFault.TheVariants as fault
+use Rattle.graph_update.specs.declared.answers.Claim.{Claim}
+use Rattle.graph_update.specs.declared.answers.Claim.TheVariants as claim
+use Rattle.graph_update.specs.declared.job.Done.{Done}
+use Rattle.graph_update.specs.declared.job.Job.{Job}
+use Rattle.graph_update.specs.Events.{clear_nodes}
+use Rattle.graph_update.specs.Laws.{IsPerformed}
+use Rattle.graph_update.specs.Progress.{Progress}
+use Rattle.graph_update.specs.Sound.{IsSound}
+
+-- the greatest number of tasks that an execution may be allowed
+abbrev pub most_tasks : ℕ
+most_tasks = 1_000_000_000
+
+-- some node is running
+pub record SomeRuns (nodes : List Node) : Type 0 where
+  pub node : Node
+  pub there : Contains nodes node
+  pub running : node.running ≡ true
+
+-- whether the node of a key is running, where there is one
+abbrev pub runs_with_key : List Node → Key → Bool
+runs_with_key nodes key = unwrap_or (option_map (λ node. node.running) (node_with_key nodes key)) false
+
+-- at most one step for each of the later nodes whose recorded sets conflict with that of the node of a key
+abbrev pub IsOneStepEach : List Node → Key → ℕ → ℕ → Type 0
+IsOneStepEach nodes key before after = (node : Node) → node_with_key nodes key ≡ Some node → after ≤ before + length (laters_of nodes node)
+
+-- an execution did not begin: there are more first tasks than allowed, or else no memory was to be had
+abbrev pub IsBeginFault : List Start → ℕ → BeginFault → Type 0
+IsBeginFault first budget (fault.Budget asked limit) = (asked ≡ length first) × (limit ≡ budget) × (budget < length first)
+IsBeginFault first budget fault.NoRoom = length first ≤ budget
+
+-- the jobs in hand after a claim
+abbrev pub jobs_after : {V : Type 0} → Claim V → List (Job V) → List (Job V)
+jobs_after (claim.Job job) jobs = job ∷ jobs
+jobs_after answer jobs = jobs
+
+-- that no node is clear is answered only where some node is running
+abbrev pub SomeRunsWhereNotYet : {V : Type 0} → List Node → Claim V → Type 0
+SomeRunsWhereNotYet nodes claim.NotYet = SomeRuns nodes
+SomeRunsWhereNotYet nodes answer = Unit {0}
+
+module _ {V : Type 0} (app : Application V) where
+  -- the first tasks as nodes of a graph, with the sets that they declare in the cells, none of them running
+  pub record AreFirstNodes (cells : List V) (first : List Start) (nodes : List Node) : Type 0 where
+    pub graph : IsGraph nodes
+    pub tasks : tasks_of nodes ≡ put_all (first_from 0 first) []
+    pub sets : AllByRecursion (λ node. node.set ≡ set_in app cells node.task) nodes
+    pub none_runs : AllByRecursion (λ node. node.running ≡ false) nodes
+
+  -- the id is that of the clear node at the remainder of a pick, in key order
+  pub record IsPicked (nodes : List Node) (pick : ℕ) (id : NodeId) : Type 0 where
+    pub node : Node
+    pub chosen : slice_get (clear_nodes app nodes) (pick % length (clear_nodes app nodes)) ≡ Some node
+    pub id_is : node.id ≡ id
+
+  -- none is found where no node is clear
+  abbrev pub IsPick : List Node → ℕ → Option NodeId → Type 0
+  IsPick nodes pick None = clear_nodes app nodes ≡ []
+  IsPick nodes pick (Some id) = IsPicked nodes pick id
+
+  -- an execution that is sound with some jobs and some whole cells, and within what may be allowed
+  pub record IsKept (progress : Progress V) : Type 0 where
+    pub jobs : List (Job V)
+    pub values : List V
+    pub sound : IsSound app progress jobs values
+    pub limited : progress.limit ≤ most_tasks
+
+  -- whatever the jobs and the whole cells are with which an execution is sound, it is sound with them after a change that leaves both alone
+  abbrev pub StaysSound : Progress V → Progress V → Type 0
+  StaysSound old now = (jobs : List (Job V)) (values : List V) → IsSound app old jobs values → IsSound app now jobs values
+
+  -- it is sound with the jobs after a claim
+  abbrev pub ClaimStaysSound : Progress V → Progress V → Claim V → Type 0
+  ClaimStaysSound old now answer = (jobs : List (Job V)) (values : List V) → IsSound app old jobs values → IsSound app now (jobs_after answer jobs) values
+
+  -- a job has a task of the application, and what that task takes of cells of it
+  pub record MayRun (job : Job V) : Type 0 where
+    pub fit : IsFitTask app job.task
+    pub taken : IsTaken app job.task job.bundle
+
+  -- what is claimed may be performed
+  abbrev pub IsToRun : Claim V → Type 0
+  IsToRun (claim.Job job) = MayRun job
+  IsToRun answer = Unit {0}
+
+  -- the task is that of one of the jobs of a sound execution, with the effect of its operator on the job's bundle
+  pub record IsDone (progress : Progress V) (done : Done V) : Type 0 where
+    pub jobs : List (Job V)
+    pub values : List V
+    pub sound : IsSound app progress jobs values
+    pub job : Job V
+    pub others : List (Job V)
+    pub performed : IsPerformed app jobs done job others
+
+  -- where it was sound with some jobs, of which this one is done, it is sound with the others
+  abbrev pub FinishStaysSound : Progress V → Done V → Progress V → Type 0
+  FinishStaysSound old done now = (jobs others : List (Job V)) (job : Job V) (values : List V) →
+      IsSound app old jobs values → IsPerformed app jobs done job others → IsSound app now others (app.act job.task values).cells

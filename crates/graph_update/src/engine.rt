@@ -1,0 +1,192 @@
+ghost use Rattle.std.specs.Prelude.{◌≡◌, ◌≢◌, ◌+◌, ◌<◌, ◌≤◌, ◌^◌, ℕ, List, [], length, Some, None, IfOk, IfErr, OnOk, OnErr};
+ghost use Rattle.cell_store.specs.Values.{homes};
+ghost use Rattle.output_log.specs.Entries.{joined_texts};
+ghost use Rattle.app_laws.specs.Applications.{AreFitStarts};
+ghost use Rattle.graph_update.specs.declared.answers.OverCause.TheVariants as cause;
+ghost use Rattle.graph_update.specs.Answers.{IsBegun, counts_of};
+ghost use Rattle.graph_update.specs.Engine.{IsBeginFault, IsKept, StaysSound};
+ghost use Rattle.graph_update.specs.Events.{drainable, drained, marked};
+ghost use Rattle.graph_update.specs.Sound.{IsSound};
+
+use crate::beginning::{first_graph, home_store};
+use crate::counting::running_count;
+use crate::laws::{basis, begin_laws, drain_laws};
+use crate::{BeginFault, Counts, OverCause};
+use app_laws::{App, Finals};
+use cell_store::{Store, value_laws};
+use kdg_graph::Graph;
+use kdg_text::{NoRoom, Steps, Text};
+use output_log::Log;
+use std::alloc::Global;
+use std::marker::Model;
+use std::sync::ledger::Ledger;
+use task_order::StartList;
+
+/// An execution of an ordered application: its cells, its pending tasks as nodes of a graph, what
+/// has been logged and not yet drained, and how many tasks there were and may be.
+///
+/// A task is claimed, performed elsewhere, and finished, and other tasks are claimed and finished
+/// meanwhile, in any order.
+#[derive(Drop)]
+pub struct Engine<'a, A: App> {
+    pub(crate) alloc: Global,
+    pub(crate) app: &'a A,
+    pub(crate) store: Store<A::Val>,
+    pub(crate) graph: Graph,
+    pub(crate) log: Log,
+    pub(crate) created: u64,
+    pub(crate) ended: u64,
+    pub(crate) limit: u64,
+    pub(crate) over: Option<OverCause>,
+}
+
+impl<'a, A: App> Model for Engine<'a, A> {
+    ghost use Rattle.graph_update.specs.Engine.{IsKept};
+    ghost use Rattle.graph_update.specs.Progress.{EngineState};
+
+    ghost Value = { EngineState A A.Val };
+
+    ghost view = { λ e. record {
+      app = e.app.now;
+      progress = record {
+        cells = e.store;
+        nodes = e.graph;
+        log = e.log.entries;
+        created = e.created;
+        ended = e.ended;
+        limit = e.limit;
+        over = e.over;
+      };
+    } };
+
+    ghost invariant = { λ e. IsKept (A.meaning e.app.now) (record {
+      cells = e.store;
+      nodes = e.graph;
+      log = e.log.entries;
+      created = e.created;
+      ended = e.ended;
+      limit = e.limit;
+      over = e.over;
+    }) };
+}
+
+impl<'a, A: App> Engine<'a, A> {
+    /// The first tasks, none of which is running, on these cells. At most `budget` tasks may be
+    /// created, the first ones included. What was handed in is dropped after a fault.
+    ///
+    /// That the budget is too small is found out first, without taking memory. Each first task's
+    /// set is asked for once.
+    pub fn begin<L: Ledger>(
+        alloc: Global,
+        app: &'a A,
+        cells: Vec<A::Val>,
+        first: StartList,
+        budget: u64,
+        steps: &mut Steps<L>,
+    ) -> Result<Engine<'a, A>, BeginFault>
+        requires fit_cells { (A.meaning app.now).is_fit_cells cells.items }
+        requires fit_first { AreFitStarts (A.meaning app.now) first }
+        requires few { length first < 2 ^ 32 }
+        requires budget { budget ≤ 1_000_000_000 }
+        ensures begun { IfOk result (λ engine. IsBegun (A.meaning app.now) cells.items first budget engine.progress) }
+        ensures app { IfOk result (λ engine. engine.app ≡ app.now) }
+        ensures within { OnOk result (length first ≤ budget) }
+        ensures sound { IfOk result (λ engine. IsSound (A.meaning app.now) engine.progress [] cells.items) }
+        ensures fault { IfErr result (IsBeginFault first budget) }
+        ensures steps { steps.new ≤ steps.old + length first }
+    {
+        begin_laws::<A>();
+        value_laws::<A::Val>();
+        let starts = first.items();
+        let asked = starts.len() as u64;
+        if asked > budget {
+            return Err(BeginFault::Budget {
+                asked,
+                limit: budget,
+            });
+        }
+        let store = home_store(alloc, app, cells)?;
+        let graph = first_graph(alloc, app, starts, &store, steps)?;
+        Ok(Engine {
+            alloc,
+            app,
+            store,
+            graph,
+            log: Log::new(alloc),
+            created: asked,
+            ended: 0,
+            limit: budget,
+            over: None,
+        })
+    }
+
+    /// The application.
+    pub fn app(&self) -> &'a A
+        ensures { result.now ≡ self.now.app }
+    {
+        self.app
+    }
+
+    /// The pending tasks, which are the nodes of a graph.
+    pub fn graph(&self) -> &Graph
+        ensures nodes { result.now ≡ self.now.progress.nodes }
+        ensures kept { IsKept (A.meaning self.now.app) self.now.progress }
+    {
+        &self.graph
+    }
+
+    /// How many tasks were created, have ended, are pending, and are running. This goes over the
+    /// pending ones.
+    pub fn counts(&self) -> Counts
+        ensures counts { result ≡ counts_of self.now.progress }
+        ensures kept { IsKept (A.meaning self.now.app) self.now.progress }
+    {
+        Counts {
+            created: self.created,
+            ended: self.ended,
+            nodes: self.graph.tasks().len() as u64,
+            running: running_count(&self.graph),
+        }
+    }
+
+    /// Nothing more is to be claimed, for want of memory, unless a mark stands that says why.
+    pub fn give_up(&mut self)
+        ensures marked { self.new ≡ record self.old { progress = marked (A.meaning self.old.app) self.old.progress cause.NoRoom } }
+        ensures sound { StaysSound (A.meaning self.old.app) self.old.progress self.new.progress }
+    {
+        if self.over.is_none() {
+            self.over = Some(OverCause::NoRoom);
+        }
+    }
+
+    /// Takes the texts of the ended tasks that are earlier than every pending one out of the log,
+    /// in the order of the tasks. After `NoRoom` all is as it was.
+    pub fn drain(&mut self) -> Result<Text, NoRoom>
+        ensures text { IfOk result (λ text. text ≡ joined_texts (drainable (A.meaning self.old.app) self.old.progress.nodes self.old.progress.log)) }
+        ensures ok { OnOk result (self.new ≡ record self.old { progress = drained (A.meaning self.old.app) self.old.progress }) }
+        ensures unchanged { OnErr result (self.new ≡ self.old) }
+        ensures sound { StaysSound (A.meaning self.old.app) self.old.progress self.new.progress }
+    {
+        drain_laws::<A>();
+        match self.graph.least() {
+            Some(least) => self.log.take_below(&self.graph.task(least).key),
+            None => self.log.take_all(),
+        }
+    }
+
+    /// The cells, all of them home, what was logged and not drained, and how many tasks have ended.
+    pub fn end(self) -> Finals<A::Val>
+        requires { self.progress.nodes ≡ [] }
+        ensures store { result.store ≡ self.entry.progress.cells }
+        ensures log { result.log.entries ≡ self.entry.progress.log }
+        ensures count { result.count ≡ self.entry.progress.ended }
+        ensures whole { (values : List A.Val) × IsSound (A.meaning self.entry.app) self.entry.progress [] values × (result.store ≡ homes values) }
+    {
+        basis::<A>();
+        Finals {
+            store: self.store,
+            log: self.log,
+            count: self.ended,
+        }
+    }
+}

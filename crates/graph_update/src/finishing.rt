@@ -1,0 +1,113 @@
+//! How a task ends.
+
+ghost use Rattle.std.specs.Prelude.{◌≡◌, ◌+◌, ◌≤◌, length, IfErr, OnOk, OnErr};
+ghost use Rattle.graph_update.specs.Answers.{IsFinishRefusal};
+ghost use Rattle.graph_update.specs.Engine.{FinishStaysSound, IsDone, IsOneStepEach, StaysSound};
+ghost use Rattle.graph_update.specs.Events.{IsFinished, IsOverLimit};
+
+use crate::finish_laws::{basis, sound_finish_laws};
+use crate::laws::drain_laws;
+use crate::rewriting::{end_node, fresh_tasks};
+use crate::{Done, Engine, FinishFault, OverCause};
+use app_laws::{App, Effect};
+use kdg_text::Steps;
+use std::sync::ledger::Ledger;
+
+impl<'a, A: App> Engine<'a, A> {
+    /// Ends a task that was performed.
+    ///
+    /// That its children are more than may be created is found out first, without taking memory.
+    /// Then all memory is taken before anything changes that stays: after `NoRoom` all is as it was,
+    /// and the same task may be finished again. Each later node in conflict with the ended one is
+    /// asked for its set at most once.
+    pub fn finish<L: Ledger>(
+        &mut self,
+        done: Done<A::Val>,
+        steps: &mut Steps<L>,
+    ) -> Result<(), FinishFault<A::Val>>
+        requires { IsDone (A.meaning self.old.app) self.old.progress done }
+        ensures app { self.new.app ≡ self.old.app }
+        ensures finished { OnOk result (IsFinished (A.meaning self.old.app) self.old.progress done self.new.progress) }
+        ensures within { OnOk result (¬ IsOverLimit (A.meaning self.old.app) self.old.progress done) }
+        ensures sound { OnOk result (FinishStaysSound (A.meaning self.old.app) self.old.progress done self.new.progress) }
+        ensures refused { IfErr result (IsFinishRefusal (A.meaning self.old.app) self.old.progress done self.new.progress) }
+        ensures refused_sound { OnErr result (StaysSound (A.meaning self.old.app) self.old.progress self.new.progress) }
+        ensures steps { IsOneStepEach self.old.progress.nodes done.task.key steps.old steps.new }
+    {
+        drain_laws::<A>();
+        let (created, limit) = (
+            self.created + done.effect.children.items().len() as u64,
+            self.limit,
+        );
+        if created > limit {
+            self.over = self.over.or(Some(OverCause::Budget { created, limit }));
+            return Err(FinishFault::Budget {
+                done,
+                created,
+                limit,
+            });
+        }
+        match self.end_task(done, created, steps) {
+            Ok(()) => Ok(()),
+            Err(done) => Err(FinishFault::NoRoom { done }),
+        }
+    }
+
+    /// Ends a task whose children are no more than may be created. Where memory runs out, it comes
+    /// back and all is as it was.
+    ///
+    /// The new values are home while sets are asked for. They are taken out again where the graph
+    /// finds no memory.
+    fn end_task<L: Ledger>(
+        &mut self,
+        done: Done<A::Val>,
+        created: u64,
+        steps: &mut Steps<L>,
+    ) -> Result<(), Done<A::Val>>
+        requires done { IsDone (A.meaning self.old.app) self.old.progress done }
+        requires created { created ≡ self.old.progress.created + length done.effect.children }
+        requires within { created ≤ self.old.progress.limit }
+        ensures app { self.new.app ≡ self.old.app }
+        ensures finished { OnOk result (IsFinished (A.meaning self.old.app) self.old.progress done self.new.progress) }
+        ensures sound { OnOk result (FinishStaysSound (A.meaning self.old.app) self.old.progress done self.new.progress) }
+        ensures returned { IfErr result (λ back. back ≡ done) }
+        ensures unchanged { OnErr result (self.new ≡ self.old) }
+        ensures steps { IsOneStepEach self.old.progress.nodes done.task.key steps.old steps.new }
+    {
+        basis::<A>();
+        sound_finish_laws::<A>();
+        let Ok(()) = self.log.reserve(1) else {
+            return Err(done);
+        };
+        let children = done.effect.children.items();
+        let Ok(fresh) = fresh_tasks(self.alloc, &done.task.key, children) else {
+            return Err(done);
+        };
+        let Some(ended) = self.graph.find(&done.task.key) else {
+            unreachable!();
+        };
+        let Done { task, effect } = done;
+        let shell = self.store.give(effect.bundle);
+        match end_node(
+            self.alloc,
+            self.app,
+            &mut self.graph,
+            &self.store,
+            ended,
+            fresh,
+            steps,
+        ) {
+            Ok(()) => {
+                self.log.put(task.key, effect.text);
+                self.created = created;
+                self.ended += 1;
+                Ok(())
+            }
+            Err(_) => {
+                let bundle = self.store.regain(shell);
+                let effect = Effect { bundle, ..effect };
+                Err(Done { task, effect })
+            }
+        }
+    }
+}

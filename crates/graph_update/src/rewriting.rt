@@ -1,0 +1,125 @@
+//! What the end of a task makes of the graph: its children are fresh tasks, and the later nodes in
+//! its way get new sets.
+
+ghost use Rattle.std.specs.Prelude.{◌≡◌, ◌+◌, ◌<◌, ◌≤◌, ◌^◌, List, Some, length, IfOk, OnOk, OnErr};
+ghost use Rattle.std.specs.List.{AllByRecursion};
+ghost use Rattle.kdg_graph.specs.Node.{Node};
+ghost use Rattle.kdg_graph.specs.Nodes.{HasNode, IsGraph, node_at, tasks_of};
+ghost use Rattle.kdg_graph.specs.Edges.{laters_of};
+ghost use Rattle.kdg_graph.specs.Rewrite.{HaveNewKeys, IsRewritten};
+ghost use Rattle.app_laws.specs.Applications.{AgreesWith, AreFitTasks};
+ghost use Rattle.graph_update.specs.Events.{fresh_from, renewals, renewed};
+
+use app_laws::{App, Child, SetAnswer};
+use cell_store::Store;
+use kdg_graph::{Fresh, Graph, NodeId, SetChange, later_laws, node_laws};
+use kdg_text::{NoRoom, Steps};
+use rw_sets::RwSet;
+use std::alloc::Global;
+use std::sync::ledger::Ledger;
+use task_order::{Key, Task};
+
+/// Takes the node of a task that has ended out of the graph, gives new sets to the later nodes that
+/// its recorded set conflicts with, over the cells after it, and puts the fresh tasks in. After
+/// `NoRoom` the graph is as it was. Each of these later nodes takes one step at most.
+pub(crate) fn end_node<A: App, L: Ledger>(
+    alloc: Global,
+    app: &A,
+    graph: &mut Graph,
+    store: &Store<A::Val>,
+    ended: NodeId,
+    fresh: Vec<Fresh>,
+    steps: &mut Steps<L>,
+) -> Result<(), NoRoom>
+    requires there { HasNode graph.old ended }
+    requires tasks { AreFitTasks (A.meaning app.now) (tasks_of graph.old) }
+    requires cells { (values : List A.Val) × (A.meaning app.now).is_fit_cells values × AgreesWith store.now values }
+    requires new { HaveNewKeys (tasks_of graph.old) fresh.items }
+    ensures ok { OnOk result ((node : Node) → node_at graph.old ended ≡ Some node →
+        IsRewritten graph.old ended (renewals (A.meaning app.now) store.now graph.old node) fresh.items graph.new) }
+    ensures graph { IsGraph graph.new }
+    ensures unchanged { OnErr result (graph.new ≡ graph.old) }
+    ensures steps { (node : Node) → node_at graph.old ended ≡ Some node →
+        steps.new ≤ steps.old + length (laters_of graph.old node) }
+{
+    later_laws();
+    let changes = renewals(alloc, app, graph, store, ended, steps)?;
+    let Ok(()) = graph.rewrite(ended, changes, fresh) else {
+        return Err(NoRoom);
+    };
+    Ok(())
+}
+
+/// The children of a task as fresh tasks, with their keys and copies of their sets.
+pub(crate) fn fresh_tasks(
+    alloc: Global,
+    parent: &Key,
+    children: &[Child],
+) -> Result<Vec<Fresh>, NoRoom>
+    requires few { length children.now < 2 ^ 32 }
+    requires not_earlier { AllByRecursion (λ child. parent.now.prio ≤ child.prio) children.now }
+    ensures { IfOk result (λ fresh. fresh.items ≡ fresh_from parent.now 0 children.now) }
+{
+    let mut fresh = Vec::new(alloc);
+    for (number, child) in children.iter().enumerate() {
+        let task = Task {
+            key: parent.child(number as u32, child.prio)?,
+            body: child.body,
+        };
+        let set = child.set.copy()?;
+        fresh.push(Fresh { task, set })?;
+    }
+    Ok(fresh)
+}
+
+/// The new recorded sets of the later nodes whose recorded sets conflict with that of a node that
+/// ends, over the cells after it. Each such node takes one step.
+fn renewals<A: App, L: Ledger>(
+    alloc: Global,
+    app: &A,
+    graph: &Graph,
+    store: &Store<A::Val>,
+    ended: NodeId,
+    steps: &mut Steps<L>,
+) -> Result<Vec<SetChange>, NoRoom>
+    requires there { HasNode graph.now ended }
+    requires tasks { AreFitTasks (A.meaning app.now) (tasks_of graph.now) }
+    requires cells { (values : List A.Val) × (A.meaning app.now).is_fit_cells values × AgreesWith store.now values }
+    ensures changes { IfOk result (λ changes. (node : Node) → node_at graph.now ended ≡ Some node →
+        changes.items ≡ renewals (A.meaning app.now) store.now graph.now node) }
+    ensures graph { IsGraph graph.now }
+    ensures steps { (node : Node) → node_at graph.now ended ≡ Some node →
+        steps.new ≤ steps.old + length (laters_of graph.now node) }
+{
+    node_laws();
+    let mut changes = Vec::new(alloc);
+    for node in graph.later_of(ended) {
+        let set = renewed(app, graph, store, ended, node, steps)?;
+        changes.push(SetChange { node, set })?;
+    }
+    Ok(changes)
+}
+
+/// The new recorded set of one of them, in one step.
+fn renewed<A: App, L: Ledger>(
+    app: &A,
+    graph: &Graph,
+    store: &Store<A::Val>,
+    ended: NodeId,
+    later: NodeId,
+    steps: &mut Steps<L>,
+) -> Result<RwSet, NoRoom>
+    requires ended { HasNode graph.now ended }
+    requires later { HasNode graph.now later }
+    requires tasks { AreFitTasks (A.meaning app.now) (tasks_of graph.now) }
+    requires cells { (values : List A.Val) × (A.meaning app.now).is_fit_cells values × AgreesWith store.now values }
+    ensures set { IfOk result (λ set. (node other : Node) → node_at graph.now ended ≡ Some node → node_at graph.now later ≡ Some other →
+        set ≡ renewed (A.meaning app.now) node.set other.set ((A.meaning app.now).walk other.task.body store.now)) }
+    ensures step { steps.new ≡ steps.old + 1 }
+{
+    node_laws();
+    match app.sets(&graph.task(later).body, store, steps)? {
+        SetAnswer::Known(set) => Ok(set),
+        SetAnswer::Out(_) => graph.set(later).merge(graph.set(ended)),
+    }
+}
