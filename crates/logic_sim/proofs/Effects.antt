@@ -5,14 +5,13 @@ use Rattle.std.specs.List.{AllByRecursion}
 use Rattle.std.proofs.lemmas.Bool.{eq-eqb, ne_eqb}
 use Rattle.bench_reader.specs.declared.deck.Form.{Form}
 use Rattle.bench_reader.specs.declared.deck.Form.TheVariants.{Input, Gate}
-use Rattle.bench_reader.specs.Decks.{IsSoundlyWired}
 use Rattle.bench_reader.specs.declared.deck.Signal.{Signal}
 use Rattle.task_order.specs.declared.start.Start.{Start}
 use Rattle.task_order.specs.declared.task.Task.{Task}
 use Rattle.rw_sets.specs.Accesses.{Accesses, IsAscending, access_at}
 use Rattle.cell_store.specs.declared.cell.Cell.TheVariants.{Home}
 use Rattle.cell_store.specs.Part.{Part}
-use Rattle.cell_store.specs.Cells.{cell_at, cell_in, part_of, with_value}
+use Rattle.cell_store.specs.Cells.{cell_in, part_of, with_value}
 use Rattle.cell_store.specs.Values.{homes}
 use Rattle.cell_store.specs.Laws.{PartsByLocation, HomesByLocation}
 use Rattle.app_laws.specs.declared.app.Effect.{Effect}

@@ -1,4 +1,5 @@
 pub mod Changes
+pub mod Counts
 pub mod Effects
 pub mod Ranges
 pub mod Readers

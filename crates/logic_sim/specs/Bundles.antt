@@ -1,5 +1,5 @@
 -- What events find in their bundles, and what they make of them.
-use Rattle.std.specs.Prelude.{◌≡◌, ℕ, ◌^◌, ◌<◌, List, [], ◌∷◌, length, map, IsSome}
+use Rattle.std.specs.Prelude.{◌≡◌, ℕ, ◌^◌, ◌<◌, List, [], map, IsSome}
 use Rattle.bench_reader.specs.declared.deck.Form.{Form}
 use Rattle.bench_reader.specs.declared.deck.Form.TheVariants.{Input, Gate}
 use Rattle.task_order.specs.declared.start.Start.{Start}

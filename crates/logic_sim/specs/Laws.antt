@@ -112,7 +112,7 @@ stimulus_few : (until : ℕ) (inputs : List ℕ) (stimulus : Stim) → length (c
 stimulus_few until inputs stimulus =
     either (λ (starts : List Start). length starts ≤ length inputs) (nat_le stimulus.time until) (changes_at stimulus.time inputs stimulus.bits) [] (changes_few stimulus.time inputs stimulus.bits) (omega arith)
 
-length-changes_of : (until : ℕ) (inputs : List ℕ) (stimuli : List Stim) → length (changes_of until inputs stimuli) ≤ length stimuli * length inputs
+pub length-changes_of : (until : ℕ) (inputs : List ℕ) (stimuli : List Stim) → length (changes_of until inputs stimuli) ≤ length stimuli * length inputs
 length-changes_of until inputs [] = omega arith
 length-changes_of until inputs (stimulus ∷ stimuli) =
     let here = stimulus_few until inputs stimulus in

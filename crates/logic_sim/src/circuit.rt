@@ -4,7 +4,7 @@ ghost use Rattle.cell_store.specs.Values.{AreAllHome, values_of};
 ghost use Rattle.app_laws.specs.Laws.{AllFit};
 ghost use Rattle.logic_sim.specs.Circuit.{IsFitCells, IsFitTask, finals_of, latest, start_cells, start_tasks};
 
-use crate::event::{first_evals, push_final, push_stimuli};
+use crate::event::{change_count, first_evals, push_final, push_stimuli};
 use crate::tables::{evaluation_sets, input_numbers, output_marks, reader_lists};
 use bench_reader::Deck;
 use cell_store::{Seen, Store, value_laws};
@@ -73,6 +73,16 @@ impl Circuit {
         ensures fit { IfOk result (λ cells. IsFitCells self.now cells.items) }
     {
         Ok(vec![in self.alloc; 0; 2 * self.deck.signals.items().len()]?)
+    }
+
+    /// How many first tasks there are, which is told without making them.
+    pub fn first_task_count(&self) -> u64
+        ensures { result ≡ length (start_tasks self.now) }
+    {
+        let inputs = self.inputs.items();
+        let gates = self.deck.signals.items().len() - inputs.len();
+        let changes = change_count(self.until, inputs, self.deck.stimuli.items());
+        (gates + changes) as u64
     }
 
     /// The first tasks: each gate is evaluated at time 0, and each primary input takes the values of

@@ -90,6 +90,21 @@ fn push_stimulus(
     push_changes(made, stimulus.time, inputs, stimulus.bits.items())
 }
 
+/// How many changes the stimuli bring to these inputs, unless they come later than `until`.
+pub(crate) fn change_count(until: u64, inputs: &[u32], stimuli: &[Stim]) -> usize
+    requires inputs { length inputs.now ≤ 4096 }
+    requires stimuli { length stimuli.now ≤ 65536 }
+    ensures { result ≡ length (changes_of until inputs.now stimuli.now) }
+{
+    let mut count = 0;
+    for stimulus in stimuli {
+        if stimulus.time <= until {
+            count += inputs.len().min(stimulus.bits.items().len());
+        }
+    }
+    count
+}
+
 /// Each input takes its value at that time.
 fn push_changes(
     made: &mut StartList,

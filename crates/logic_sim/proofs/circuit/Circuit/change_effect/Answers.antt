@@ -1,4 +1,4 @@
-use Rattle.std.proofs.Common.{◌≡◌, ◌*◌, sym, subst}
+use Rattle.std.proofs.Common.{◌*◌, sym, subst}
 use Rattle.std.specs.Prelude.{IsSome, IsTrue}
 use Rattle.rw_sets.specs.Accesses.{Accesses, access_at, writes}
 use Rattle.logic_sim.specs.Bundles.{IsEffectOn}

@@ -1,7 +1,6 @@
-use Rattle.std.proofs.Common.{◌≡◌, ◌∙◌, ◌+◌, ◌*◌, List, ap, sym, subst}
+use Rattle.std.proofs.Common.{◌≡◌, ◌∙◌, ◌+◌, ◌*◌, ap, sym, subst}
 use Rattle.std.specs.Prelude.{IsSome, IsTrue}
 use Rattle.bench_reader.specs.Decks.{IsSoundlyWired}
-use Rattle.bench_reader.specs.declared.deck.Signal.{Signal}
 use Rattle.rw_sets.specs.Accesses.{Accesses, access_at, writes}
 use Rattle.logic_sim.specs.Bundles.{IsEffectOn}
 use Rattle.logic_sim.specs.Event.{Simulation, eval_of}

@@ -1,4 +1,4 @@
-use Rattle.std.proofs.Common.{◌≡◌, ◌∙◌, ◌<◌, length, IfOk, ap, sym, subst, arith}
+use Rattle.std.proofs.Common.{◌≡◌, ◌∙◌, ◌<◌, length, IfOk, ap, subst, arith}
 use Rattle.rw_sets.specs.Accesses.{Accesses}
 use Rattle.logic_sim.specs.Event.{Simulation}
 use Rattle.logic_sim.specs.Meaning.{eval_set}
