@@ -1,3 +1,6 @@
 pub mod Words
 pub mod Reading
 pub mod Sound
+pub mod Wide
+pub mod Steps
+pub mod Held

@@ -3,3 +3,8 @@ pub mod LineForms
 pub mod Files
 pub mod Grammar
 pub mod Drafts
+pub mod Motion
+pub mod Meaning
+pub mod Bounds
+pub mod Ends
+pub mod Lawful

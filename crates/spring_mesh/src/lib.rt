@@ -5,10 +5,13 @@
 mod draft;
 mod faults;
 mod file;
+mod mesh;
+mod motion;
 mod reader;
 mod statement;
 
 pub use file::{MassList, MeshFile, MeshNode, MeshNodeList, Spring, SpringList};
+pub use mesh::Mesh;
 pub use reader::read_mesh;
 
 #[cfg(test)]
