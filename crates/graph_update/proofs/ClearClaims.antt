@@ -18,8 +18,9 @@ use Rattle.graph_update.specs.Basis.{Basis}
 use Rattle.graph_update.specs.declared.job.Job.{Job}
 use Rattle.graph_update.specs.Engine.{IsKept, IsPick, IsPicked, MayRun, SomeRuns}
 use Rattle.graph_update.specs.Events.{IsClaimed, clear_nodes, is_clear}
+use Rattle.graph_update.specs.Jobs.{JobsMayRun}
 use Rattle.graph_update.specs.Progress.{Progress}
-use Rattle.graph_update.specs.Sound.{Covers, IsSound}
+use Rattle.graph_update.specs.Sound.{Covers, IsOfNode, IsSound}
 use Rattle.graph_update.proofs.Claims.{claims_keep_sound, found_is_there, is_home}
 use Rattle.graph_update.proofs.ClearNodes.{some_is_clear}
 use Rattle.graph_update.proofs.Ending.{no_jobs}
@@ -58,10 +59,11 @@ module _ {V : Type 0} {app : Application V} (basis : Basis app) where
     pub picked_home : (set : Accesses) → set_at old.nodes id ≡ Some set → AreHome old.cells set
     picked_home set found = subst (AreHome old.cells) (picked_set set found) (is_home basis old jobs values picked.node sound there.0 there.1)
 
-  -- the first of the jobs of a sound execution may run
-  pub job_may_run : (progress : Progress V) (job : Job V) (jobs : List (Job V)) (values : List V) → IsSound app progress (job ∷ jobs) values → MayRun app job
-  job_may_run progress job jobs values sound =
-      let found = sound.outs_match.named.0 in
+  -- each of the jobs of a sound execution may run
+  pub jobs_may_run : JobsMayRun app
+  jobs_may_run progress jobs values job sound has =
+      let found = all_at (IsOfNode app progress.nodes) jobs job sound.outs_match.named has in
+      let bundle = all_at (λ (one : Job V). one.bundle ≡ part_of (homes values) one.bundle.set) jobs job sound.whole.bundles has in
       let node = found.0 in
       let there = (basis.lower.keys_find progress.nodes job.task.key node found.1).0 in
       let covers = all_at (Covers app progress.cells values) progress.nodes node sound.recorded_covers there in
@@ -69,7 +71,7 @@ module _ {V : Type 0} {app : Application V} (basis : Basis app) where
       let set : job.bundle.set ≡ set_in app values job.task = sym found.2.set ∙ covers.running found.2.running ∙ ap (set_in app values) found.2.task in
       record {
         fit = subst (IsFitTask app) found.2.task fit;
-        taken = record { cells = values; fit = sound.ready.cells; is = sound.whole.bundles.0 ∙ ap (part_of (homes values)) set };
+        taken = record { cells = values; fit = sound.ready.cells; is = bundle ∙ ap (part_of (homes values)) set };
       }
 
   module _ (old : Progress V) (kept : IsKept app old) (pick : ℕ) (id : NodeId) (picked : IsPicked app old.nodes pick id)
@@ -104,7 +106,7 @@ module _ {V : Type 0} {app : Application V} (basis : Basis app) where
     kept_after = record { jobs = job ∷ kept.jobs; values = kept.values; sound = sound_after kept.jobs kept.values kept.sound; limited = kept.limited }
 
     pub may_run : MayRun app job
-    may_run = job_may_run now job kept.jobs kept.values (sound_after kept.jobs kept.values kept.sound)
+    may_run = jobs_may_run now (job ∷ kept.jobs) kept.values job (sound_after kept.jobs kept.values kept.sound) (here job kept.jobs)
 
   -- where no node is clear, although nodes are there, some node is running
   pub some_runs : (progress : Progress V) (jobs : List (Job V)) (values : List V) → IsSound app progress jobs values → progress.nodes ≢ [] → clear_nodes app progress.nodes ≡ [] → SomeRuns progress.nodes

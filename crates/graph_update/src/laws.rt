@@ -1,4 +1,5 @@
 ghost use Rattle.graph_update.specs.Basis.{CellLaws, LowerLaws, Basis};
+ghost use Rattle.graph_update.specs.Jobs.{JobsMayRun};
 ghost use Rattle.graph_update.specs.Laws.{BeginningsAreSound, ClaimsKeepSound, EventsKeepSound, MarksAndDrainsKeepSound, RecordedSetsSuffice, SomeIsClear, WholeIsOne};
 
 use crate::finish_laws::sound_finish_laws;
@@ -76,6 +77,13 @@ pub fn begin_laws<A: App>()
 /// same.
 pub fn claim_laws<A: App>()
     ensures sound { (app : A) → ClaimsKeepSound (A.meaning app) }
+{
+    basis::<A>();
+}
+
+/// Each job in hand may run, whatever else has happened since it was claimed.
+pub fn job_laws<A: App>()
+    ensures { (app : A) → JobsMayRun (A.meaning app) }
 {
     basis::<A>();
 }

@@ -35,11 +35,12 @@ invariant_of-self-2 g c =
 pub returns-clause-answer : goal.returns-clause-answer
 returns-clause-answer g c =
     subst (λ (state : EngineState g.row.A.Denot g.row.A-Val.Denot). (state.progress.over ≡ None) × IsClaimed (g.A.App.meaning state.app) state.progress c.args.pick
-    (record { cells = c.take.new.self; nodes = c.mark_running.new.self; log = c.self.inside.log.entries; created = c.self.inside.created; ended = c.self.inside.ended; limit = c.self.inside.limit; over = c.self.inside.over }) (record { task = c.in_ok-task.task; bundle = c.in_ok-bundle.bundle })) c.self.view_is
-    (none_where_not c.self.inside.over c.in_default.not-Some,
-    claimed (c.basis.ensures c.self.inside.app.now) _ c.self.invariant c.args.pick c.in-Some-2.node (subst (IsPick (g.A.App.meaning c.self.inside.app.now) c.self.inside.graph c.args.pick) c.in-Some-2.is c.in_ok-node.ensures)
-    c.task.result.now c.in_ok-task.task c.set.result.now c.in_ok-bundle.bundle c.take.new.self c.mark_running.new.self
-    c.task.ensures c.in_ok-task.ensures c.set.ensures c.in_ok-bundle.ensures.bundle c.in_ok-bundle.ensures.ok c.mark_running.ensures.marked)
+    (record { cells = c.take.new.self; nodes = c.mark_running.new.self; log = c.self.inside.log.entries; created = c.self.inside.created; ended = c.self.inside.ended; limit = c.self.inside.limit; over = c.self.inside.over }) (record { task = c.in_ok-task.task; bundle = c.in_ok-bundle.bundle })) c.self.view_is (
+      none_where_not c.self.inside.over c.in_default.not-Some,
+      claimed (c.basis.ensures c.self.inside.app.now) _ c.self.invariant c.args.pick c.in-Some-2.node (subst (IsPick (g.A.App.meaning c.self.inside.app.now) c.self.inside.graph c.args.pick) c.in-Some-2.is c.in_ok-node.ensures)
+          c.task.result.now c.in_ok-task.task c.set.result.now c.in_ok-bundle.bundle c.take.new.self c.mark_running.new.self
+          c.task.ensures c.in_ok-task.ensures c.set.ensures c.in_ok-bundle.ensures.bundle c.in_ok-bundle.ensures.ok c.mark_running.ensures.marked,
+    )
 
 pub returns-clause-sound : goal.returns-clause-sound
 returns-clause-sound g c =
