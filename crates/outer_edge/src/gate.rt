@@ -1,5 +1,8 @@
 ghost use Rattle.std.specs.Prelude.{◌≡◌};
+ghost use Rattle.outer_edge.specs.Choices.{seeded_word};
 
+use rand_core::utils::NextWord;
+use rand_pcg::Lcg64Xsh32;
 use task_order::Key;
 
 /// What an execution leaves open: which of the tasks that may run is next, and when a worker goes
@@ -21,6 +24,23 @@ impl Gate for Still {
         ensures { result ≡ 0 }
     {
         0
+    }
+
+    fn pass(&self, _worker: u32, _key: &Key) {}
+}
+
+/// The gate that chooses by PCG's generator of 32-bit words, made from the seed with the worker's
+/// number as its stream: word number `turn`, counted from 0. It passes at once.
+#[derive(Clone, Copy, Debug)]
+pub struct Seeded;
+
+impl Gate for Seeded {
+    fn choose(&self, seed: u64, worker: u32, turn: u64) -> u64
+        ensures { result ≡ seeded_word seed worker turn }
+    {
+        let mut generator = Lcg64Xsh32::new(seed, u64::from(worker));
+        generator.advance(turn);
+        u64::from(generator.next_word())
     }
 
     fn pass(&self, _worker: u32, _key: &Key) {}

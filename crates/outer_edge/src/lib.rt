@@ -13,7 +13,7 @@ mod whole_input;
 mod whole_piece;
 
 pub use edge::{ReadEdge, WriteEdge};
-pub use gate::{Gate, Still};
+pub use gate::{Gate, Seeded, Still};
 pub use memory_sink::{CleanSink, MemSink};
 pub use memory_source::{CleanSource, MemSource};
 pub use sink::{Push, Sink};
