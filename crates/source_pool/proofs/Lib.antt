@@ -1,0 +1,5 @@
+pub mod Drawing
+pub mod Ending
+pub mod Jobs
+pub mod Lists
+pub mod Rounds

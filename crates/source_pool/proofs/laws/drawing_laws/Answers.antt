@@ -1,0 +1,14 @@
+use Rattle.source_pool.proofs.Drawing.{claims_go_on, drawings_begin, drawn_jobs_are_the_round, starts_are_at_rest}
+use Rattle.source_pool.proofs.laws.drawing_laws.Goals as goal
+
+pub returns-clause-starts : goal.returns-clause-starts
+returns-clause-starts g c = λ app. starts_are_at_rest (c.basis.ensures app)
+
+pub returns-clause-begins : goal.returns-clause-begins
+returns-clause-begins g c = λ app. drawings_begin (c.basis.ensures app)
+
+pub returns-clause-goes_on : goal.returns-clause-goes_on
+returns-clause-goes_on g c = λ app. claims_go_on (c.basis.ensures app)
+
+pub returns-clause-round : goal.returns-clause-round
+returns-clause-round g c = λ app. drawn_jobs_are_the_round (c.basis.ensures app)

@@ -1,0 +1,39 @@
+-- What the laws of this crate stand on.
+use Rattle.task_order.specs.Key.{IsExactOrder}
+use Rattle.task_order.specs.Laws as tasks
+use Rattle.rw_sets.specs.Laws as sets
+use Rattle.cell_store.specs.Laws as cells
+use Rattle.output_log.specs.Laws as logs
+use Rattle.kdg_graph.specs.Laws as graph
+use Rattle.app_laws.specs.Applications.{Application, IsLawful}
+use Rattle.commuting.specs.Rounds.{ClearTasksAreListed}
+use Rattle.commuting.specs.Standing.{StartsStandForThemselves, ClearTasksKeepStanding, NothingPendingIsTheEnd, TooManyTasksNeverEnd}
+use Rattle.graph_update.specs.Finishes.{FinishesActOnWhole}
+use Rattle.graph_update.specs.Laws.{ClaimsKeepSound, FinishesKeepSound, RecordedSetsSuffice}
+
+pub record Basis {V : Type 0} (app : Application V) : Type 0 where
+  pub lawful : IsLawful app
+  pub listed : ClearTasksAreListed app
+  pub starts_stand : StartsStandForThemselves app
+  pub acts_stand : ClearTasksKeepStanding app
+  pub ends : NothingPendingIsTheEnd app
+  pub too_many : TooManyTasksNeverEnd app
+  pub claims_keep_sound : ClaimsKeepSound app
+  pub finishes_keep_sound : FinishesKeepSound app
+  pub finishes_act : FinishesActOnWhole app
+  pub suffice : RecordedSetsSuffice app
+  pub have_ids : graph.NodesHaveIds
+  pub have_keys : graph.NodesHaveKeys
+  pub keys_find : graph.KeysFindNodes
+  pub starts_keep_tasks : graph.StartsKeepTasks
+  pub exact : IsExactOrder
+  pub irreflexive : tasks.EarlierIsIrreflexive
+  pub transitive : tasks.EarlierIsTransitive
+  pub adds_each : tasks.PutAllAddsEach
+  pub adds_one : tasks.PutsAddOne
+  pub put_without : tasks.PutRestoresWithout
+  pub decided : sets.ConflictsAreDecided
+  pub joins_take_puts : logs.JoinsTakePuts
+  pub joins_add_lengths : logs.JoinsAddLengths
+  pub agreement : cells.AgreementLasts V
+  pub values : cells.HomesAreValues V

@@ -1,0 +1,70 @@
+-- How far rounds of claims and ends have come since an execution in which nothing was running.
+use Rattle.std.specs.Prelude.{◌≡◌, ◌≢◌, ℕ, zero, suc, ◌+◌, List, [], length, map, None, Contains}
+use Rattle.std.specs.List.{AllByRecursion}
+use Rattle.task_order.specs.declared.task.Task.{Task}
+use Rattle.task_order.specs.TaskList.{IsAscending}
+use Rattle.output_log.specs.Entries.{Entry, joined_by_key}
+use Rattle.app_laws.specs.Applications.{Application, IsEffect, set_in}
+use Rattle.commuting.specs.Rounds.{after_round}
+use Rattle.commuting.specs.Standing.{StandsFor}
+use Rattle.commuting.specs.States.{State, after_tasks}
+use Rattle.graph_update.specs.declared.job.Done.{Done}
+use Rattle.graph_update.specs.declared.job.Job.{Job}
+use Rattle.graph_update.specs.Progress.{Progress, whole_state}
+use Rattle.graph_update.specs.Sound.{IsSound}
+
+-- the tasks of performed jobs, in order
+abbrev pub done_tasks : {V : Type 0} → List (Done V) → List Task
+done_tasks dones = map (λ done. done.task) dones
+
+module _ {V : Type 0} (app : Application V) where
+  -- the job is performed: its task with what its operator makes of its bundle
+  pub record IsDone (job : Job V) (done : Done V) : Type 0 where
+    pub task : job.task ≡ done.task
+    pub effect : IsEffect app job.task job.bundle done.effect
+
+  -- each of the jobs is performed, and no other, in any order
+  pub record AreAllDone (jobs : List (Job V)) (dones : List (Done V)) : Type 0 where
+    pub each : (job : Job V) → Contains jobs job → (done : Done V) × Contains dones done × IsDone job done
+    pub no_other : (done : Done V) → Contains dones done → (job : Job V) × Contains jobs job × IsDone job done
+
+  -- so many rounds, each of which had a task, lead from one state to the other
+  abbrev pub LeadsByRounds : ℕ → State V → State V → Type 0
+  LeadsByRounds zero state now = now ≡ state
+  LeadsByRounds (suc rounds) state now = (state.pending ≢ []) × LeadsByRounds rounds (after_round app state) now
+
+  module _ (start : Progress V) (cells : List V) where
+    -- Since the start tasks have ended that logged these entries: the whole state stands for the rest of the sequential run from
+    -- there, and the log and the count of ended tasks have them.
+    pub record HasCome (entries : List Entry) (now : Progress V) (jobs : List (Job V)) (values : List V) : Type 0 where
+      pub sound : IsSound app now jobs values
+      pub stands : StandsFor app (whole_state start cells) entries (whole_state now values)
+      pub log : now.log ≡ joined_by_key start.log entries
+      pub ended : now.ended ≡ start.ended + length entries
+      pub limit : now.limit ≡ start.limit
+      pub over : now.over ≡ None
+
+    -- between two rounds: nothing is running, and the whole state is this one
+    pub record IsAtRest (state : State V) (now : Progress V) : Type 0 where
+      pub entries : List Entry
+      pub values : List V
+      pub come : HasCome entries now [] values
+      pub state_is : whole_state now values ≡ state
+
+    -- while jobs are drawn: the whole state is the one in which the round began, and each recorded set is the declared one
+    pub record IsDrawing (state : State V) (now : Progress V) (jobs : List (Job V)) : Type 0 where
+      pub entries : List Entry
+      pub values : List V
+      pub come : HasCome entries now jobs values
+      pub state_is : whole_state now values ≡ state
+      pub sets_are : AllByRecursion (λ node. node.set ≡ set_in app values node.task) now.nodes
+
+    -- while jobs are ended in key order: these are performed and not ended yet, and once their tasks have acted the state is the target
+    pub record IsEnding (target : State V) (now : Progress V) (dones : List (Done V)) : Type 0 where
+      pub entries : List Entry
+      pub jobs : List (Job V)
+      pub values : List V
+      pub come : HasCome entries now jobs values
+      pub all_done : AreAllDone jobs dones
+      pub in_order : IsAscending (done_tasks dones)
+      pub leads : after_tasks app.act (done_tasks dones) (whole_state now values) ≡ target

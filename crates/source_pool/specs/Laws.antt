@@ -1,0 +1,98 @@
+-- What claims and ends make of rounds, for every application.
+use Rattle.std.specs.Prelude.{◌≡◌, ◌≢◌, ℕ, suc, ◌+◌, ◌-◌, List, [], ◌∷◌, ◌++◌, length, Some, None}
+use Rattle.task_order.specs.Key.{end}
+use Rattle.task_order.specs.TaskList.{IsAscending}
+use Rattle.cell_store.specs.Values.{homes, values_of}
+use Rattle.kdg_graph.specs.Nodes.{IsGraph}
+use Rattle.kdg_graph.specs.Rewrite.{without}
+use Rattle.output_log.specs.Entries.{joined_by_key}
+use Rattle.app_laws.specs.Applications.{Application}
+use Rattle.app_laws.specs.Execution.{Execution}
+use Rattle.commuting.specs.Rounds.{TakesRounds, after_round}
+use Rattle.commuting.specs.States.{State, run_from}
+use Rattle.graph_update.specs.declared.job.Done.{Done}
+use Rattle.graph_update.specs.declared.job.Job.{Job}
+use Rattle.graph_update.specs.Events.{IsClaimed, IsFinished, IsOverLimit, clear_nodes}
+use Rattle.graph_update.specs.Laws.{IsPerformed}
+use Rattle.graph_update.specs.Progress.{Progress, whole_state}
+use Rattle.graph_update.specs.Sound.{IsSound}
+use Rattle.source_pool.specs.Course.{AreAllDone, IsAtRest, IsDrawing, IsEnding, LeadsByRounds, done_tasks}
+
+module _ {V : Type 0} (app : Application V) where
+  -- ---- claims
+
+  -- a claim takes one of the clear nodes: the others stay clear, and no other becomes clear
+  abbrev pub ClaimsTakeOneClear : Type 0
+  ClaimsTakeOneClear = (old now : Progress V) (pick : ℕ) (job : Job V) → IsGraph old.nodes → (claimed : IsClaimed app old pick now job) →
+      clear_nodes app now.nodes ≡ without claimed.node.id (clear_nodes app old.nodes)
+
+  abbrev pub StartsAreAtRest : Type 0
+  StartsAreAtRest = (start : Progress V) (cells : List V) → IsSound app start [] cells → start.over ≡ None → IsAtRest app start cells (whole_state start cells) start
+
+  abbrev pub DrawingsBegin : Type 0
+  DrawingsBegin = (start now : Progress V) (cells : List V) (state : State V) → IsAtRest app start cells state now → IsDrawing app start cells state now []
+
+  abbrev pub ClaimsGoOn : Type 0
+  ClaimsGoOn = (start now next : Progress V) (cells : List V) (state : State V) (jobs : List (Job V)) (pick : ℕ) (job : Job V) →
+      IsDrawing app start cells state now jobs → IsClaimed app now pick next job → IsDrawing app start cells state next (jobs ++ job ∷ [])
+
+  -- where no node is clear any more, the drawn jobs are those of all clear tasks of the state in which the round began: once they
+  -- are performed and end in key order, the round is done
+  abbrev pub DrawnJobsAreTheRound : Type 0
+  DrawnJobsAreTheRound = (start now : Progress V) (cells : List V) (state : State V) (jobs : List (Job V)) (dones : List (Done V)) →
+      IsDrawing app start cells state now jobs → clear_nodes app now.nodes ≡ [] → AreAllDone app jobs dones → IsAscending (done_tasks dones) →
+      IsEnding app start cells (after_round app state) now dones
+
+  -- ---- ends
+
+  -- the first of the performed jobs may end
+  pub record MayEnd (now : Progress V) (done : Done V) : Type 0 where
+    pub jobs : List (Job V)
+    pub values : List V
+    pub job : Job V
+    pub others : List (Job V)
+    pub sound : IsSound app now jobs values
+    pub performed : IsPerformed app jobs done job others
+
+  abbrev pub FirstMayEnd : Type 0
+  FirstMayEnd = (start now : Progress V) (cells : List V) (target : State V) (done : Done V) (dones : List (Done V)) →
+      IsEnding app start cells target now (done ∷ dones) → MayEnd now done
+
+  abbrev pub EndsGoOn : Type 0
+  EndsGoOn = (start now next : Progress V) (cells : List V) (target : State V) (done : Done V) (dones : List (Done V)) →
+      IsEnding app start cells target now (done ∷ dones) → ¬ IsOverLimit app now done → IsFinished app now done next → IsEnding app start cells target next dones
+
+  -- where the limit is passed, the sequential run from the start doesn't end within what was left of it
+  abbrev pub TooManyNeverEnd : Type 0
+  TooManyNeverEnd = (start now : Progress V) (cells : List V) (target : State V) (done : Done V) (dones : List (Done V)) →
+      IsEnding app start cells target now (done ∷ dones) → IsOverLimit app now done →
+      run_from app.act (start.limit - start.ended) end (whole_state start cells) ≡ None
+
+  abbrev pub EndsComeToRest : Type 0
+  EndsComeToRest = (start now : Progress V) (cells : List V) (target : State V) → IsEnding app start cells target now [] → IsAtRest app start cells target now
+
+  -- ---- rounds
+
+  -- one more round
+  abbrev pub RoundsAdd : Type 0
+  RoundsAdd = (rounds : ℕ) (state now : State V) → LeadsByRounds app rounds state now → now.pending ≢ [] → LeadsByRounds app (suc rounds) state (after_round app now)
+
+  abbrev pub RoundsAreTaken : Type 0
+  RoundsAreTaken = (rounds : ℕ) (state now : State V) → LeadsByRounds app rounds state now → now.pending ≡ [] → TakesRounds app rounds state
+
+  -- The end of the sequential run from the start, within what was left of the limit: all cells are home, the log is joined with
+  -- that of the run, and each of its tasks has ended.
+  pub record IsSequentialEnd (start : Progress V) (cells : List V) (now : Progress V) : Type 0 where
+    pub last : Execution V
+    pub is_end : run_from app.act (start.limit - start.ended) end (whole_state start cells) ≡ Some last
+    pub home : now.cells ≡ homes last.cells
+    pub log : now.log ≡ joined_by_key start.log last.log
+    pub ended : now.ended ≡ start.ended + length last.log
+
+  -- where no node is left, the sequential run has come to its end
+  abbrev pub RestWithoutNodesIsTheEnd : Type 0
+  RestWithoutNodesIsTheEnd = (start now : Progress V) (cells : List V) (state : State V) → IsAtRest app start cells state now → now.nodes ≡ [] → IsSequentialEnd start cells now
+
+  -- while nothing is running, the whole cells are those of the store
+  abbrev pub WholeIsHome : Type 0
+  WholeIsHome = (now : Progress V) (values : List V) → IsSound app now [] values → (now.cells ≡ homes values) × (values ≡ values_of now.cells)

@@ -1,0 +1,66 @@
+ghost use Rattle.source_pool.specs.Basis.{Basis};
+ghost use Rattle.source_pool.specs.Laws.{ClaimsGoOn, DrawingsBegin, DrawnJobsAreTheRound, EndsComeToRest, EndsGoOn, FirstMayEnd, RestWithoutNodesIsTheEnd, RoundsAdd, RoundsAreTaken, StartsAreAtRest, TooManyNeverEnd, WholeIsHome};
+
+use app_laws::{App, lawful};
+use cell_store::value_laws;
+use commuting::{round_laws as clear_round_laws, standing_laws};
+use graph_update::{claim_laws, clear_laws, finish_state_laws, sound_finish_laws};
+use kdg_graph::{node_laws, put_laws};
+use output_log::join_laws;
+use rw_sets::conflict_laws;
+use task_order::{earlier_laws, key_order, put_all_laws, put_in_laws, without_laws};
+
+/// What the crates below promise, as one.
+fn basis<A: App>()
+    ensures { (app : A) → Basis (A.meaning app) }
+{
+    lawful::<A>();
+    clear_round_laws::<A>();
+    standing_laws::<A>();
+    claim_laws::<A>();
+    sound_finish_laws::<A>();
+    finish_state_laws::<A>();
+    clear_laws::<A>();
+    node_laws();
+    put_laws();
+    key_order();
+    earlier_laws();
+    put_all_laws();
+    put_in_laws();
+    without_laws();
+    conflict_laws();
+    join_laws();
+    value_laws::<A::Val>();
+}
+
+/// While jobs are drawn the whole state stays as it was, and where none is clear any more they are
+/// the jobs of all clear tasks.
+pub fn drawing_laws<A: App>()
+    ensures starts { (app : A) → StartsAreAtRest (A.meaning app) }
+    ensures begins { (app : A) → DrawingsBegin (A.meaning app) }
+    ensures goes_on { (app : A) → ClaimsGoOn (A.meaning app) }
+    ensures round { (app : A) → DrawnJobsAreTheRound (A.meaning app) }
+{
+    basis::<A>();
+}
+
+/// Performed jobs may end, the first one first, until all have acted; where one passes the limit,
+/// the sequential run does too.
+pub fn ending_laws<A: App>()
+    ensures first { (app : A) → FirstMayEnd (A.meaning app) }
+    ensures goes_on { (app : A) → EndsGoOn (A.meaning app) }
+    ensures too_many { (app : A) → TooManyNeverEnd (A.meaning app) }
+    ensures rest { (app : A) → EndsComeToRest (A.meaning app) }
+{
+    basis::<A>();
+}
+
+/// Rounds add up, and where no task is left they have come to the end of the sequential run.
+pub fn rounds_laws<A: App>()
+    ensures add { (app : A) → RoundsAdd (A.meaning app) }
+    ensures taken { (app : A) → RoundsAreTaken (A.meaning app) }
+    ensures end { (app : A) → RestWithoutNodesIsTheEnd (A.meaning app) }
+    ensures home { (app : A) → WholeIsHome (A.meaning app) }
+{
+    basis::<A>();
+}

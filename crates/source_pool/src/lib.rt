@@ -1,0 +1,6 @@
+//! Rounds: all tasks that are clear are performed at once, and then all that are clear then.
+#![tactic(auto)]
+
+mod laws;
+
+pub use laws::{drawing_laws, ending_laws, rounds_laws};
