@@ -1,11 +1,11 @@
 -- The jobs that are drawn in a round are those of all clear tasks.
-use Rattle.std.proofs.Common.{◌≡◌, ℕ, ◌<◌, not, Bool, true, false, cond, List, [], ◌∷◌, length, refl, sym, ap, subst, ◌∙◌, arith}
+use Rattle.std.proofs.Common.{◌≡◌, ◌≢◌, ◌⊎◌, inl, inr, ℕ, zero, suc, ◌+◌, ◌<◌, not, Bool, true, false, cond, List, [], ◌∷◌, ◌++◌, Some, length, slice_get, refl, sym, ap, subst, ◌∙◌, arith, eqb-true, eq-eqb}
 use Rattle.std.specs.Prelude.{Contains, IsSome}
-use Rattle.std.specs.List.{AllByRecursion}
+use Rattle.std.specs.List.{AllByRecursion, filter}
 use Rattle.std.specs.declared.cmp.Ordering.{Ordering}
 use Rattle.std.specs.declared.cmp.Ordering.TheVariants.{Less, Equal, Greater}
 use Rattle.std.specs.Ordering.{is_eq, is_lt}
-use Rattle.std.proofs.lemmas.Bool.{true≢false, and_from}
+use Rattle.std.proofs.lemmas.Bool.{true≢false, and_from, and_parts}
 use Rattle.task_order.specs.declared.key.Key.{Key}
 use Rattle.task_order.specs.declared.task.Task.{Task}
 use Rattle.task_order.specs.Key.{key_cmp}
@@ -18,7 +18,7 @@ use Rattle.cell_store.specs.Home.{IsHome}
 use Rattle.kdg_graph.specs.declared.node_id.NodeId.{NodeId}
 use Rattle.kdg_graph.specs.Edges.{is_blocked}
 use Rattle.kdg_graph.specs.Node.{Node}
-use Rattle.kdg_graph.specs.Nodes.{earlier_than, is_at, started, tasks_of}
+use Rattle.kdg_graph.specs.Nodes.{HaveOwnIds, earlier_than, is_at, node_with_key, started, tasks_of}
 use Rattle.app_laws.specs.Applications.{Application, set_in, tasks_before}
 use Rattle.commuting.specs.Clear.{IsClear, IsReady}
 use Rattle.commuting.specs.Rounds.{after_round, clear_tasks}
@@ -30,19 +30,19 @@ use Rattle.graph_update.specs.Events.{is_clear, clear_nodes}
 use Rattle.graph_update.specs.Progress.{Progress, whole_state}
 use Rattle.graph_update.specs.Sound.{Covers, HasJob, IsSound, is_unblocked}
 use Rattle.source_pool.specs.Basis.{Basis}
-use Rattle.source_pool.specs.Course.{AreAllDone, IsDrawing, IsEnding, done_tasks}
-use Rattle.source_pool.specs.Laws.{ClaimsGoOn, DrawingsBegin, DrawnJobsAreTheRound, StartsAreAtRest}
+use Rattle.source_pool.specs.Course.{AreAllDone, IsJobDone, idle_count, IsDrawing, IsEnding, done_tasks}
+use Rattle.source_pool.specs.Laws.{ClaimsGoOn, ClaimsStartOne, DrawingsBegin, DrawnJobsAreTheRound, DrawnJobsDiffer, RoundsHaveJobs, StartsAreAtRest}
 use Rattle.source_pool.proofs.Jobs.{job_is_clear, node_of, sound_turned}
-use Rattle.source_pool.proofs.Lists.{all_at, all_from, from_filter, from_map, in_filter, in_map, none, none_any, passing, same_tasks}
+use Rattle.source_pool.proofs.Lists.{Some-injective, all_at, all_from, cases, from_filter, from_map, here, in_filter, in_map, none, none_any, passing, same_tasks, there}
 
 -- a node with the id, running
-abbrev start : NodeId → Node → Node
+abbrev pub start : NodeId → Node → Node
 start id node = cond (is_at id node) (record node { running = true }) node
 
-start_keeps_task : (id : NodeId) (node : Node) → (start id node).task ≡ node.task
+pub start_keeps_task : (id : NodeId) (node : Node) → (start id node).task ≡ node.task
 start_keeps_task id node = elim (is_at id node) as (λ test. let now : Node = cond test (record node { running = true }) node in now.task ≡ node.task) [ true ↦ refl | false ↦ refl ]
 
-start_keeps_set : (id : NodeId) (node : Node) → (start id node).set ≡ node.set
+pub start_keeps_set : (id : NodeId) (node : Node) → (start id node).set ≡ node.set
 start_keeps_set id node = elim (is_at id node) as (λ test. let now : Node = cond test (record node { running = true }) node in now.set ≡ node.set) [ true ↦ refl | false ↦ refl ]
 
 -- the earlier tasks are those of the earlier nodes
@@ -204,8 +204,9 @@ module _ {V : Type 0} {app : Application V} (basis : Basis app) where
         let job = its.0 in
         let key = same_key basis.exact job.task.key node.task.key its.2 in
         let task_is : job.task ≡ node.task = task_of_key job node its.1 from.1 key in
-        let done = all.each job its.1 in
-        subst (Contains (done_tasks dones)) (sym done.2.task ∙ task_is ∙ from.2) (in_map (λ (d : Done V). d.task) dones done.0 done.1)
+        let done : (d : Done V) × Contains dones d × IsJobDone app job d = all.each job its.1 in
+        let same : done.0.task ≡ task = sym done.2.task ∙ task_is ∙ from.2 in
+        subst (Contains (done_tasks dones)) same (in_map (λ (d : Done V). d.task) dones done.0 done.1)
 
     they_are_the_clear : done_tasks dones ≡ clear_tasks app state
     they_are_the_clear =
@@ -228,3 +229,68 @@ module _ {V : Type 0} {app : Application V} (basis : Basis app) where
 
   pub drawn_jobs_are_the_round : DrawnJobsAreTheRound app
   drawn_jobs_are_the_round = round_ends
+
+  -- ---- the number of jobs
+
+  pub rounds_have_jobs : RoundsHaveJobs app
+  rounds_have_jobs first now cells state jobs drawing all_drawn pending empty =
+      let sound = subst (λ jobs. IsSound app now jobs drawing.values) empty drawing.come.sound in
+      basis.some_clear now drawing.values sound
+      (λ none. pending (ap (λ (s : State V). s.pending) (sym drawing.state_is) ∙ ap tasks_of none))
+      all_drawn
+
+  pub drawn_jobs_differ : DrawnJobsDiffer app
+  drawn_jobs_differ first now cells state jobs drawing = drawing.come.sound.outs_match.own
+
+  -- nodes without the id stay as they are
+  others_stay : (id : NodeId) (nodes : List Node) → AllByRecursion (λ (node : Node). node.id ≢ id) nodes → started id nodes ≡ nodes
+  others_stay id [] all = refl
+  others_stay id (node ∷ nodes) all =
+      let rest = others_stay id nodes all.1 in
+      by_case (is_at id node) refl rest
+    where
+      by_case : (test : Bool) → is_at id node ≡ test → started id nodes ≡ nodes → cond test (record node { running = true }) node ∷ started id nodes ≡ node ∷ nodes
+      by_case true is rest = absurd (all.0 (ap (λ (n : ℕ). let made : NodeId = record { at = n } in made) (eqb-true node.id.at id.at is)))
+      by_case false is rest = ap (λ others. node ∷ others) rest
+
+  -- one of the nodes that are not running is started
+  one_started : (id : NodeId) (nodes : List Node) (node : Node) → HaveOwnIds nodes → Contains nodes node → node.id ≡ id → node.running ≡ false → idle_count (started id nodes) + 1 ≡ idle_count nodes
+  one_started id [] node own has same idle = absurd (none node has)
+  one_started id (other ∷ nodes) node own has same idle = by_case (is_at id other) refl (cases other node nodes has) (λ later. one_started id nodes node own.1 later same idle)
+    where
+      count_first : (running : Bool) → running ≡ false → (n : ℕ) → length (cond (not running) (other ∷ filter (λ (node : Node). not node.running) nodes) (filter (λ (node : Node). not node.running) nodes)) ≡ suc (idle_count nodes)
+      count_first true is n = absurd (true≢false is)
+      count_first false is n = refl
+
+      by_case : (test : Bool) → is_at id other ≡ test → (other ≡ node) ⊎ Contains nodes node → (Contains nodes node → idle_count (started id nodes) + 1 ≡ idle_count nodes) → idle_count (cond test (record other { running = true }) other ∷ started id nodes) + 1 ≡ idle_count (other ∷ nodes)
+      by_case true is where_ go =
+          let its_id : other.id ≡ id = ap (λ (n : ℕ). let made : NodeId = record { at = n } in made) (eqb-true other.id.at id.at is) in
+          let stay = ap idle_count (others_stay id nodes (subst (λ of. AllByRecursion (λ (n : Node). n.id ≢ of) nodes) its_id own.0)) in
+          elim where_ [
+            | inl first ↦ omega (arith, stay, count_first other.running (ap (λ (n : Node). n.running) first ∙ idle) 0)
+            | inr later ↦ absurd (all_at (λ (n : Node). n.id ≢ other.id) nodes node own.0 later (same ∙ sym its_id))
+          ]
+      by_case false is where_ go = elim where_ [
+        | inl first ↦ absurd (true≢false (sym (eq-eqb other.id.at id.at (ap (λ (i : NodeId). i.at) (ap (λ (n : Node). n.id) first ∙ same))) ∙ is))
+        | inr later ↦
+            let rest = go later in
+            elim (not other.running) as (λ b. length (cond b (other ∷ filter (λ (node : Node). not node.running) (started id nodes)) (filter (λ (node : Node). not node.running) (started id nodes))) + 1 ≡ length (cond b (other ∷ filter (λ (node : Node). not node.running) nodes) (filter (λ (node : Node). not node.running) nodes))) [
+              | true ↦ omega (arith, rest)
+              | false ↦ rest
+            ]
+      ]
+
+  found_is_there : {X : Type 0} (xs : List X) (i : ℕ) (x : X) → slice_get xs i ≡ Some x → Contains xs x
+  found_is_there [] i x found = cc
+  found_is_there {X} (y ∷ xs) zero x found = subst (λ (z : X). Contains (y ∷ xs) z) (Some-injective y x found) (here y xs)
+  found_is_there (y ∷ xs) (suc i) x found = there y x xs (found_is_there xs i x found)
+
+  pub claims_start_one : ClaimsStartOne app
+  claims_start_one old now pick job graph claimed =
+      let among = from_filter (is_clear app old.nodes) old.nodes claimed.node (found_is_there (clear_nodes app old.nodes) _ claimed.node claimed.chosen) in
+      let idle = not_so claimed.node.running (and_parts (not claimed.node.running) (is_unblocked app old.nodes claimed.node) among.1).0 in
+      ap (λ (p : Progress V). idle_count p.nodes + 1) claimed.after ∙ one_started claimed.node.id old.nodes claimed.node graph.own_ids among.0 refl idle
+    where
+      not_so : (b : Bool) → not b ≡ true → b ≡ false
+      not_so true never = absurd (true≢false (sym never))
+      not_so false is = refl

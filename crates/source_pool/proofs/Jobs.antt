@@ -18,12 +18,8 @@ use Rattle.graph_update.specs.Progress.{Progress, whole_state}
 use Rattle.graph_update.specs.Sound.{Covers, HasJob, IsOfNode, IsRunningAs, IsSound, IsWhole, JobsMatch, is_written}
 use Rattle.commuting.specs.Clear.{IsClear}
 use Rattle.source_pool.specs.Basis.{Basis}
-use Rattle.source_pool.specs.Course.{AreAllDone, IsDone}
+use Rattle.source_pool.specs.Course.{AreAllDone, HaveOwnKeys, IsJobDone}
 use Rattle.source_pool.proofs.Lists.{Place, all_at, all_from, all_turned, among_all, any_turned, cases, here, none, other_than, paired_with, pairwise_turned, place_of, there}
-
--- no two jobs have one key
-abbrev pub HaveOwnKeys : {V : Type 0} → List (Job V) → Type 0
-HaveOwnKeys jobs = Pairwise (λ job other. job.task.key ≢ other.task.key) jobs
 
 module _ {V : Type 0} {app : Application V} where
   match_turned : (nodes : List Node) (job : Job V) (jobs : List (Job V)) → JobsMatch app nodes (job ∷ jobs) → JobsMatch app nodes (jobs ++ job ∷ [])
@@ -77,7 +73,7 @@ module _ {V : Type 0} {app : Application V} where
       let from = all.no_other done (here done dones) in
       let job : Job V = from.0 in
       let has : Contains jobs job = from.1 in
-      let is : IsDone app job done = from.2 in
+      let is : IsJobDone app job done = from.2 in
       let place : Place jobs job = place_of jobs job has in
       let others = place.before ++ place.after in
       let pairs = subst HaveOwnKeys place.is own in

@@ -1,5 +1,6 @@
+pub mod Claimed
 pub mod Drawing
 pub mod Ending
 pub mod Jobs
 pub mod Lists
-pub mod Rounds
+pub mod RoundNumbers

@@ -9,7 +9,7 @@ use Rattle.app_laws.specs.Applications.{Application, IsLawful}
 use Rattle.commuting.specs.Rounds.{ClearTasksAreListed}
 use Rattle.commuting.specs.Standing.{StartsStandForThemselves, ClearTasksKeepStanding, NothingPendingIsTheEnd, TooManyTasksNeverEnd}
 use Rattle.graph_update.specs.Finishes.{FinishesActOnWhole}
-use Rattle.graph_update.specs.Laws.{ClaimsKeepSound, FinishesKeepSound, RecordedSetsSuffice}
+use Rattle.graph_update.specs.Laws.{ClaimsKeepSound, FinishesKeepSound, RecordedSetsSuffice, SomeIsClear}
 
 pub record Basis {V : Type 0} (app : Application V) : Type 0 where
   pub lawful : IsLawful app
@@ -22,6 +22,7 @@ pub record Basis {V : Type 0} (app : Application V) : Type 0 where
   pub finishes_keep_sound : FinishesKeepSound app
   pub finishes_act : FinishesActOnWhole app
   pub suffice : RecordedSetsSuffice app
+  pub some_clear : SomeIsClear app
   pub have_ids : graph.NodesHaveIds
   pub have_keys : graph.NodesHaveKeys
   pub keys_find : graph.KeysFindNodes

@@ -1,9 +1,11 @@
 -- How far rounds of claims and ends have come since an execution in which nothing was running.
-use Rattle.std.specs.Prelude.{◌≡◌, ◌≢◌, ℕ, zero, suc, ◌+◌, List, [], length, map, None, Contains}
-use Rattle.std.specs.List.{AllByRecursion}
+use Rattle.std.specs.Prelude.{◌≡◌, ◌≢◌, ℕ, zero, suc, ◌+◌, not, false, List, [], ◌∷◌, length, map, None, Contains}
+use Rattle.std.specs.List.{AllByRecursion, filter}
 use Rattle.task_order.specs.declared.task.Task.{Task}
 use Rattle.task_order.specs.TaskList.{IsAscending}
 use Rattle.output_log.specs.Entries.{Entry, joined_by_key}
+use Rattle.kdg_graph.specs.Node.{Node}
+use Rattle.app_laws.specs.Order.{Pairwise}
 use Rattle.app_laws.specs.Applications.{Application, IsEffect, set_in}
 use Rattle.commuting.specs.Rounds.{after_round}
 use Rattle.commuting.specs.Standing.{StandsFor}
@@ -17,16 +19,28 @@ use Rattle.graph_update.specs.Sound.{IsSound}
 abbrev pub done_tasks : {V : Type 0} → List (Done V) → List Task
 done_tasks dones = map (λ done. done.task) dones
 
+-- no two jobs have one key
+abbrev pub HaveOwnKeys : {V : Type 0} → List (Job V) → Type 0
+HaveOwnKeys jobs = Pairwise (λ job other. job.task.key ≢ other.task.key) jobs
+
+-- no node is running
+abbrev pub NothingRuns : List Node → Type 0
+NothingRuns nodes = AllByRecursion (λ node. node.running ≡ false) nodes
+
+-- how many nodes are not running
+abbrev pub idle_count : List Node → ℕ
+idle_count nodes = length (filter (λ node. not node.running) nodes)
+
 module _ {V : Type 0} (app : Application V) where
   -- the job is performed: its task with what its operator makes of its bundle
-  pub record IsDone (job : Job V) (done : Done V) : Type 0 where
+  pub record IsJobDone (job : Job V) (done : Done V) : Type 0 where
     pub task : job.task ≡ done.task
     pub effect : IsEffect app job.task job.bundle done.effect
 
   -- each of the jobs is performed, and no other, in any order
   pub record AreAllDone (jobs : List (Job V)) (dones : List (Done V)) : Type 0 where
-    pub each : (job : Job V) → Contains jobs job → (done : Done V) × Contains dones done × IsDone job done
-    pub no_other : (done : Done V) → Contains dones done → (job : Job V) × Contains jobs job × IsDone job done
+    pub each : (job : Job V) → Contains jobs job → (done : Done V) × Contains dones done × IsJobDone job done
+    pub no_other : (done : Done V) → Contains dones done → (job : Job V) × Contains jobs job × IsJobDone job done
 
   -- so many rounds, each of which had a task, lead from one state to the other
   abbrev pub LeadsByRounds : ℕ → State V → State V → Type 0

@@ -16,14 +16,14 @@ use Rattle.graph_update.specs.Events.{IsClaimed, IsFinished, IsOverLimit, clear_
 use Rattle.graph_update.specs.Laws.{IsPerformed}
 use Rattle.graph_update.specs.Progress.{Progress, whole_state}
 use Rattle.graph_update.specs.Sound.{IsSound}
-use Rattle.source_pool.specs.Course.{AreAllDone, IsAtRest, IsDrawing, IsEnding, LeadsByRounds, done_tasks}
+use Rattle.source_pool.specs.Course.{AreAllDone, HaveOwnKeys, IsAtRest, IsDrawing, IsEnding, LeadsByRounds, NothingRuns, done_tasks, idle_count}
 
 module _ {V : Type 0} (app : Application V) where
   -- ---- claims
 
   -- a claim takes one of the clear nodes: the others stay clear, and no other becomes clear
   abbrev pub ClaimsTakeOneClear : Type 0
-  ClaimsTakeOneClear = (old now : Progress V) (pick : ℕ) (job : Job V) → IsGraph old.nodes → (claimed : IsClaimed app old pick now job) →
+  ClaimsTakeOneClear = (old now : Progress V) (pick : ℕ) (job : Job V) → (claimed : IsClaimed app old pick now job) →
       clear_nodes app now.nodes ≡ without claimed.node.id (clear_nodes app old.nodes)
 
   abbrev pub StartsAreAtRest : Type 0
@@ -42,6 +42,19 @@ module _ {V : Type 0} (app : Application V) where
   DrawnJobsAreTheRound = (start now : Progress V) (cells : List V) (state : State V) (jobs : List (Job V)) (dones : List (Done V)) →
       IsDrawing app start cells state now jobs → clear_nodes app now.nodes ≡ [] → AreAllDone app jobs dones → IsAscending (done_tasks dones) →
       IsEnding app start cells (after_round app state) now dones
+
+  -- a round has a job, where any task is pending
+  abbrev pub RoundsHaveJobs : Type 0
+  RoundsHaveJobs = (start now : Progress V) (cells : List V) (state : State V) (jobs : List (Job V)) →
+      IsDrawing app start cells state now jobs → clear_nodes app now.nodes ≡ [] → state.pending ≢ [] → jobs ≢ []
+
+  -- the jobs of a round have keys of their own
+  abbrev pub DrawnJobsDiffer : Type 0
+  DrawnJobsDiffer = (start now : Progress V) (cells : List V) (state : State V) (jobs : List (Job V)) → IsDrawing app start cells state now jobs → HaveOwnKeys jobs
+
+  -- a claim marks one node more, which was not running
+  abbrev pub ClaimsStartOne : Type 0
+  ClaimsStartOne = (old now : Progress V) (pick : ℕ) (job : Job V) → IsGraph old.nodes → IsClaimed app old pick now job → idle_count now.nodes + 1 ≡ idle_count old.nodes
 
   -- ---- ends
 
@@ -92,6 +105,10 @@ module _ {V : Type 0} (app : Application V) where
   -- where no node is left, the sequential run has come to its end
   abbrev pub RestWithoutNodesIsTheEnd : Type 0
   RestWithoutNodesIsTheEnd = (start now : Progress V) (cells : List V) (state : State V) → IsAtRest app start cells state now → now.nodes ≡ [] → IsSequentialEnd start cells now
+
+  -- where no node is running there are no jobs, and the whole cells are those of the store
+  abbrev pub IdleIsSound : Type 0
+  IdleIsSound = (now : Progress V) (jobs : List (Job V)) (values : List V) → IsSound app now jobs values → NothingRuns now.nodes → IsSound app now [] (values_of now.cells)
 
   -- while nothing is running, the whole cells are those of the store
   abbrev pub WholeIsHome : Type 0

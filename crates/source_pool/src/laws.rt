@@ -1,5 +1,5 @@
 ghost use Rattle.source_pool.specs.Basis.{Basis};
-ghost use Rattle.source_pool.specs.Laws.{ClaimsGoOn, DrawingsBegin, DrawnJobsAreTheRound, EndsComeToRest, EndsGoOn, FirstMayEnd, RestWithoutNodesIsTheEnd, RoundsAdd, RoundsAreTaken, StartsAreAtRest, TooManyNeverEnd, WholeIsHome};
+ghost use Rattle.source_pool.specs.Laws.{ClaimsGoOn, ClaimsStartOne, ClaimsTakeOneClear, DrawingsBegin, DrawnJobsAreTheRound, DrawnJobsDiffer, EndsComeToRest, EndsGoOn, FirstMayEnd, IdleIsSound, RestWithoutNodesIsTheEnd, RoundsAdd, RoundsAreTaken, RoundsHaveJobs, StartsAreAtRest, TooManyNeverEnd, WholeIsHome};
 
 use app_laws::{App, lawful};
 use cell_store::value_laws;
@@ -40,6 +40,10 @@ pub fn drawing_laws<A: App>()
     ensures begins { (app : A) → DrawingsBegin (A.meaning app) }
     ensures goes_on { (app : A) → ClaimsGoOn (A.meaning app) }
     ensures round { (app : A) → DrawnJobsAreTheRound (A.meaning app) }
+    ensures some { (app : A) → RoundsHaveJobs (A.meaning app) }
+    ensures differ { (app : A) → DrawnJobsDiffer (A.meaning app) }
+    ensures one_clear { (app : A) → ClaimsTakeOneClear (A.meaning app) }
+    ensures starts_one { (app : A) → ClaimsStartOne (A.meaning app) }
 {
     basis::<A>();
 }
@@ -61,6 +65,13 @@ pub fn rounds_laws<A: App>()
     ensures taken { (app : A) → RoundsAreTaken (A.meaning app) }
     ensures end { (app : A) → RestWithoutNodesIsTheEnd (A.meaning app) }
     ensures home { (app : A) → WholeIsHome (A.meaning app) }
+{
+    basis::<A>();
+}
+
+/// Where no node is running, an execution is sound with no job.
+pub fn idle_laws<A: App>()
+    ensures { (app : A) → IdleIsSound (A.meaning app) }
 {
     basis::<A>();
 }

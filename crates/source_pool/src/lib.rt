@@ -3,4 +3,4 @@
 
 mod laws;
 
-pub use laws::{drawing_laws, ending_laws, rounds_laws};
+pub use laws::{drawing_laws, ending_laws, idle_laws, rounds_laws};

@@ -12,6 +12,7 @@ returns g c = λ app. record {
   finishes_keep_sound = c.sound_finish_laws.ensures app;
   finishes_act = c.finish_state_laws.ensures.whole app;
   suffice = c.clear_laws.ensures.suffice app;
+  some_clear = c.clear_laws.ensures.some app;
   have_ids = c.node_laws.ensures.have_ids;
   have_keys = c.node_laws.ensures.have_keys;
   keys_find = c.node_laws.ensures.keys_find;

@@ -1,4 +1,5 @@
-use Rattle.source_pool.proofs.Drawing.{claims_go_on, drawings_begin, drawn_jobs_are_the_round, starts_are_at_rest}
+use Rattle.source_pool.proofs.Claimed.{claims_take_one_clear}
+use Rattle.source_pool.proofs.Drawing.{claims_go_on, claims_start_one, drawings_begin, drawn_jobs_are_the_round, drawn_jobs_differ, rounds_have_jobs, starts_are_at_rest}
 use Rattle.source_pool.proofs.laws.drawing_laws.Goals as goal
 
 pub returns-clause-starts : goal.returns-clause-starts
@@ -12,3 +13,15 @@ returns-clause-goes_on g c = λ app. claims_go_on (c.basis.ensures app)
 
 pub returns-clause-round : goal.returns-clause-round
 returns-clause-round g c = λ app. drawn_jobs_are_the_round (c.basis.ensures app)
+
+pub returns-clause-some : goal.returns-clause-some
+returns-clause-some g c = λ app. rounds_have_jobs (c.basis.ensures app)
+
+pub returns-clause-differ : goal.returns-clause-differ
+returns-clause-differ g c = λ app. drawn_jobs_differ (c.basis.ensures app)
+
+pub returns-clause-starts_one : goal.returns-clause-starts_one
+returns-clause-starts_one g c = λ app. claims_start_one (c.basis.ensures app)
+
+pub returns-clause-one_clear : goal.returns-clause-one_clear
+returns-clause-one_clear g c = λ app. claims_take_one_clear (c.basis.ensures app)

@@ -1,4 +1,4 @@
-use Rattle.source_pool.proofs.Rounds.{rest_without_nodes_is_the_end, rounds_add, rounds_are_taken, whole_is_home}
+use Rattle.source_pool.proofs.RoundNumbers.{rest_without_nodes_is_the_end, rounds_add, rounds_are_taken, whole_is_home}
 use Rattle.source_pool.proofs.laws.rounds_laws.Goals as goal
 
 pub returns-clause-add : goal.returns-clause-add

@@ -1,5 +1,5 @@
 -- Rounds add up, and where nothing is left they have come to the end of the sequential run.
-use Rattle.std.proofs.Common.{◌≡◌, ◌≢◌, zero, suc, ◌+◌, ◌-◌, List, [], Option, Some, None, length, refl, sym, ap, subst, ◌∙◌, arith}
+use Rattle.std.proofs.Common.{false, ◌≡◌, ◌≢◌, zero, suc, ◌+◌, ◌-◌, List, [], ◌∷◌, Option, Some, None, length, refl, sym, ap, subst, ◌∙◌, arith}
 use Rattle.std.specs.Prelude.{IsSomeAnd}
 use Rattle.std.proofs.lemmas.Bool.{true≢false}
 use Rattle.task_order.specs.Key.{end}
@@ -18,8 +18,12 @@ use Rattle.commuting.specs.States.{State, run_from}
 use Rattle.graph_update.specs.Progress.{Progress, whole_state}
 use Rattle.graph_update.specs.Sound.{IsSound}
 use Rattle.source_pool.specs.Basis.{Basis}
-use Rattle.source_pool.specs.Course.{IsAtRest}
-use Rattle.source_pool.specs.Laws.{IsSequentialEnd, RestWithoutNodesIsTheEnd, RoundsAdd, RoundsAreTaken, WholeIsHome}
+use Rattle.graph_update.specs.declared.job.Job.{Job}
+use Rattle.kdg_graph.specs.Node.{Node}
+use Rattle.source_pool.proofs.Jobs.{node_of}
+use Rattle.source_pool.proofs.Lists.{all_at, here}
+use Rattle.source_pool.specs.Course.{IsAtRest, NothingRuns}
+use Rattle.source_pool.specs.Laws.{IdleIsSound, IsSequentialEnd, RestWithoutNodesIsTheEnd, RoundsAdd, RoundsAreTaken, WholeIsHome}
 
 module _ {V : Type 0} (app : Application V) where
   pub rounds_add : RoundsAdd app
@@ -43,6 +47,18 @@ module _ {V : Type 0} {app : Application V} (basis : Basis app) where
   whole_is_home now values sound =
       let home = basis.agreement.all_home now.cells values sound.whole.home (no_cell_out now values sound) in
       (home, sym (basis.values.values_of_homes values) ∙ ap values_of (sym home))
+
+  -- no job without a running node
+  no_job : (now : Progress V) (jobs : List (Job V)) (values : List V) → IsSound app now jobs values → NothingRuns now.nodes → jobs ≡ []
+  no_job now [] values sound idle = refl
+  no_job now (job ∷ jobs) values sound idle =
+      let its = node_of basis now (job ∷ jobs) values job sound (here job jobs) in
+      absurd (true≢false (sym its.is.running ∙ all_at (λ (node : Node). node.running ≡ false) now.nodes its.node idle its.there))
+
+  pub idle_is_sound : IdleIsSound app
+  idle_is_sound now jobs values sound idle =
+      let alone = subst (λ jobs. IsSound app now jobs values) (no_job now jobs values sound idle) sound in
+      subst (IsSound app now []) (whole_is_home now values alone).1 alone
 
   -- the end of a run that is there
   sequential_end : (start : Progress V) (cells : List V) (now : Progress V) (state : State V) (rest : IsAtRest app start cells state now) (run : Option (Execution V))
