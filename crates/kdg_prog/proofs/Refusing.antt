@@ -21,7 +21,7 @@ use Rattle.kdg_prog.specs.declared.words.Options.{Options}
 use Rattle.kdg_prog.specs.Answer.{answer_of, answer_by_deck, answer_by_end, operator_of, print_of, print_of_finals, simulation_of, start_for, tasks_line, whole_print}
 use Rattle.kdg_prog.specs.Refusals.{IsRefusal, AnswersSerial}
 
-refusal_from_fault : (options : Options) (input : List ℕ) (deck : Deck) (fault : SerialFault) (answer : Status) → deck_of input ≡ Ok deck
+pub refusal_from_fault : (options : Options) (input : List ℕ) (deck : Deck) (fault : SerialFault) (answer : Status) → deck_of input ≡ Ok deck
     → IsFault (operator_of options deck) options.budget (start_for options deck) fault → AnswersSerial fault answer → IsRefusal options input answer
 refusal_from_fault options input deck (Budget created limit) answer spelled over told =
     inr (inl (record {

@@ -8,13 +8,14 @@ ghost use Rattle.kdg_prog.specs.Refusals.{IsRefusal};
 ghost use Rattle.kdg_prog.specs.Words.{IsAllowed, options_of};
 
 use crate::{Options, Status, read_words};
-use app_laws::{Finals, serial};
+use app_laws::{Finals, execution_laws, serial};
 use bench_reader::read_deck;
 use cell_store::value_laws;
 use kdg_text::{NoRoom, Text, push_u64};
 use logic_sim::Circuit;
 use outer_edge::{CleanSink, CleanSource, Sink, Source, read_all, write_whole};
 use std::alloc::Global;
+use task_order::put_in_laws;
 
 /// How many bytes an input may have.
 pub(crate) const INPUT_BOUND: u64 = 16_777_216;
@@ -91,19 +92,27 @@ pub fn run_in_memory(
     run_plain(alloc, options, source, sink)
 }
 
-/// The print for an input, or why there is none. The input is dropped before the execution.
+/// The print for an input, or why there is none. The input is dropped before the execution. Where
+/// the first tasks alone are too many, none of them is made.
 fn print_of(alloc: Global, options: &Options, input: Text) -> Result<Text, Status>
     requires { IsAllowed options.now }
     ensures print { IfOk result (λ bytes. answer_of options.now input ≡ whole_print bytes) }
     ensures refusal { IfErr result (IsRefusal options.now input) }
 {
     value_laws::<u8>();
+    execution_laws::<u8>();
+    put_in_laws();
     let deck = read_deck(alloc, input.bytes())?;
     drop(input);
     let circuit = Circuit::new(alloc, deck, options.until)?;
+    let created = circuit.first_task_count();
+    let limit = options.budget;
+    if created > limit {
+        return Err(Status::Budget { created, limit });
+    }
     let cells = circuit.first_cells()?;
     let tasks = circuit.first_tasks()?;
-    let finals = serial(alloc, &circuit, cells, tasks, options.budget)?;
+    let finals = serial(alloc, &circuit, cells, tasks, limit)?;
     Ok(finals_print(&circuit, finals)?)
 }
 
