@@ -3,7 +3,7 @@ use Rattle.std.proofs.Common.{◌≡◌, ℕ, suc, ◌+◌, ◌≤◌, Option, S
 use Rattle.std.specs.Prelude.{Contains, IsSome, filter, option_map}
 use Rattle.std.specs.Ordering.{is_lt}
 use Rattle.std.proofs.lemmas.Bool.{true≢false}
-use Rattle.std.proofs.lemmas.List.{length-append, length-map, map-append}
+use Rattle.std.proofs.lemmas.List.{append-nil, length-append, length-map, map-append}
 use Rattle.task_order.specs.Key.{key_cmp}
 use Rattle.task_order.specs.declared.task.Task.{Task}
 use Rattle.rw_sets.specs.Accesses.{Accesses, conflicts_with}
@@ -104,16 +104,12 @@ module _ {V : Type 0} (app : Application V) (cells : List (Cell V)) (nodes : Lis
     pub all_renewed : whole ≡ [] → changes ≡ renewals app cells nodes ended
     all_renewed none =
         let rest : renewal.after ≡ [] = nothing renewal.after (sym none ∙ renewal.left_are) in
-        let all : affected ≡ renewal.before = renewal.all ∙ ap (λ rest. renewal.before ++ rest) rest ∙ append_nothing renewal.before in
+        let all : affected ≡ renewal.before = renewal.all ∙ ap (λ rest. renewal.before ++ rest) rest ∙ append-nil renewal.before in
         renewal.changes_are ∙ ap (map change_of) (sym all)
       where
         nothing : (after : List Node) → [] ≡ ids_of after → after ≡ []
         nothing [] is = refl
         nothing (node ∷ after) is = cc
-
-        append_nothing : (list : List Node) → list ++ [] ≡ list
-        append_nothing [] = refl
-        append_nothing (node ∷ list) = ap (λ rest. node ∷ rest) (append_nothing list)
 
     module _ (id : NodeId) (left : List NodeId) (is : whole ≡ id ∷ left) (ids : NodesHaveIds) (graph : IsGraph nodes) where
       next : IsNext id left renewal.after
