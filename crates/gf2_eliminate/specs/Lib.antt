@@ -1,0 +1,4 @@
+pub mod Lines
+pub mod Elimination
+pub mod Membership
+pub mod Lawful
