@@ -1,0 +1,6 @@
+pub mod Sums
+pub mod Planning
+pub mod Held
+pub mod Effects
+pub mod Marking
+pub mod Found

@@ -45,7 +45,7 @@ out_is : (cell : Cell Line2) → is_out cell ≡ true → cell ≡ Out
 out_is (Home line) out = absurd (true≢false (sym out))
 out_is Out out = refl
 
-number_within : {rows : ℕ} (line : Line2) (number : ℕ) → IsColumn rows line → IsIn (numbers_in line) number → (1 ≤ number) × (number ≤ rows)
+pub number_within : {rows : ℕ} (line : Line2) (number : ℕ) → IsColumn rows line → IsIn (numbers_in line) number → (1 ≤ number) × (number ≤ rows)
 number_within (Row numbers used) number column there = absurd column
 number_within {rows} (Col numbers) number column there = all_in (λ n. (1 ≤ n) × (n ≤ rows)) numbers number column.within there
 
@@ -108,10 +108,10 @@ module _ (rows columns : ℕ) where
         | inr shared ↦ OfColumn (loc - rows) (omega arith) (omega arith) (shared_found cells column (loc - rows) shared)
       ]
 
-  some_from_named : (column : ℕ) (cells : List Line2) (loc : ℕ) → column < columns → IsNamed column cells loc → IsSome (access_at (set_of rows columns column cells) loc)
+  pub some_from_named : (column : ℕ) (cells : List Line2) (loc : ℕ) → column < columns → IsNamed column cells loc → IsSome (access_at (set_of rows columns column cells) loc)
   some_from_named column cells loc within named = rw (written_from_named column cells loc within named) refl
 
-  writes_from_named : (column : ℕ) (cells : List Line2) (loc : ℕ) → column < columns → IsNamed column cells loc → IsTrue (writes (set_of rows columns column cells) loc)
+  pub writes_from_named : (column : ℕ) (cells : List Line2) (loc : ℕ) → column < columns → IsNamed column cells loc → IsTrue (writes (set_of rows columns column cells) loc)
   writes_from_named column cells loc within named = rw (written_from_named column cells loc within named) refl
 
   some_from_writes : (set : Accesses) (loc : ℕ) → IsTrue (writes set loc) → IsSome (access_at set loc)
@@ -124,7 +124,7 @@ module _ (rows columns : ℕ) where
   pub cells_are_counted : CellsAreCounted (elimination rows columns)
   cells_are_counted cells fit = fit.count
 
-  set_ascending : (column : ℕ) (cells : List Line2) → IsAscending (set_of rows columns column cells)
+  pub set_ascending : (column : ℕ) (cells : List Line2) → IsAscending (set_of rows columns column cells)
   set_ascending column cells =
       ascending_writing (filter (is_touched rows columns column cells) (numbers_from 0 (rows + columns)))
       (ascending_filter nat_cmp (is_touched rows columns column cells) (numbers_from 0 (rows + columns)) (ascending_numbers 0 (rows + columns)))
@@ -228,7 +228,7 @@ module _ (rows columns : ℕ) where
 
   -- what a task leaves as it was
   module _ (column pivot : ℕ) (cells : List Line2) (fit : AreLines rows columns cells) (below : pivot < rows) (held : holds cells pivot column ≡ true) where
-    row_stays : (row : ℕ) → row < rows → holds cells row column ≡ false → line_after rows columns column pivot cells row ≡ line_at cells row
+    pub row_stays : (row : ℕ) → row < rows → holds cells row column ≡ false → line_after rows columns column pivot cells row ≡ line_at cells row
     row_stays row row-below free =
         let other-row : (row == pivot) ≡ false = ne_eqb row pivot (λ same. true≢false (sym held ∙ ap (λ r. holds cells r column) (sym same) ∙ free)) in
         after_row column pivot cells row row-below
@@ -238,7 +238,7 @@ module _ (rows columns : ℕ) where
         ∙ ap (Row (listed columns (holds cells row))) (or_none (is_used (line_at cells row)))
         ∙ sym (row_is columns (holds cells row) (line_at cells row) (fit.each_row row row-below) (λ n n-below. refl))
 
-    column_stays : (other : ℕ) → other < columns → holds cells pivot other ≡ false → line_after rows columns column pivot cells (rows + other) ≡ line_at cells (rows + other)
+    pub column_stays : (other : ℕ) → other < columns → holds cells pivot other ≡ false → line_after rows columns column pivot cells (rows + other) ≡ line_at cells (rows + other)
     column_stays other other-below free =
         after_column column pivot cells other
         ∙ ap Col (listed_same rows (λ row. holds_after rows columns column pivot cells row other) (λ row. holds cells row other)
@@ -406,17 +406,17 @@ module _ (rows columns : ℕ) where
 
   -- cells of which some are out, that agree with lines
   module _ (column : ℕ) (cells : List (Cell Line2)) (values : List Line2) (fit : AreLines rows columns values) (within : column < columns) (agrees : AgreesWith cells values) where
-    home_is : (loc : ℕ) (line : Line2) → loc < rows + columns → cell_at cells loc ≡ Home line → line ≡ line_at values loc
+    pub home_is : (loc : ℕ) (line : Line2) → loc < rows + columns → cell_at cells loc ≡ Home line → line ≡ line_at values loc
     home_is loc line below home =
         let here : IsHome (cell_at cells loc) = subst (λ cell. IsHome cell) (sym home) tt in
         let same : Home line ≡ Home (line_at values loc) = sym home ∙ agrees.each loc here ∙ get_or-map Home values loc no_line Out (omega (arith, fit.count)) in
         (cc)
 
-    shown_is : (loc : ℕ) → loc < rows + columns → line_at (map shown cells) loc ≡ shown (cell_at cells loc)
+    pub shown_is : (loc : ℕ) → loc < rows + columns → line_at (map shown cells) loc ≡ shown (cell_at cells loc)
     shown_is loc below = get_or-map shown cells loc Out no_line (omega (arith, fit.count, agrees.as_many))
 
     -- a row without a one in the column may be out
-    row_shown : (row : ℕ) (cell : Cell Line2) → row < rows → cell_at cells row ≡ cell → (holds values row column ≡ true → is_out cell ≡ false)
+    pub row_shown : (row : ℕ) (cell : Cell Line2) → row < rows → cell_at cells row ≡ cell → (holds values row column ≡ true → is_out cell ≡ false)
         → (holds values row column ≡ holds (map shown cells) row column) × (holds values row column ≡ true → line_at values row ≡ line_at (map shown cells) row)
     row_shown row (Home line) below is home =
         let same : line_at values row ≡ line_at (map shown cells) row = sym (home_is row line (omega arith) is) ∙ ap shown (sym is) ∙ sym (shown_is row (omega arith)) in
@@ -431,7 +431,7 @@ module _ (rows columns : ℕ) where
       column_held row below = ap (λ l. has (numbers_in l) (suc row)) (home_is (rows + column) line (omega arith) asked) ∙ sym (fit.agree row column below within)
 
       -- a row that is needed is one of those in the column
-      needed_row : (loc : ℕ) → IsIn (map (λ row. row - 1) (numbers_in line)) loc → (loc < rows) × (holds values loc column ≡ true)
+      pub needed_row : (loc : ℕ) → IsIn (map (λ row. row - 1) (numbers_in line)) loc → (loc < rows) × (holds values loc column ≡ true)
       needed_row loc there =
           let found = from_map (λ row. row - 1) (numbers_in line) loc there in
           let list = subst (IsColumn rows) (sym (home_is (rows + column) line (omega arith) asked)) (fit.each_column column within) in
@@ -440,11 +440,23 @@ module _ (rows columns : ℕ) where
           let number : found.0 ≡ suc loc = omega (arith, found.2, row-within.0) in
           (below, sym (column_held loc below) ∙ has_in (numbers_in line) (suc loc) (subst (IsIn (numbers_in line)) number found.1))
 
-      row_needed : (row : ℕ) → row < rows → holds values row column ≡ true → IsIn (map (λ row. row - 1) (numbers_in line)) row
+      pub row_needed : (row : ℕ) → row < rows → holds values row column ≡ true → IsIn (map (λ row. row - 1) (numbers_in line)) row
       row_needed row below held =
           let there = in_map (λ r. r - 1) (numbers_in line) (suc row) (in_has (numbers_in line) (suc row) (column_held row below ∙ held)) in
           let same : suc row - 1 ≡ row = omega arith in
           subst (IsIn (map (λ r. r - 1) (numbers_in line))) same there
+
+      pub row_home : first_of (filter (λ loc. is_out (cell_at cells loc)) (map (λ row. row - 1) (numbers_in line))) ≡ None
+          → (row : ℕ) → row < rows → holds values row column ≡ true → is_out (cell_at cells row) ≡ false
+      row_home none row below held = none_found (λ l. is_out (cell_at cells l)) (map (λ r. r - 1) (numbers_in line)) row none (row_needed row below held)
+
+      -- where no row that is needed is out, what is home has the set
+      pub shown_set : first_of (filter (λ loc. is_out (cell_at cells loc)) (map (λ row. row - 1) (numbers_in line))) ≡ None
+          → set_of rows columns column values ≡ set_of rows columns column (map shown cells)
+      shown_set none =
+          set_same column values (map shown cells)
+          (λ row below. (row_shown row (cell_at cells row) below refl (row_home none row below)).0)
+          (λ row below. (row_shown row (cell_at cells row) below refl (row_home none row below)).1)
 
       answer_is : (first : Option ℕ) → first_of (filter (λ loc. is_out (cell_at cells loc)) (map (λ row. row - 1) (numbers_in line))) ≡ first
           → IsTrueAnswer (elimination rows columns) (set_of rows columns column values) cells (unless_out rows columns first column cells)
@@ -452,12 +464,7 @@ module _ (rows columns : ℕ) where
           let found = first_found (λ l. is_out (cell_at cells l)) (map (λ row. row - 1) (numbers_in line)) loc is in
           let row = needed_row loc found.0 in
           (out_is (cell_at cells loc) found.1, some_from_named column values loc within (OfRow row.0 row.1))
-      answer_is None is =
-          let rows-home : (row : ℕ) → row < rows → holds values row column ≡ true → is_out (cell_at cells row) ≡ false =
-          λ row below held. none_found (λ l. is_out (cell_at cells l)) (map (λ r. r - 1) (numbers_in line)) row is (row_needed row below held) in
-          sym (set_same column values (map shown cells)
-          (λ row below. (row_shown row (cell_at cells row) below refl (rows-home row below)).0)
-          (λ row below. (row_shown row (cell_at cells row) below refl (rows-home row below)).1))
+      answer_is None is = sym (shown_set is)
 
     walk_is_true : (cell : Cell Line2) → cell_at cells (rows + column) ≡ cell → IsTrueAnswer (elimination rows columns) (set_of rows columns column values) cells (walk_from rows columns cell column cells)
     walk_is_true Out is = (is, some_from_named column values (rows + column) within (OfItself refl))

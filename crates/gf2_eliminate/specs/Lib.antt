@@ -1,4 +1,6 @@
 pub mod Lines
 pub mod Elimination
+pub mod Plans
+pub mod Touched
 pub mod Membership
 pub mod Lawful

@@ -3,6 +3,10 @@
 
 mod laws;
 mod line;
+mod matrix;
+mod step;
+mod touched;
 
 pub use laws::elimination_laws;
 pub use line::Line2;
+pub use matrix::Matrix;

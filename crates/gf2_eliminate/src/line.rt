@@ -1,5 +1,10 @@
+ghost use Rattle.std.specs.Prelude.{◌≡◌, ℕ, IfOk};
+ghost use Rattle.gf2_eliminate.specs.Lines.{is_used, numbers_in, IsListTo};
+ghost use Rattle.gf2_eliminate.specs.Plans.{sum_to};
+
 use cell_store::Held;
 use kdg_text::{NoRoom, NumList};
+use std::alloc::Global;
 
 /// A row or a column of a matrix of zeros and ones. Its list has the places of its ones, counted
 /// from 1, in ascending order.
@@ -29,4 +34,51 @@ impl Held for Line2 {
             Line2::Col { rows } => Ok(Line2::Col { rows: rows.copy()? }),
         }
     }
+}
+
+impl Line2 {
+    /// The places of its ones.
+    pub(crate) fn ones(&self) -> &[u32]
+        ensures { result.now ≡ numbers_in self.now }
+    {
+        match self {
+            Line2::Row { cols, .. } => cols.items(),
+            Line2::Col { rows } => rows.items(),
+        }
+    }
+
+    /// Whether it is a row that was the pivot of a column.
+    pub(crate) fn is_used(&self) -> bool
+        ensures { result ≡ is_used self.now }
+    {
+        match self {
+            Line2::Row { used, .. } => *used,
+            Line2::Col { .. } => false,
+        }
+    }
+}
+
+/// The sum of two lines over two elements: what is in exactly one of the two.
+pub(crate) fn sum(alloc: Global, left: &[u32], right: &[u32]) -> Result<NumList, NoRoom>
+    ensures { (bound : ℕ) → IsListTo bound left.now → IsListTo bound right.now →
+        IfOk result (λ sum. sum ≡ sum_to bound left.now right.now) }
+{
+    let mut sum = Vec::new(alloc);
+    let (mut i, mut j) = (0, 0);
+    while i < left.len() && j < right.len() {
+        let (x, y) = (left[i], right[j]);
+        if x < y {
+            sum.push(x)?;
+            i += 1;
+        } else if y < x {
+            sum.push(y)?;
+            j += 1;
+        } else {
+            i += 1;
+            j += 1;
+        }
+    }
+    sum.extend_from_slice(&left[i..])?;
+    sum.extend_from_slice(&right[j..])?;
+    Ok(NumList::from_vec(sum))
 }

@@ -1,0 +1,130 @@
+ghost use Rattle.std.specs.Prelude.{◌≡◌, ◌≤◌, [], IfOk, IfErr};
+ghost use Rattle.mtx_reader.specs.Patterns.{IsPattern};
+
+use crate::Line2;
+use crate::step::{Change, plan, write_lines};
+use crate::touched::{first_out, touched};
+use app_laws::{App, ChildList, Effect, SetAnswer};
+use cell_store::{Bundle, Seen, Store, location_laws, value_laws};
+use kdg_text::{NoRoom, Steps};
+use mtx_reader::Pattern;
+use rw_sets::RwSet;
+use std::alloc::Global;
+use std::marker::Model;
+use std::sync::ledger::Ledger;
+use task_order::{Body, Task, TaskList};
+
+/// A matrix of zeros and ones that is brought to reduced form over the field of two elements. Row
+/// `i`, counted from 1, has its line in cell `i - 1`, and the columns have theirs behind the rows.
+///
+/// The task of column `k` takes the least row that has a one in it and isn't used, the pivot, and
+/// adds it to every other row that has a one there. The pivot is used from then on. A line
+/// `col K row I` says so, or `col K free` where there is no such row.
+#[derive(Drop)]
+pub struct Matrix {
+    alloc: Global,
+    pattern: Pattern,
+}
+
+impl Model for Matrix {
+    ghost use Rattle.mtx_reader.specs.declared.pattern.Pattern.{Pattern};
+    ghost use Rattle.mtx_reader.specs.Patterns.{IsPattern};
+
+    ghost Value = { Pattern };
+
+    ghost view = { λ m. m.pattern };
+
+    ghost invariant = { λ m. IsPattern m.pattern };
+}
+
+impl Matrix {
+    /// The matrix with ones at the places of a pattern. It takes no memory.
+    pub fn new(alloc: Global, pattern: Pattern) -> Matrix
+        requires { IsPattern pattern }
+        ensures { result ≡ pattern }
+    {
+        Matrix { alloc, pattern }
+    }
+}
+
+impl App for Matrix {
+    ghost use Rattle.app_laws.specs.Applications.{IsFitTask, IsTaken, IsEffect};
+    ghost use Rattle.gf2_eliminate.specs.Elimination.{elimination};
+    ghost use Rattle.gf2_eliminate.specs.Lawful as lawful;
+
+    type Val = Line2;
+
+    ghost meaning = { λ pattern. elimination pattern.rows pattern.cols };
+
+    fn cells(&self) -> u32 {
+        self.pattern.rows + self.pattern.cols
+    }
+
+    fn sets<L: Ledger>(
+        &self,
+        body: &Body,
+        store: &Store<Line2>,
+        steps: &mut Steps<L>,
+    ) -> Result<SetAnswer, NoRoom> {
+        steps.tick();
+        let size = (self.pattern.rows, self.pattern.cols);
+        let at = size.0 + body.at;
+        let line = match store.peek(at) {
+            Seen::At(line) => line,
+            Seen::Out => return Ok(SetAnswer::Out(at)),
+        };
+        match first_out(store, line.ones()) {
+            Some(loc) => Ok(SetAnswer::Out(loc)),
+            None => {
+                let pairs = touched(self.alloc, size, body.at, line.ones(), store)?;
+                Ok(SetAnswer::Known(RwSet::from_pairs(pairs)))
+            }
+        }
+    }
+
+    fn safe(&self, _task: &Task, _pending: &TaskList) -> bool {
+        true
+    }
+
+    fn run(&self, task: &Task, bundle: Bundle<Line2>) -> Result<Effect<Line2>, Bundle<Line2>>
+        requires fit { IsFitTask (elimination self.now.rows self.now.cols) task.now }
+        requires cells { IsTaken (elimination self.now.rows self.now.cols) task.now bundle }
+        ensures effect { IfOk result (IsEffect (elimination self.now.rows self.now.cols) task.now bundle) }
+        ensures returned { IfErr result (λ back. back ≡ bundle) }
+    {
+        location_laws::<Line2>();
+        value_laws::<Line2>();
+        let mut bundle = bundle;
+        match plan(self.alloc, self.pattern.rows, task.body.at, &bundle) {
+            Err(_) => Err(bundle),
+            Ok(Change { lines, text }) => {
+                write_lines(&mut bundle, lines);
+                Ok(Effect {
+                    bundle,
+                    children: ChildList::new(self.alloc),
+                    text,
+                })
+            }
+        }
+    }
+
+    ghost cells_are_counted = { λ pattern. lawful.cells_are_counted pattern.rows pattern.cols };
+
+    ghost sets_are_in_range = { λ pattern. lawful.sets_are_in_range pattern.rows pattern.cols };
+
+    ghost acts_are_fit = { λ pattern. lawful.acts_are_fit pattern.rows pattern.cols };
+
+    ghost sets_are_local = { λ pattern. lawful.sets_are_local pattern.rows pattern.cols };
+
+    ghost acts_are_local = { λ pattern. lawful.acts_are_local pattern.rows pattern.cols };
+
+    ghost children_come_no_earlier = { λ pattern. lawful.children_come_no_earlier pattern.rows pattern.cols };
+
+    ghost sets_stay_within = { λ pattern. lawful.sets_stay_within pattern.rows pattern.cols };
+
+    ghost walks_are_true = { λ pattern. lawful.walks_are_true pattern.rows pattern.cols };
+
+    ghost safe_alone = { λ pattern. lawful.safe_alone pattern.rows pattern.cols };
+
+    ghost safe_tasks_stay_safe = { λ pattern. lawful.safe_tasks_stay_safe pattern.rows pattern.cols };
+}
