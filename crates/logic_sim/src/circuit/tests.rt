@@ -64,6 +64,18 @@ fn c17_starts_with_its_gates(rt: HostRuntime) -> Result<(), Fail> {
     Ok(())
 }
 
+/// What a deck's tasks write, the print of its cells at the end, and the number of tasks.
+fn outcome(
+    rt: &impl Abort,
+    alloc: Global,
+    deck: &[u8],
+    until: u64,
+) -> Result<(Text, Text, u64), Fail> {
+    let circuit = circuit_of(rt, alloc, deck, until)?;
+    let (finals, last_lines) = run(alloc, &circuit, 100)?;
+    Ok((finals.log.all()?, last_lines, finals.count))
+}
+
 #[test]
 fn circuits_run_to_their_end(rt: HostRuntime) -> Result<(), Fail> {
     let rows: [(&[u8], u64, &[u8], &[u8], u64); 7] = [
@@ -111,11 +123,10 @@ fn circuits_run_to_their_end(rt: HostRuntime) -> Result<(), Fail> {
         (b"", 1000, b"", b"", 0),
     ];
     for (deck, until, log, last_lines, count) in rows {
-        let circuit = circuit_of(&rt, rt.alloc(), deck, until)?;
-        let (finals, last_text) = run(rt.alloc(), &circuit, 100)?;
-        assert_eq!(rt; finals.log.all()?.bytes(), log);
+        let (log_text, last_text, tasks) = outcome(&rt, rt.alloc(), deck, until)?;
+        assert_eq!(rt; log_text.bytes(), log);
         assert_eq!(rt; last_text.bytes(), last_lines);
-        assert_eq!(rt; finals.count, count);
+        assert_eq!(rt; tasks, count);
     }
     Ok(())
 }
