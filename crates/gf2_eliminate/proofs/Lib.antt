@@ -4,3 +4,5 @@ pub mod Held
 pub mod Effects
 pub mod Marking
 pub mod Found
+pub mod Printing
+pub mod FirstCells

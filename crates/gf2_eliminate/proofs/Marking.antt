@@ -14,7 +14,7 @@ numbers_more first (suc count) =
     let same : suc first + count ≡ first + suc count = omega arith in
     ap (λ ns. first ∷ ns) (numbers_more (suc first) count ∙ ap (λ n. numbers_from (suc first) count ++ n ∷ []) same)
 
-numbers_to : (count : ℕ) → numbers_from 0 (count + 1) ≡ numbers_from 0 count ++ count ∷ []
+pub numbers_to : (count : ℕ) → numbers_from 0 (count + 1) ≡ numbers_from 0 count ++ count ∷ []
 numbers_to count = let same : 0 + count ≡ count = omega arith in rw add-one (numbers_more 0 count ∙ ap (λ n. numbers_from 0 count ++ n ∷ []) same)
 
 module _ (front : List ℕ) (f : ℕ → ℕ) (test : ℕ → Bool) (j : ℕ) where

@@ -4,3 +4,4 @@ pub mod Plans
 pub mod Touched
 pub mod Membership
 pub mod Lawful
+pub mod Start

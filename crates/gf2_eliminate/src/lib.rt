@@ -1,12 +1,17 @@
 //! Elimination over the field of two elements as an ordered application, whose sets move.
 #![tactic(auto)]
 
+mod finals;
 mod laws;
 mod line;
 mod matrix;
+mod start;
 mod step;
 mod touched;
 
 pub use laws::elimination_laws;
 pub use line::Line2;
 pub use matrix::Matrix;
+
+#[cfg(test)]
+mod tests;

@@ -1,6 +1,7 @@
-ghost use Rattle.std.specs.Prelude.{◌≡◌, ℕ, IfOk};
+ghost use Rattle.std.specs.Prelude.{◌≡◌, ℕ, IfOk, OnOk};
 ghost use Rattle.gf2_eliminate.specs.Lines.{is_used, numbers_in, IsListTo};
 ghost use Rattle.gf2_eliminate.specs.Plans.{sum_to};
+ghost use Rattle.gf2_eliminate.specs.Start.{with_number};
 
 use cell_store::Held;
 use kdg_text::{NoRoom, NumList};
@@ -54,6 +55,16 @@ impl Line2 {
         match self {
             Line2::Row { used, .. } => *used,
             Line2::Col { .. } => false,
+        }
+    }
+
+    /// Adds a number at the end of its list.
+    pub(crate) fn push(&mut self, number: u32) -> Result<(), NoRoom>
+        ensures { OnOk result (self.new ≡ with_number self.old number) }
+    {
+        match self {
+            Line2::Row { cols, .. } => cols.push(number),
+            Line2::Col { rows } => rows.push(number),
         }
     }
 }

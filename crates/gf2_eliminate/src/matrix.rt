@@ -1,18 +1,25 @@
-ghost use Rattle.std.specs.Prelude.{◌≡◌, ◌≤◌, [], IfOk, IfErr};
+ghost use Rattle.std.specs.Prelude.{◌≡◌, ◌<◌, ◌^◌, length, IfOk, IfErr};
+ghost use Rattle.cell_store.specs.Values.{homes, values_of};
+ghost use Rattle.app_laws.specs.Applications.{AreFitStarts};
 ghost use Rattle.mtx_reader.specs.Patterns.{IsPattern};
+ghost use Rattle.gf2_eliminate.specs.Elimination.{elimination};
+ghost use Rattle.gf2_eliminate.specs.Lines.{AreLines};
+ghost use Rattle.gf2_eliminate.specs.Start.{finals_of, start_cells, start_tasks};
 
 use crate::Line2;
+use crate::finals::finals;
+use crate::start::{first_cells, first_tasks};
 use crate::step::{Change, plan, write_lines};
 use crate::touched::{first_out, touched};
 use app_laws::{App, ChildList, Effect, SetAnswer};
 use cell_store::{Bundle, Seen, Store, location_laws, value_laws};
-use kdg_text::{NoRoom, Steps};
+use kdg_text::{NoRoom, Steps, Text};
 use mtx_reader::Pattern;
 use rw_sets::RwSet;
 use std::alloc::Global;
 use std::marker::Model;
 use std::sync::ledger::Ledger;
-use task_order::{Body, Task, TaskList};
+use task_order::{Body, StartList, Task, TaskList};
 
 /// A matrix of zeros and ones that is brought to reduced form over the field of two elements. Row
 /// `i`, counted from 1, has its line in cell `i - 1`, and the columns have theirs behind the rows.
@@ -45,11 +52,37 @@ impl Matrix {
     {
         Matrix { alloc, pattern }
     }
+
+    /// The cells at the start: the lines of the matrix, and no row is used.
+    pub fn first_cells(&self) -> Result<Vec<Line2>, NoRoom>
+        ensures cells { IfOk result (λ cells. cells.items ≡ start_cells self.now) }
+        ensures fit { IfOk result (λ cells. AreLines self.now.rows self.now.cols cells.items) }
+    {
+        first_cells(self.alloc, &self.pattern)
+    }
+
+    /// The first tasks: one for each column, at the priority of its number, which counts from 1.
+    pub fn first_tasks(&self) -> Result<StartList, NoRoom>
+        ensures tasks { IfOk result (λ tasks. tasks ≡ start_tasks self.now) }
+        ensures fit { IfOk result (AreFitStarts (elimination self.now.rows self.now.cols)) }
+        ensures few { IfOk result (λ tasks. length tasks < 2 ^ 32) }
+    {
+        first_tasks(self.alloc, self.pattern.cols)
+    }
+
+    /// A line `row I` for each row, with the columns of its ones, and a line `rank R`, where `R` is
+    /// the number of rows that are used.
+    pub fn print_finals(&self, store: &Store<Line2>) -> Result<Text, NoRoom>
+        requires home { store.now ≡ homes (values_of store.now) }
+        requires fit { AreLines self.now.rows self.now.cols (values_of store.now) }
+        ensures { IfOk result (λ text. text ≡ finals_of self.now.rows (values_of store.now)) }
+    {
+        finals(self.alloc, self.pattern.rows, store)
+    }
 }
 
 impl App for Matrix {
     ghost use Rattle.app_laws.specs.Applications.{IsFitTask, IsTaken, IsEffect};
-    ghost use Rattle.gf2_eliminate.specs.Elimination.{elimination};
     ghost use Rattle.gf2_eliminate.specs.Lawful as lawful;
 
     type Val = Line2;
