@@ -105,8 +105,13 @@ kept-no_more p (x ∷ xs) =
 -- and there are few of them
 pub start_tasks-few : (file : MeshFile) → IsMesh file → length (start_tasks file) < 2 ^ 32
 start_tasks-few file is =
-    omega (arith, length-map (stepping_among file (length file.springs)) (first_step file), kept-no_more (λ number. nat_le (spring_at file number).h file.end) (range_with_len 0 (length file.springs)),
-    length-range_with_len 0 (length file.springs), is.spring_count)
+    omega (
+      arith,
+      length-map (stepping_among file (length file.springs)) (first_step file),
+      kept-no_more (λ number. nat_le (spring_at file number).h file.end) (range_with_len 0 (length file.springs)),
+      length-range_with_len 0 (length file.springs),
+      is.spring_count,
+    )
 
 -- the node that is seen at a location
 pub seen_node : (store : List (Cell MeshNode)) (number : ℕ) (node : MeshNode) → HomesByLocation MeshNode → HomesAreValues MeshNode → AreAllHome store → number < length (values_of store)

@@ -77,12 +77,12 @@ pub speed_found : (op : ℤ → ℤ → ℤ) (spring : Spring) (rest from to mas
     → narrow found ≡ clamped (op speed (change_by (impulse spring rest from to) mass))
 speed_found op spring rest from to mass speed given changed found rest-in from-in to-in mass-is speed-in given-fits changed-fits found-fits given-is changed-is found-is =
     let given-so : wide given ≡ impulse spring rest from to =
-        to_z-of_z w128 given given-fits ∙ given-is
-        ∙ ap (λ n. impulse spring n (narrow from) (narrow to)) (narrow_in_reach rest rest-in)
-        ∙ ap (λ n. impulse spring rest n (narrow to)) (narrow_in_reach from from-in)
-        ∙ ap (λ n. impulse spring rest from n) (narrow_in_reach to to-in) in
+    to_z-of_z w128 given given-fits ∙ given-is
+    ∙ ap (λ n. impulse spring n (narrow from) (narrow to)) (narrow_in_reach rest rest-in)
+    ∙ ap (λ n. impulse spring rest n (narrow to)) (narrow_in_reach from from-in)
+    ∙ ap (λ n. impulse spring rest from n) (narrow_in_reach to to-in) in
     let changed-so : wide changed ≡ change_by (impulse spring rest from to) mass =
-        to_z-of_z w128 changed changed-fits ∙ changed-is ∙ ap (λ n. change_by n (narrow mass)) given-so ∙ ap (λ n. change_by (impulse spring rest from to) n) (narrow_mass mass mass-is) in
+    to_z-of_z w128 changed changed-fits ∙ changed-is ∙ ap (λ n. change_by n (narrow mass)) given-so ∙ ap (λ n. change_by (impulse spring rest from to) n) (narrow_mass mass mass-is) in
     to_z-of_z w64 found found-fits ∙ found-is ∙ ap (λ n. clamped (op n (wide changed))) (narrow_in_reach speed speed-in) ∙ ap (λ n. clamped (op speed n)) changed-so
 
 -- nodes are the same where their parts are

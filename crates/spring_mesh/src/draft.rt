@@ -23,6 +23,7 @@ pub(crate) struct Draft {
 }
 
 impl Draft {
+    /// Nothing yet.
     pub(crate) fn new(alloc: Global) -> Draft
         ensures { result ≡ record { nodes = []; masses = []; springs = []; end = None } }
     {

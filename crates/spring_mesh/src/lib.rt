@@ -13,6 +13,3 @@ mod statement;
 pub use file::{MassList, MeshFile, MeshNode, MeshNodeList, Spring, SpringList};
 pub use mesh::Mesh;
 pub use reader::read_mesh;
-
-#[cfg(test)]
-mod tests;

@@ -264,3 +264,6 @@ fn children(alloc: Global, end: u64, task: &Task, spring: &Spring) -> Result<Chi
     }
     Ok(children)
 }
+
+#[cfg(test)]
+mod tests;

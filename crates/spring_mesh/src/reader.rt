@@ -33,3 +33,6 @@ fn file_in(alloc: Global, input: &[u8]) -> Result<MeshFile, ReadFail>
     }
     draft.file(lines.number())
 }
+
+#[cfg(test)]
+mod tests;

@@ -150,6 +150,7 @@ fn coordinate(word: &[u8]) -> Result<i64, LineFault>
     }
 }
 
+/// How hard a spring pulls.
 fn stiffness(word: &[u8]) -> Result<i64, LineFault>
     ensures { result ≡ stiffness_of word.now }
 {
