@@ -9,3 +9,4 @@ pub mod Members
 pub mod LookUps
 pub mod Neighbours
 pub mod Rewritten
+pub mod Counting

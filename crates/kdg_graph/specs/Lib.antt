@@ -5,3 +5,4 @@ pub mod Rewrite
 pub mod Listing
 pub mod Laws
 pub mod NodeStock
+pub mod Blockers
