@@ -1,9 +1,11 @@
 -- The counts of the earlier sets in conflict, when a set comes, goes or changes.
-use Rattle.std.proofs.Common.{◌≡◌, ℕ, zero, suc, ◌+◌, ◌-◌, ◌<◌, ◌≤◌, Bool, true, false, cond, List, [], ◌∷◌, length, take, get_or, set, map, refl, sym, ◌∙◌, ap, subst, arith, add-one}
-use Rattle.std.specs.List.{AllByRecursion, insert, remove}
+use Rattle.std.proofs.Common.{◌≡◌, ℕ, zero, suc, ◌+◌, ◌-◌, ◌<◌, ◌≤◌, Bool, true, false, not, ◌==◌, ◌||◌, cond, List, [], ◌∷◌, length, take, get_or, set, map, refl, sym, ◌∙◌, ap, subst, arith, add-one}
+use Rattle.std.specs.List.{AllByRecursion, insert, list_any, remove}
 use Rattle.std.proofs.lemmas.List.Sums.{count_by-le-length, sum_by-cons}
 use Rattle.rw_sets.specs.Accesses.{Accesses, conflicts_with}
+use Rattle.kdg_graph.specs.declared.node_id.NodeId.{NodeId}
 use Rattle.kdg_graph.specs.Node.{Node}
+use Rattle.kdg_graph.specs.Nodes.{is_at, started}
 use Rattle.kdg_graph.specs.Blockers.{adjusted, blockers_behind, clashes, lowered, raised, sets_of}
 
 -- ---- the sets of nodes
@@ -25,6 +27,30 @@ set_at (node ∷ nodes) (suc place) d = set_at nodes place d
 
 pub set_there : (nodes : List Node) (place : ℕ) (node : Node) → node ≡ get_or nodes place node → get_or (sets_of nodes) place node.set ≡ node.set
 set_there nodes place node here = set_at nodes place node ∙ sym (ap (λ (n : Node). n.set) here)
+
+pub sets-insert : (new : Node) (nodes : List Node) (place : ℕ) → sets_of (insert nodes place new) ≡ insert (sets_of nodes) place new.set
+sets-insert new [] place = elim place as (λ n. sets_of (insert [] n new) ≡ insert (sets_of []) n new.set) [ zero ↦ refl | suc n ↦ refl ]
+sets-insert new (node ∷ nodes) zero = refl
+sets-insert new (node ∷ nodes) (suc place) = ap (λ rest. node.set ∷ rest) (sets-insert new nodes place)
+
+pub sets-remove : (nodes : List Node) (place : ℕ) → sets_of (remove nodes place) ≡ remove (sets_of nodes) place
+sets-remove [] place = elim place as (λ n. sets_of (remove [] n) ≡ remove (sets_of []) n) [ zero ↦ refl | suc n ↦ refl ]
+sets-remove (node ∷ nodes) zero = refl
+sets-remove (node ∷ nodes) (suc place) = ap (λ rest. node.set ∷ rest) (sets-remove nodes place)
+
+pub sets-set : (new : Node) (nodes : List Node) (place : ℕ) → sets_of (set nodes place new) ≡ set (sets_of nodes) place new.set
+sets-set new [] place = elim place as (λ n. sets_of (set [] n new) ≡ set (sets_of []) n new.set) [ zero ↦ refl | suc n ↦ refl ]
+sets-set new (node ∷ nodes) zero = refl
+sets-set new (node ∷ nodes) (suc place) = ap (λ rest. node.set ∷ rest) (sets-set new nodes place)
+
+-- a node that starts keeps its set
+start_keeps : (test : Bool) (node : Node) → (let n : Node = cond test (record node { running = true }) node in n.set) ≡ node.set
+start_keeps true node = refl
+start_keeps false node = refl
+
+pub sets-started : (id : NodeId) (nodes : List Node) → sets_of (started id nodes) ≡ sets_of nodes
+sets-started id [] = refl
+sets-started id (node ∷ nodes) = λ i. start_keeps (is_at id node) node i ∷ sets-started id nodes i
 
 -- ---- the counts as a list
 
@@ -193,3 +219,27 @@ step_passed change from by nodes counts now i node up inside each so_far here is
 
 pub none_yet : (change : ℕ → ℕ) (from : ℕ) (by : Accesses) (nodes : List Node) (counts : List ℕ) → length counts ≡ length nodes → counts ≡ adjusted change from by (take from (sets_of nodes)) counts
 none_yet change from by nodes counts each = sym (adjusted-none change from by (sets_of nodes) counts (omega (arith, each, length-sets nodes)))
+
+-- ---- a node's own count
+
+own_count : (before sets : List Accesses) (place d : ℕ) (e : Accesses) → place < length sets → get_or (blockers_behind before sets) place d ≡ clashes (take place sets) (get_or sets place e) + clashes before (get_or sets place e)
+own_count before [] place d e inside = absurd (omega (arith, inside))
+own_count before (x ∷ sets) zero d e inside = omega arith
+own_count before (x ∷ sets) (suc place) d e inside = omega (arith, own_count (x ∷ before) sets place d e (omega (arith, inside)), clashes-cons x (take place sets) (get_or sets place e), clashes-cons x before (get_or sets place e))
+
+none_by : (test : Bool) (n more : ℕ) (others : Bool) → more ≡ cond test 1 0 + n → (n == 0) ≡ not others → (more == 0) ≡ not (test || others)
+none_by true n more others is rest = grind (arith, is)
+none_by false n more others is rest = ap (λ k. k == 0) (omega (arith, is)) ∙ rest
+
+-- no set of the nodes conflicts where none is counted
+none_clash : (nodes : List Node) (later : Accesses) → (clashes (sets_of nodes) later == 0) ≡ not (list_any (λ other. conflicts_with other.set later) nodes)
+none_clash [] later = refl
+none_clash (node ∷ nodes) later = none_by (conflicts_with node.set later) (clashes (sets_of nodes) later) (clashes (sets_of (node ∷ nodes)) later) _ (clashes-cons node.set (sets_of nodes) later) (none_clash nodes later)
+
+pub unblocked_at : (nodes : List Node) (counts : List ℕ) (at count d : ℕ) (node : Node) → at < length nodes → counts ≡ blockers_behind [] (sets_of nodes) → node ≡ get_or nodes at node → count ≡ get_or counts at d
+    → (count == 0) ≡ not (list_any (λ other. conflicts_with other.set node.set) (take at nodes))
+unblocked_at nodes counts at count d node inside kept here is =
+    let own = own_count [] (sets_of nodes) at d node.set (omega (arith, inside, length-sets nodes)) in
+    let seen : count ≡ get_or (blockers_behind [] (sets_of nodes)) at d = is ∙ ap (λ l. get_or l at d) kept in
+    let whole : count ≡ clashes (take at (sets_of nodes)) (get_or (sets_of nodes) at node.set) = omega (arith, seen, own) in
+    ap (λ n. n == 0) (whole ∙ (λ i. clashes (sym (sets-take at nodes) i) (set_there nodes at node here i))) ∙ none_clash (take at nodes) node.set

@@ -1,5 +1,5 @@
 -- Nodes in key order.
-use Rattle.std.proofs.Common.{◌≡◌, ℕ, zero, suc, ◌+◌, ◌<◌, ◌≤◌, Bool, true, false, cond, List, [], ◌∷◌, length, take, drop, get_or, refl, sym, ◌∙◌, ap, subst, arith, add-one, add-zero, ◌-◌, not, ◌&&◌}
+use Rattle.std.proofs.Common.{◌≡◌, ℕ, zero, suc, ◌+◌, ◌<◌, ◌≤◌, Bool, true, false, cond, List, [], ◌∷◌, length, take, drop, get_or, refl, sym, ◌∙◌, ap, subst, arith, add-one, add-zero, ◌-◌, not, ◌&&◌, ◌==◌}
 use Rattle.std.specs.List.{AllByRecursion, filter, insert, list_any}
 use Rattle.std.specs.Cmp.{tied_itself}
 use Rattle.std.proofs.Math.Seq.{drop-cons}
@@ -16,6 +16,8 @@ use Rattle.kdg_graph.specs.Node.{Node}
 use Rattle.kdg_graph.specs.Nodes.{earlier_than, ids_of, later_than, put_node, tasks_of}
 use Rattle.rw_sets.specs.Accesses.{conflicts_with}
 use Rattle.kdg_graph.specs.Edges.{is_source, laters_of}
+use Rattle.kdg_graph.specs.Blockers.{IsCounted}
+use Rattle.kdg_graph.proofs.Counting.{unblocked_at}
 
 -- the tasks of the nodes with one more
 pub tasks-put_node : (node : Node) (nodes : List Node) → tasks_of (put_node node nodes) ≡ put_in node.task (tasks_of nodes)
@@ -138,14 +140,15 @@ pub node_from : (nodes from : List Node) (at : ℕ) (node : Node) → from ≡ d
 node_from nodes from at node back here = here ∙ ap (λ (l : List Node). get_or l 0 node) back ∙ get_or-drop at nodes 0 node ∙ ap (λ n. get_or nodes n node) (add-zero at)
 
 -- one step of that walk
-pub next_source : (nodes current before rest : List Node) (at : ℕ) (node : Node) (test : Bool) → current ≡ nodes → before ≡ take at current → rest ≡ drop at current → node ≡ get_or rest 0 node → at < length current
-    → IsAscending (tasks_of nodes) → test ≡ (not node.running && not (list_any (λ other. conflicts_with other.set node.set) before))
+pub next_source : (nodes current : List Node) (all counts : List ℕ) (at count d : ℕ) (node : Node) (test : Bool) → current ≡ nodes → counts ≡ all → node ≡ get_or current at node → count ≡ get_or counts at d → at < length current
+    → IsCounted nodes all → test ≡ (not node.running && count == 0)
     → ids_of (filter (is_source nodes) (drop at nodes)) ≡ cond test (node.id ∷ ids_of (filter (is_source nodes) (drop (at + 1) nodes))) (ids_of (filter (is_source nodes) (drop (at + 1) nodes)))
-next_source nodes current before rest at node test same front back here inside up is =
+next_source nodes current all counts at count d node test same same_counts here seen inside is_counted is =
     let in_nodes : at < length nodes = subst (λ (l : List Node). at < length l) same inside in
-    let found : node ≡ get_or nodes at node = node_from nodes rest at node (back ∙ ap (drop at) same) here in
+    let found : node ≡ get_or nodes at node = here ∙ ap (λ (l : List Node). get_or l at node) same in
+    let none = unblocked_at nodes counts at count d node in_nodes (same_counts ∙ is_counted.counted) found seen in
     let source : is_source nodes node ≡ test =
-    source_at nodes at node in_nodes up found ∙ sym (is ∙ ap (λ l. not node.running && not (list_any (λ other. conflicts_with other.set node.set) l)) (front ∙ ap (take at) same)) in
+    source_at nodes at node in_nodes is_counted.ascending found ∙ sym (is ∙ ap (λ b. not node.running && b) none) in
     sources_step nodes at node test in_nodes found source
 
 -- ---- the later nodes in conflict

@@ -1,7 +1,9 @@
 -- How many of the earlier sets of a list conflict with each of its sets.
-use Rattle.std.specs.Prelude.{ℕ, zero, suc, ◌+◌, ◌-◌, if◌then◌else◌, List, [], ◌∷◌, map, count_by}
+use Rattle.std.specs.Prelude.{◌≡◌, ℕ, zero, suc, ◌+◌, ◌-◌, if◌then◌else◌, List, [], ◌∷◌, map, count_by}
 use Rattle.rw_sets.specs.Accesses.{Accesses, conflicts_with}
+use Rattle.task_order.specs.TaskList.{IsAscending}
 use Rattle.kdg_graph.specs.Node.{Node}
+use Rattle.kdg_graph.specs.Nodes.{tasks_of}
 
 -- the recorded sets of the nodes
 abbrev pub sets_of : List Node → List Accesses
@@ -31,3 +33,8 @@ raised = adjusted (λ count. count + 1)
 
 abbrev pub lowered : ℕ → Accesses → List Accesses → List ℕ → List ℕ
 lowered = adjusted (λ count. count - 1)
+
+-- the nodes ascend, and the earlier ones in conflict with each are counted
+pub record IsCounted (nodes : List Node) (counts : List ℕ) : Type 0 where
+  pub ascending : IsAscending (tasks_of nodes)
+  pub counted : counts ≡ blockers_of (sets_of nodes)

@@ -4,5 +4,5 @@ pub mod Edges
 pub mod Rewrite
 pub mod Listing
 pub mod Laws
-pub mod NodeStock
 pub mod Blockers
+pub mod NodeStock

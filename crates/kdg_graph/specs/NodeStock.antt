@@ -4,12 +4,14 @@ use Rattle.task_order.specs.TaskList.{IsAscending}
 use Rattle.kdg_graph.specs.Node.{Node}
 use Rattle.kdg_graph.specs.declared.node_id.NodeId.{NodeId}
 use Rattle.kdg_graph.specs.Nodes.{HaveSets, tasks_of, is_at}
+use Rattle.kdg_graph.specs.Blockers.{blockers_of, sets_of}
 
--- for so many more nodes there is a place, and for so many an id
+-- for so many more nodes there is a place, for so many an id, and for so many a count
 pub record NodeStock : Type 0 where
   pub nodes : List Node
   pub places : ℕ
   pub numbers : ℕ
+  pub counters : ℕ
 
 -- how often a number is there
 abbrev pub count_of : ℕ → List ℕ → ℕ
@@ -28,6 +30,11 @@ pub record IsKept (nodes : List Node) (free : List ℕ) (capacity : ℕ) : Type 
   pub sets : HaveSets nodes
   pub dealt : AreDealt (numbers_of nodes ++ free)
   pub returnable : length nodes + length free ≤ capacity
+
+-- the same, and the earlier nodes in conflict with each node are counted
+pub record IsWatched (nodes : List Node) (free : List ℕ) (capacity : ℕ) (counts : List ℕ) : Type 0 where
+  pub kept : IsKept nodes free capacity
+  pub counted : counts ≡ blockers_of (sets_of nodes)
 
 -- the node at the place, and none before it, has the id
 abbrev pub IsPlaceOf : NodeId → List Node → ℕ → Type 0

@@ -48,6 +48,7 @@ impl Blockers {
         requires counts { self.old.counts.items ≡ blockers_of (sets_of nodes.now) }
         ensures counts { self.new.counts.items ≡ blockers_of (insert (sets_of nodes.now) place set.now) }
         ensures room { vec_capacity self.old.counts ≤ vec_capacity self.new.counts }
+        ensures len { vec_len self.new.counts ≤ vec_len self.old.counts + 1 }
     {
         self.raise(nodes, place, set);
         match self.counts.insert(place, count_clashes(&nodes[..place], set)) {
@@ -62,6 +63,7 @@ impl Blockers {
         requires counts { self.old.counts.items ≡ blockers_of (sets_of nodes.now) }
         ensures counts { self.new.counts.items ≡ blockers_of (remove (sets_of nodes.now) place) }
         ensures room { vec_capacity self.old.counts ≤ vec_capacity self.new.counts }
+        ensures len { vec_len self.new.counts ≤ vec_len self.old.counts }
     {
         let gone = &nodes[place];
         self.lower(nodes, place + 1, &gone.set);
@@ -74,6 +76,7 @@ impl Blockers {
         requires counts { self.old.counts.items ≡ blockers_of (sets_of nodes.now) }
         ensures counts { self.new.counts.items ≡ blockers_of (slice_set (sets_of nodes.now) place set.now) }
         ensures room { vec_capacity self.old.counts ≤ vec_capacity self.new.counts }
+        ensures len { vec_len self.new.counts ≤ vec_len self.old.counts }
     {
         self.raise(nodes, place + 1, set);
         let held = &nodes[place];

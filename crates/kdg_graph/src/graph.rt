@@ -18,8 +18,9 @@ use task_order::{Key, Task, TaskList, key_order, put_in_laws, without_laws};
 /// Pending tasks in the order of their keys. Each is a node, with an id, a recorded set, and a mark
 /// where the task is running.
 ///
-/// This is the definition's plain program: it finds sources and later nodes by comparing sets, pair
-/// by pair.
+/// For each node the graph counts the earlier nodes in conflict with it, so that the sources are
+/// kept and not searched: a node that comes, goes or changes its set is compared with each other
+/// node once.
 #[derive(Drop)]
 pub struct Graph {
     nodes: NodeList,
@@ -117,7 +118,7 @@ impl Graph {
         ensures sources { result ≡ sources_of self.now }
         ensures graph { IsGraph self.now }
     {
-        Sources::of(self.nodes.entries())
+        Sources::of(self.nodes.entries(), self.nodes.counts())
     }
 
     /// The later nodes whose recorded sets conflict with that of a node.

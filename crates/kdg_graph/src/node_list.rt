@@ -5,8 +5,10 @@ ghost use Rattle.task_order.specs.TaskList.{IsNewKey};
 ghost use Rattle.kdg_graph.specs.Node.{new_node};
 ghost use Rattle.kdg_graph.specs.Nodes.{IsGraph, HasNode, is_at, node_with_key, put_node, started, task_at, tasks_of};
 ghost use Rattle.kdg_graph.specs.NodeStock.{IsPlaceOf};
+ghost use Rattle.kdg_graph.specs.Blockers.{IsCounted};
 ghost use Rattle.kdg_graph.specs.Rewrite.{AreAdded, AreOfOwnNodes, HaveNewKeys, without, with_sets};
 
+use crate::blockers::Blockers;
 use crate::entry::Entry;
 use crate::{Fresh, NodeId, SetChange};
 use kdg_text::NoRoom;
@@ -15,22 +17,24 @@ use std::alloc::Global;
 use std::marker::Model;
 use task_order::{Key, Task, put_in_laws};
 
-/// The nodes of a graph in key order, and the numbers of ids that are free again.
+/// The nodes of a graph in key order, the numbers of ids that are free again, and how many earlier
+/// nodes each is in conflict with.
 #[derive(Drop)]
 pub(crate) struct NodeList {
     entries: Vec<Entry>,
     free: Vec<usize>,
+    blockers: Blockers,
 }
 
 impl Model for NodeList {
     ghost use Rattle.std.specs.Prelude.{◌+◌, ◌-◌, vec_len, vec_capacity};
-    ghost use Rattle.kdg_graph.specs.NodeStock.{NodeStock, IsKept};
+    ghost use Rattle.kdg_graph.specs.NodeStock.{NodeStock, IsWatched};
 
     ghost Value = { NodeStock };
 
-    ghost view = { λ l. record { nodes = l.entries.items; places = vec_capacity l.entries - vec_len l.entries; numbers = vec_capacity l.free - (vec_len l.entries + vec_len l.free) } };
+    ghost view = { λ l. record { nodes = l.entries.items; places = vec_capacity l.entries - vec_len l.entries; numbers = vec_capacity l.free - (vec_len l.entries + vec_len l.free); counters = vec_capacity l.blockers.counts - vec_len l.blockers.counts } };
 
-    ghost invariant = { λ l. IsKept l.entries.items l.free.items (vec_capacity l.free) };
+    ghost invariant = { λ l. IsWatched l.entries.items l.free.items (vec_capacity l.free) l.blockers.counts.items };
 }
 
 impl NodeList {
@@ -41,6 +45,7 @@ impl NodeList {
         NodeList {
             entries: Vec::new(alloc),
             free: Vec::new(alloc),
+            blockers: Blockers::new(alloc),
         }
     }
 
@@ -52,15 +57,24 @@ impl NodeList {
         &self.entries
     }
 
+    /// How many earlier nodes each node is in conflict with, in key order.
+    pub(crate) fn counts(&self) -> &[usize]
+        ensures { IsCounted self.now.nodes result.now }
+    {
+        self.blockers.counts()
+    }
+
     /// Makes room for so many more nodes.
     pub(crate) fn reserve(&mut self, additional: usize) -> Result<(), NoRoom>
         ensures places { OnOk result (additional ≤ self.new.places) }
         ensures numbers { OnOk result (additional ≤ self.new.numbers) }
+        ensures counters { OnOk result (additional ≤ self.new.counters) }
         ensures nodes { self.new.nodes ≡ self.old.nodes }
     {
         let numbers = additional.checked_add(self.entries.len()).ok_or(NoRoom)?;
         self.free.reserve(numbers)?;
         self.entries.reserve(additional)?;
+        self.blockers.reserve(additional)?;
         Ok(())
     }
 
@@ -68,11 +82,13 @@ impl NodeList {
     pub(crate) fn put(&mut self, task: Task, set: RwSet) -> NodeId
         requires places { 0 < self.old.places }
         requires numbers { 0 < self.old.numbers }
+        requires counters { 0 < self.old.counters }
         requires new { IsNewKey task.key (tasks_of self.old.nodes) }
         ensures nodes { self.new.nodes ≡ put_node (new_node result task set) self.old.nodes }
         ensures there { HasNode self.new.nodes result }
         ensures places { self.old.places ≤ self.new.places + 1 }
         ensures numbers { self.old.numbers ≤ self.new.numbers + 1 }
+        ensures counters { self.old.counters ≤ self.new.counters + 1 }
         ensures graph { IsGraph self.new.nodes }
     {
         put_in_laws();
@@ -82,6 +98,7 @@ impl NodeList {
         let place = self
             .entries
             .partition_point(|entry| entry.task.key.compare(&task.key).is_lt());
+        self.blockers.enter(&self.entries, place, &set);
         let entry = Entry {
             id,
             task,
@@ -101,9 +118,11 @@ impl NodeList {
         ensures nodes { self.new.nodes ≡ without id self.old.nodes }
         ensures places { self.old.places ≤ self.new.places }
         ensures numbers { self.old.numbers ≤ self.new.numbers }
+        ensures counters { self.old.counters ≤ self.new.counters }
         ensures graph { IsGraph self.new.nodes }
     {
         let place = place_of(&self.entries, id);
+        self.blockers.leave(&self.entries, place);
         let entry = self.entries.remove(place);
         match self.free.push(id.at) {
             Ok(()) => entry.task,
@@ -117,10 +136,12 @@ impl NodeList {
         ensures nodes { self.new.nodes ≡ with_sets (record { node = id; set = set } ∷ []) self.old.nodes }
         ensures places { self.old.places ≤ self.new.places }
         ensures numbers { self.old.numbers ≤ self.new.numbers }
+        ensures counters { self.old.counters ≤ self.new.counters }
         ensures graph { IsGraph self.new.nodes }
     {
         let _ascending = set.items();
         let place = place_of(&self.entries, id);
+        self.blockers.exchange(&self.entries, place, &set);
         let named = &mut self.entries[place];
         named.set = set;
     }
@@ -133,6 +154,7 @@ impl NodeList {
         ensures nodes { self.new.nodes ≡ with_sets changes.items self.old.nodes }
         ensures places { self.old.places ≤ self.new.places }
         ensures numbers { self.old.numbers ≤ self.new.numbers }
+        ensures counters { self.old.counters ≤ self.new.counters }
         ensures graph { IsGraph self.new.nodes }
     {
         for change in changes {
@@ -144,6 +166,7 @@ impl NodeList {
     pub(crate) fn put_all(&mut self, fresh: Vec<Fresh>)
         requires places { length fresh.items ≤ self.old.places }
         requires numbers { length fresh.items ≤ self.old.numbers }
+        requires counters { length fresh.items ≤ self.old.counters }
         requires new { HaveNewKeys (tasks_of self.old.nodes) fresh.items }
         requires graph { IsGraph self.old.nodes }
         ensures added { AreAdded self.old.nodes fresh.items self.new.nodes }

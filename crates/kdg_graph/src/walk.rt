@@ -1,8 +1,8 @@
-ghost use Rattle.std.specs.Prelude.{◌≡◌, not, ◌&&◌};
-ghost use Rattle.std.specs.List.{filter, list_any};
+ghost use Rattle.std.specs.Prelude.{◌≡◌, ◌==◌, not, ◌&&◌};
+ghost use Rattle.std.specs.List.{filter};
 ghost use Rattle.std.specs.Iterator.{YieldsFirst, item_count};
-ghost use Rattle.task_order.specs.TaskList.{IsAscending};
-ghost use Rattle.kdg_graph.specs.Nodes.{ids_of, tasks_of};
+ghost use Rattle.kdg_graph.specs.Nodes.{ids_of};
+ghost use Rattle.kdg_graph.specs.Blockers.{IsCounted};
 ghost use Rattle.kdg_graph.specs.Edges.{sources_of};
 ghost use Rattle.rw_sets.specs.Accesses.{conflicts_with};
 
@@ -15,30 +15,36 @@ use std::marker::Model;
 #[derive(Drop)]
 pub struct Sources<'g> {
     nodes: &'g [Entry],
+    counts: &'g [usize],
     at: usize,
 }
 
 impl<'g> Model for Sources<'g> {
     ghost use Rattle.std.specs.Prelude.{List, drop, filter};
-    ghost use Rattle.task_order.specs.TaskList.{IsAscending};
     ghost use Rattle.kdg_graph.specs.declared.node_id.NodeId.{NodeId};
-    ghost use Rattle.kdg_graph.specs.Nodes.{ids_of, tasks_of};
+    ghost use Rattle.kdg_graph.specs.Nodes.{ids_of};
+    ghost use Rattle.kdg_graph.specs.Blockers.{IsCounted};
     ghost use Rattle.kdg_graph.specs.Edges.{is_source};
 
     ghost Value = { List NodeId };
 
     ghost view = { λ s. ids_of (filter (is_source s.nodes.now) (drop s.at s.nodes.now)) };
 
-    ghost invariant = { λ s. IsAscending (tasks_of s.nodes.now) };
+    ghost invariant = { λ s. IsCounted s.nodes.now s.counts.now };
 }
 
 impl<'g> Sources<'g> {
-    /// The sources among the nodes of a graph.
-    pub(crate) fn of(nodes: &'g [Entry]) -> Sources<'g>
-        requires { IsAscending (tasks_of nodes.now) }
+    /// The sources among the nodes of a graph, where the earlier ones in conflict with each are
+    /// counted.
+    pub(crate) fn of(nodes: &'g [Entry], counts: &'g [usize]) -> Sources<'g>
+        requires { IsCounted nodes.now counts.now }
         ensures { result ≡ sources_of nodes.now }
     {
-        Sources { nodes, at: 0 }
+        Sources {
+            nodes,
+            counts,
+            at: 0,
+        }
     }
 }
 
@@ -51,10 +57,10 @@ impl<'g> Iterator for Sources<'g> {
 
     fn next(&mut self) -> Option<NodeId> {
         while self.at < self.nodes.len() {
-            let (earlier, rest) = self.nodes.split_at(self.at);
-            let node = &rest[0];
+            let node = &self.nodes[self.at];
+            let blockers = self.counts[self.at];
             self.at += 1;
-            if can_start(node, earlier) {
+            if can_start(node, blockers) {
                 return Some(node.id);
             }
         }
@@ -62,18 +68,11 @@ impl<'g> Iterator for Sources<'g> {
     }
 }
 
-/// Whether a node is a source, given the earlier nodes.
-fn can_start(node: &Entry, earlier: &[Entry]) -> bool
-    ensures { result ≡ (not node.now.running && not (list_any (λ other. conflicts_with other.set node.now.set) earlier.now)) }
+/// Whether a node is a source, where so many earlier nodes are in conflict with it.
+fn can_start(node: &Entry, blockers: usize) -> bool
+    ensures { result ≡ (not node.now.running && blockers == 0) }
 {
-    !node.running && !any_conflicts(earlier, &node.set)
-}
-
-/// Whether the set of some of the nodes conflicts with a set.
-fn any_conflicts(nodes: &[Entry], set: &RwSet) -> bool
-    ensures { result ≡ list_any (λ node. conflicts_with node.set set.now) nodes.now }
-{
-    nodes.iter().any(|node| node.set.conflicts(set))
+    !node.running && blockers == 0
 }
 
 /// The ids of the later nodes whose recorded sets conflict with that of one node, in key order,

@@ -19,3 +19,8 @@ returns-clause-counts c =
     c.in-Ok.ensures.items
     ∙ ap (λ l. insert l c.args.place c.count_clashes.result) c.raise.ensures.counts
     ∙ entered c.args.set.now c.args.nodes.now c.args.self.now.counts.items c.args.place c.count_clashes.result c.requires.inside c.requires.counts c.count_clashes.ensures
+
+pub returns-clause-len : goal.returns-clause-len
+returns-clause-len c =
+    let each : length c.args.self.now.counts.items ≡ length c.raise.new.self.counts.items = each_counted c.args.nodes.now c.args.self.now.counts.items c.requires.counts ∙ sym c.raise.ensures.each in
+    search (rules, each)

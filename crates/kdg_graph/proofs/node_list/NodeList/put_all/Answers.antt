@@ -21,6 +21,7 @@ loop-item-preserved c =
       len = omega arith;
       places = omega arith;
       numbers = omega arith;
+      counters = omega arith;
       graph = c.put.ensures.graph;
       new = subst (λ (l : List Node). HaveNewKeys (tasks_of l) rest) (sym c.put.ensures.nodes) (new_keys_rest item rest at.self.nodes c.put.result keys);
       added = λ now added.

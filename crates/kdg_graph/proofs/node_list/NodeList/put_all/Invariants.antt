@@ -11,6 +11,7 @@ invariant-loop-item l = record {
   len : into_iter_len l.item-iterator ≡ length (into_iter_items l.item-iterator);
   places : length (into_iter_items l.item-iterator) ≤ l.self.places;
   numbers : length (into_iter_items l.item-iterator) ≤ l.self.numbers;
+  counters : length (into_iter_items l.item-iterator) ≤ l.self.counters;
   graph : IsGraph l.self.nodes;
   new : HaveNewKeys (tasks_of l.self.nodes) (into_iter_items l.item-iterator);
   added : (now : List Node) → AreAdded l.self.nodes (into_iter_items l.item-iterator) now → AreAdded l.initial.self.nodes (into_iter_items l.initial.item-iterator) now;

@@ -27,6 +27,7 @@ loop-change-preserved c =
       places = omega arith;
       graph = c.set_set.ensures.graph;
       numbers = omega arith;
+      counters = omega arith;
     }
 
 pub returns-clause-nodes : goal.returns-clause-nodes

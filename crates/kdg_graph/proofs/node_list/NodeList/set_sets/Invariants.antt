@@ -15,4 +15,5 @@ invariant-loop-change l = record {
   places : l.initial.self.places ≤ l.self.places;
   graph : IsGraph l.self.nodes;
   numbers : l.initial.self.numbers ≤ l.self.numbers;
+  counters : l.initial.self.counters ≤ l.self.counters;
 }

@@ -8,6 +8,7 @@ use Rattle.kdg_graph.proofs.walk.SourcesIterator.next.Given as goal
 abbrev pub invariant-loop-self : goal.invariant-loop-self
 invariant-loop-self l = record {
   nodes : l.self-inside.nodes.now ≡ l.initial.self-inside.nodes.now;
+  counts : l.self-inside.counts.now ≡ l.initial.self-inside.counts.now;
   passed : ids_of (filter (is_source l.initial.self-inside.nodes.now) (drop l.initial.self-inside.at l.initial.self-inside.nodes.now)) ≡ ids_of (filter (is_source l.initial.self-inside.nodes.now) (drop l.self-inside.at l.initial.self-inside.nodes.now));
 }
 
