@@ -1,5 +1,5 @@
 -- Nodes in key order.
-use Rattle.std.proofs.Common.{◌≡◌, ℕ, zero, suc, ◌+◌, ◌<◌, ◌≤◌, Bool, true, false, cond, List, [], ◌∷◌, length, take, drop, get_or, refl, sym, ◌∙◌, ap, subst, arith, add-one, add-zero, ◌-◌, not, ◌&&◌, ◌==◌}
+use Rattle.std.proofs.Common.{◌≡◌, ℕ, zero, suc, ◌+◌, ◌<◌, ◌≤◌, Bool, true, false, cond, List, [], ◌∷◌, length, take, drop, get_or, Option, Some, None, refl, sym, ◌∙◌, ap, subst, arith, add-one, add-zero, ◌-◌, not, ◌&&◌, ◌==◌}
 use Rattle.std.specs.List.{AllByRecursion, filter, insert, list_any}
 use Rattle.std.specs.Cmp.{tied_itself}
 use Rattle.std.proofs.Math.Seq.{drop-cons}
@@ -7,13 +7,13 @@ use Rattle.std.proofs.lemmas.List.{get_or-drop, length-drop, take_all}
 use Rattle.std.specs.List.Sorted.{IsPartitionedBy, IsPartitionPoint}
 use Rattle.std.specs.declared.cmp.Ordering.{Ordering}
 use Rattle.std.specs.declared.cmp.Ordering.TheVariants.{Less, Equal, Greater}
-use Rattle.std.specs.Ordering.{is_lt, ordering_reverse}
+use Rattle.std.specs.Ordering.{is_eq, is_lt, ordering_reverse}
 use Rattle.task_order.specs.declared.key.Key.{Key}
 use Rattle.task_order.specs.declared.task.Task.{Task}
 use Rattle.task_order.specs.Key.{key_cmp, key_cmp_total}
 use Rattle.task_order.specs.TaskList.{IsAscending, put_in}
 use Rattle.kdg_graph.specs.Node.{Node}
-use Rattle.kdg_graph.specs.Nodes.{earlier_than, ids_of, later_than, put_node, tasks_of}
+use Rattle.kdg_graph.specs.Nodes.{earlier_than, ids_of, later_than, node_with_key, put_node, tasks_of}
 use Rattle.rw_sets.specs.Accesses.{conflicts_with}
 use Rattle.kdg_graph.specs.Edges.{is_source, laters_of}
 use Rattle.kdg_graph.specs.Blockers.{IsCounted}
@@ -62,6 +62,51 @@ insert_at_point node (other ∷ nodes) zero inside point =
 insert_at_point node (other ∷ nodes) (suc place) inside point =
     ap (λ rest. other ∷ rest) (insert_at_point node nodes place (omega (arith, inside)) ((λ k d from upto. point.0 (suc k) d (omega arith) (omega (arith, upto))), (λ k d from upto. point.1 (suc k) d (omega (arith, from)) (omega (arith, upto)))))
     ∙ sym (ap (λ past. cond past (other ∷ put_node node nodes) (node ∷ other ∷ nodes)) (point.0 0 other (omega arith) (omega arith)))
+
+-- ---- the node with a key
+
+eq_from_test : (o : Ordering) (test : Bool) → is_lt o ≡ false → is_eq o ≡ test → o ≡ cond test Equal Greater
+eq_from_test Less test not_less is = cc
+eq_from_test Equal test not_less is = ap (λ b. cond b Equal Greater) is
+eq_from_test Greater test not_less is = ap (λ b. cond b Equal Greater) is
+
+by_test : (test : Bool) (node : Node) (rest : Option Node) → (test ≡ false → rest ≡ None) → cond test (Some node) rest ≡ cond test (Some node) None
+by_test true node rest none = refl
+by_test false node rest none = none refl
+
+none_behind : (key first : Key) (nodes : List Node) → key_cmp key first ≡ Less → AllByRecursion (λ other. key_cmp first other.key ≡ Less) (tasks_of nodes) → node_with_key nodes key ≡ None
+none_behind key first [] later all = refl
+none_behind key first (node ∷ nodes) later all =
+    let turns : key_cmp node.task.key key ≡ Greater = key_cmp_total.antisymm node.task.key key ∙ ap ordering_reverse (key_cmp_total.trans key first node.task.key later all.0) in
+    ap (λ test. cond test (Some node) (node_with_key nodes key)) (ap is_eq turns) ∙ none_behind key first nodes later all.1
+
+-- it is at the place where the earlier ones end, or else there is none
+with_key_at_point : (key : Key) (nodes : List Node) (place : ℕ) (d : Node) → IsAscending (tasks_of nodes) → place < length nodes
+    → IsPartitionPoint (λ other. is_before key other ≡ true) (λ other. is_before key other ≡ false) nodes place → node_with_key nodes key ≡ cond (is_eq (key_cmp (get_or nodes place d).task.key key)) (Some (get_or nodes place d)) None
+with_key_at_point key [] place d up inside point = absurd (omega (arith, inside))
+with_key_at_point key (node ∷ nodes) zero d up inside point =
+    let rest : is_eq (key_cmp node.task.key key) ≡ false → node_with_key nodes key ≡ None = λ other.
+        let greater : key_cmp node.task.key key ≡ Greater = eq_from_test (key_cmp node.task.key key) false (point.1 0 node (omega arith) (omega (arith, inside))) other in
+        none_behind key node.task.key nodes (key_cmp_total.antisymm key node.task.key ∙ ap ordering_reverse greater) up.0 in
+    by_test (is_eq (key_cmp node.task.key key)) node (node_with_key nodes key) rest
+with_key_at_point key (node ∷ nodes) (suc place) d up inside point =
+    let less : key_cmp node.task.key key ≡ Less = Less_from_test _ (point.0 0 node (omega arith) (omega arith)) in
+    ap (λ test. cond test (Some node) (node_with_key nodes key)) (ap is_eq less)
+    ∙ with_key_at_point key nodes place d up.1 (omega (arith, inside)) ((λ k e from upto. point.0 (suc k) e (omega arith) (omega (arith, upto))), (λ k e from upto. point.1 (suc k) e (omega (arith, from)) (omega (arith, upto))))
+
+pub found_at_point : (key : Key) (nodes : List Node) (place : ℕ) (node : Node) (test : Bool) → IsAscending (tasks_of nodes) → place < length nodes
+    → IsPartitionPoint (λ other. is_before key other ≡ true) (λ other. is_before key other ≡ false) nodes place → node ≡ get_or nodes place node → is_eq (key_cmp node.task.key key) ≡ test → node_with_key nodes key ≡ cond test (Some node) None
+found_at_point key nodes place node test up inside point here is =
+    with_key_at_point key nodes place node up inside point ∙ (λ i. cond (is_eq (key_cmp (sym here i).task.key key)) (Some (sym here i)) None) ∙ ap (λ b. cond b (Some node) None) is
+
+pub no_key_past_all : (key : Key) (nodes : List Node) (place : ℕ) → length nodes ≤ place
+    → IsPartitionPoint (λ other. is_before key other ≡ true) (λ other. is_before key other ≡ false) nodes place → node_with_key nodes key ≡ None
+no_key_past_all key [] place beyond point = refl
+no_key_past_all key (node ∷ nodes) zero beyond point = absurd (omega (arith, beyond))
+no_key_past_all key (node ∷ nodes) (suc place) beyond point =
+    let less : key_cmp node.task.key key ≡ Less = Less_from_test _ (point.0 0 node (omega arith) (omega arith)) in
+    ap (λ test. cond test (Some node) (node_with_key nodes key)) (ap is_eq less)
+    ∙ no_key_past_all key nodes place (omega (arith, beyond)) ((λ k e from upto. point.0 (suc k) e (omega arith) (omega (arith, upto))), (λ k e from upto. point.1 (suc k) e (omega (arith, from)) (omega (arith, upto))))
 
 -- ---- the earlier nodes and the later ones, by place
 

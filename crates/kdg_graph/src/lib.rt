@@ -19,4 +19,6 @@ pub use node_id::NodeId;
 pub use walk::{Laters, Sources};
 
 #[cfg(test)]
+mod plain;
+#[cfg(test)]
 mod tests;

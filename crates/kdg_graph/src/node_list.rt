@@ -1,7 +1,7 @@
 ghost use Rattle.std.specs.Prelude.{◌≡◌, ◌+◌, ◌<◌, ◌≤◌, [], ◌∷◌, Some, OnOk, length, position};
 ghost use Rattle.std.specs.List.{AllByRecursion};
 ghost use Rattle.std.specs.Option.{option_map};
-ghost use Rattle.task_order.specs.TaskList.{IsNewKey};
+ghost use Rattle.task_order.specs.TaskList.{IsAscending, IsNewKey};
 ghost use Rattle.kdg_graph.specs.Node.{new_node};
 ghost use Rattle.kdg_graph.specs.Nodes.{IsGraph, HasNode, is_at, node_with_key, put_node, started, task_at, tasks_of};
 ghost use Rattle.kdg_graph.specs.NodeStock.{IsPlaceOf};
@@ -198,13 +198,21 @@ pub(crate) fn place_of(entries: &[Entry], id: NodeId) -> usize
     position_of(entries, id).unwrap()
 }
 
-/// The id of the node whose task has the key.
+/// The id of the node whose task has the key, found by halving.
 pub(crate) fn id_with_key(entries: &[Entry], key: &Key) -> Option<NodeId>
+    requires { IsAscending (tasks_of entries.now) }
     ensures { result ≡ option_map (λ node. node.id) (node_with_key entries.now key.now) }
 {
-    let mut entries = entries.iter();
-    let found = entries.find(|entry| entry.task.key.compare(key).is_eq());
-    found.map(|entry| entry.id)
+    let place = entries.partition_point(|entry| entry.task.key.compare(key).is_lt());
+    if place == entries.len() {
+        return None;
+    }
+    let entry = &entries[place];
+    if entry.task.key.compare(key).is_eq() {
+        Some(entry.id)
+    } else {
+        None
+    }
 }
 
 /// The place of the first node with an id.

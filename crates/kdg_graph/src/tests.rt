@@ -1,6 +1,7 @@
 ghost use Rattle.std.specs.Prelude.{IfOk};
 ghost use Rattle.kdg_graph.specs.Nodes.{HasNode};
 
+use crate::plain::plain_sources;
 use crate::{Fresh, Graph, NodeId, SetChange};
 use Access::{Read, Write};
 use kdg_text::NoRoom;
@@ -138,5 +139,87 @@ fn a_rewrite_replaces_sets_and_adds_nodes(rt: HostRuntime) -> Result<(), Fail> {
     assert_eq!(rt; graph.set(fourth).contains(6), Some(Read));
     assert!(rt; !graph.running(fourth));
     assert_eq!(rt; graph.tasks().len(), 3);
+    Ok(())
+}
+
+/// What is done to the first tasks of a graph, which are named by their numbers.
+#[derive(Clone, Copy)]
+enum Call {
+    /// Puts in a task whose set has one location.
+    Insert(u32, u32, Access),
+    Start(u32),
+    End(u32),
+    /// Ends a task, and gives another one a set with one location.
+    Replace(u32, u32, u32, Access),
+}
+
+fn run(rt: &impl Abort, graph: &mut Graph, alloc: Global, call: Call) -> Result<(), Fail> {
+    match call {
+        Call::Insert(number, loc, access) => {
+            let task = task(alloc, 1, number)?;
+            let set = set(alloc, loc, access)?;
+            assert!(rt; graph.find(&task.key).is_none());
+            graph.insert(task, set).map_err(|_| NoRoom)?;
+        }
+        Call::Start(number) => {
+            let node = node(graph, alloc, 1, number)?;
+            graph.mark_running(node);
+        }
+        Call::End(number) => {
+            let node = node(graph, alloc, 1, number)?;
+            let ended = graph.rewrite(node, Vec::new(alloc), Vec::new(alloc));
+            assert!(rt; ended.is_ok());
+        }
+        Call::Replace(ended, changed, loc, access) => {
+            replace(rt, graph, alloc, (ended, changed), set(alloc, loc, access)?)?
+        }
+    }
+    Ok(())
+}
+
+/// Ends the first of two tasks, and gives the second another set.
+fn replace(
+    rt: &impl Abort,
+    graph: &mut Graph,
+    alloc: Global,
+    (ended, changed): (u32, u32),
+    set: RwSet,
+) -> Result<(), Fail> {
+    let changed = node(graph, alloc, 1, changed)?;
+    let ended = node(graph, alloc, 1, ended)?;
+    assert!(rt; changed != ended);
+    let change = SetChange { node: changed, set };
+    let changes = Vec::from_array(alloc, [change])?;
+    assert!(rt; graph.rewrite(ended, changes, Vec::new(alloc)).is_ok());
+    Ok(())
+}
+
+#[test]
+fn sources_are_those_of_a_plain_search(rt: HostRuntime) -> Result<(), Fail> {
+    let alloc = rt.alloc();
+    let mut graph = Graph::new(alloc);
+    let calls = [
+        Call::Insert(4, 7, Read),
+        Call::Insert(2, 7, Write),
+        Call::Insert(3, 7, Read),
+        Call::Insert(0, 7, Read),
+        Call::Insert(1, 8, Write),
+        Call::Insert(6, 8, Write),
+        Call::Insert(5, 9, Write),
+        Call::Start(0),
+        Call::Start(5),
+        Call::End(0),
+        Call::Replace(1, 6, 7, Write),
+        Call::Replace(2, 5, 7, Write),
+        Call::End(3),
+        Call::End(4),
+        Call::End(5),
+        Call::End(6),
+    ];
+    for call in calls {
+        run(&rt, &mut graph, alloc, call)?;
+        let plain = plain_sources(&graph, alloc)?;
+        assert_eq!(rt; sources(&graph, alloc)?.as_slice(), plain.as_slice());
+    }
     Ok(())
 }

@@ -1,0 +1,34 @@
+use crate::{Graph, NodeId};
+use kdg_text::NoRoom;
+use std::alloc::Global;
+use task_order::Key;
+
+/// The sources, found by comparing the sets of all pairs of nodes.
+pub(crate) fn plain_sources(graph: &Graph, alloc: Global) -> Result<Vec<NodeId>, NoRoom> {
+    let mut sources = Vec::new(alloc);
+    for task in graph.tasks().iter() {
+        if let Some(node) = graph.find(&task.key) {
+            if !graph.running(node) && !is_blocked(graph, &task.key) {
+                sources.push(node)?;
+            }
+        }
+    }
+    Ok(sources)
+}
+
+/// Whether some earlier node is in conflict with the node whose task has the key.
+fn is_blocked(graph: &Graph, key: &Key) -> bool {
+    let Some(node) = graph.find(key) else {
+        return false;
+    };
+    for other in graph.tasks().iter() {
+        if other.key.compare(key).is_lt() {
+            if let Some(earlier) = graph.find(&other.key) {
+                if graph.set(earlier).conflicts(graph.set(node)) {
+                    return true;
+                }
+            }
+        }
+    }
+    false
+}
