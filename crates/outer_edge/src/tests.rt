@@ -187,10 +187,14 @@ fn errors_of_readers_and_writers_are_handed_on(rt: HostRuntime) -> Result<(), Fa
 /// The first words of the demonstration in PCG's C code, whose state is 42 and whose stream is 54.
 #[test]
 fn a_seed_gives_its_words(rt: HostRuntime) -> Result<(), Fail> {
-    let words = [
-        0xa15c02b7, 0x7b47f409, 0xba1d3330, 0x83d2f293, 0xbfa4784b, 0xcbed606e,
-    ];
-    for (turn, word) in (0..).zip(words) {
+    for (turn, word) in [
+        (0, 0xa15c02b7),
+        (1, 0x7b47f409),
+        (2, 0xba1d3330),
+        (3, 0x83d2f293),
+        (4, 0xbfa4784b),
+        (5, 0xcbed606e),
+    ] {
         assert_eq!(rt; choice(&Seeded, 42, 54, turn), word);
     }
     assert_eq!(rt; choice(&Still, 42, 54, 3), 0);
