@@ -1,4 +1,4 @@
-ghost use Rattle.std.specs.Prelude.{◌≡◌, ◌<◌, ◌×◌, ◌^◌, IfOk, OnOk, length};
+ghost use Rattle.std.specs.Prelude.{◌≡◌, ◌<◌, ◌^◌, IfOk, OnOk, length};
 ghost use Rattle.app_laws.specs.Applications.{AreFitStarts};
 ghost use Rattle.example_app.specs.Introduction.{AreContacts, introductions};
 ghost use Rattle.graph_update.specs.Engine.{IsDone};
