@@ -1,12 +1,12 @@
 use Rattle.std.proofs.Common.{◌≡◌, ℕ, ◌≤◌, ◌&&◌, List, cond, Option, Some, None, unwrap_or, option_and_then, refl, arith, inl, inr}
 use Rattle.std.proofs.lemmas.Bool.{cases_Bool, and_parts, leb-true}
-use Rattle.std.specs.Prelude.{nat_le, IfOk}
+use Rattle.std.specs.Prelude.{◌≢◌, nat_le, IfOk}
 use Rattle.std.specs.Result.{result_ok}
 use Rattle.std.specs.Str.{bytes_eq}
 use Rattle.std.specs.Prelude.{codes}
 use Rattle.kdg_text.specs.Numbers.{u64_of}
-use Rattle.kdg_prog.specs.Words.{Word, IsAllowed, number_within, command_named, mode_value, given_value, options_given, options_unless, options_of, first_bad, settings_of, command_of}
-use Rattle.kdg_prog.specs.declared.words.Command.TheVariants.{Sim}
+use Rattle.kdg_prog.specs.Words.{Word, IsAllowed, number_within, command_named, mode_value, given_value, options_given, options_unless, options_of, first_bad, settings_of, command_in}
+use Rattle.kdg_prog.specs.declared.words.Command.TheVariants.{Sim, Rank}
 use Rattle.kdg_prog.specs.declared.words.Mode.TheVariants.{Serial}
 use Rattle.kdg_prog.specs.declared.words.OptionName.TheVariants as name
 use Rattle.kdg_prog.specs.declared.words.Options.{Options}
@@ -36,17 +36,8 @@ mode_is_serial (Some word) =
       | inr other ↦ rw (other) refl
     ]
 
-command_is_sim : (first : Option Word) → unwrap_or (option_and_then command_named first) Sim ≡ Sim
-command_is_sim None = refl
-command_is_sim (Some word) =
-    elim (cases_Bool (bytes_eq word (codes "sim"))) as (λ _. unwrap_or (command_named word) Sim ≡ Sim) [
-      | inl same ↦ rw (same) refl
-      | inr other ↦ rw (other) refl
-    ]
-
-given_allowed : (words : List Word) → IsAllowed (options_given (unwrap_or (command_of words) Sim) (settings_of words))
+given_allowed : (words : List Word) → IsAllowed (options_given (command_in words) (settings_of words))
 given_allowed words = record {
-  command = command_is_sim (slice_get words 0);
   workers = value_lies 1 64 4 (omega arith, omega arith) (given_value name.Workers (settings_of words));
   mode = mode_is_serial (given_value name.Mode (settings_of words));
   until = (value_lies 0 1000000000 1000 (omega arith, omega arith) (given_value name.Until (settings_of words))).1;

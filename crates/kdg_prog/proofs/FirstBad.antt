@@ -1,8 +1,7 @@
-use Rattle.std.proofs.Common.{◌≡◌, ℕ, ◌+◌, ◌*◌, ◌%◌, ◌<◌, ◌≤◌, List, Bool, true, false, nat_eq, Some, None, Ok, Err, length, refl, ap, suc, zero, inl, inr, ◌∙◌, arith, unwrap_or}
+use Rattle.std.proofs.Common.{◌≡◌, ℕ, ◌+◌, ◌*◌, ◌%◌, ◌<◌, ◌≤◌, List, Bool, true, false, nat_eq, Some, None, Ok, Err, length, refl, ap, suc, zero, inl, inr, ◌∙◌, arith}
 use Rattle.std.proofs.lemmas.Bool.{cases_order, cond-true, cond-false, ne_eqb, eq-eqb}
 use Rattle.std.specs.List.{find, range_with_len}
-use Rattle.kdg_prog.specs.Words.{Word, is_bad, is_bad_option, is_bad_value, options_of, options_given, options_unless, settings_of, command_of}
-use Rattle.kdg_prog.specs.declared.words.Command.TheVariants.{Sim}
+use Rattle.kdg_prog.specs.Words.{Word, is_bad, is_bad_option, is_bad_value, options_of, options_given, options_unless, settings_of, command_in}
 
 -- the least number of a range that passes
 find_first : (test : ℕ → Bool) (n a i : ℕ) → a ≤ i → i < a + n → test i ≡ true → ((k : ℕ) → a ≤ k → k < i → test k ≡ false) → find test (range_with_len a n) ≡ Some i
@@ -25,13 +24,13 @@ find_none test (suc n) a fails =
 -- the words are refused at the first bad one
 pub refused_at : (words : List Word) (index : ℕ) → index ≤ length words → is_bad words index ≡ true → ((k : ℕ) → k < index → is_bad words k ≡ false) → options_of words ≡ Err (index + 1)
 refused_at words index within bad fine =
-    ap (λ found. options_unless found (options_given (unwrap_or (command_of words) Sim) (settings_of words)))
+    ap (λ found. options_unless found (options_given (command_in words) (settings_of words)))
     (find_first (is_bad words) (length words + 1) 0 index (omega arith) (omega arith) bad (λ k _ below. fine k below))
 
 -- the words are read where none is bad
-pub read_whole : (words : List Word) → ((k : ℕ) → k ≤ length words → is_bad words k ≡ false) → options_of words ≡ Ok (options_given (unwrap_or (command_of words) Sim) (settings_of words))
+pub read_whole : (words : List Word) → ((k : ℕ) → k ≤ length words → is_bad words k ≡ false) → options_of words ≡ Ok (options_given (command_in words) (settings_of words))
 read_whole words fine =
-    ap (λ found. options_unless found (options_given (unwrap_or (command_of words) Sim) (settings_of words)))
+    ap (λ found. options_unless found (options_given (command_in words) (settings_of words)))
     (find_none (is_bad words) (length words + 1) 0 (λ k _ below. fine k (omega arith)))
 
 -- behind the command, options and values take turns

@@ -1,11 +1,12 @@
-use Rattle.std.proofs.Common.{◌≡◌, ℕ, ◌+◌, ◌*◌, ◌-◌, ◌<◌, List, [], ◌∷◌, ◌++◌, Bool, true, cond, Some, None, length, take, drop, get_or, refl, ap, inl, inr, ◌∙◌, arith, sym, append_assoc, length-drop}
+use Rattle.std.proofs.Common.{◌≡◌, ℕ, ◌+◌, ◌*◌, ◌-◌, ◌<◌, List, [], ◌∷◌, ◌++◌, Bool, true, cond, Option, Some, None, length, take, drop, get_or, refl, ap, inl, inr, ◌∙◌, arith, sym, append_assoc, length-drop}
 use Rattle.std.proofs.lemmas.Bool.{cond-true, cond-false, cases_Bool}
 use Rattle.std.proofs.lemmas.List.{take_more, length-take-le}
 use Rattle.std.proofs.lemmas.Slice.Eq.{bytes_eq-Decides}
 use Rattle.std.specs.List.{find}
-use Rattle.std.specs.Option.{option_or}
+use Rattle.std.specs.Option.{option_or, option_and_then}
 use Rattle.std.specs.Str.{bytes_eq}
-use Rattle.kdg_prog.specs.Words.{Word, pairs_of, settings_of, given_value, name_of, option_named, option_names}
+use Rattle.kdg_prog.specs.Words.{Word, pairs_of, settings_of, given_value, name_of, option_named, option_names, option_for, takes}
+use Rattle.kdg_prog.specs.declared.words.Command.{Command}
 use Rattle.kdg_prog.specs.declared.words.OptionName.{OptionName}
 
 -- what is found passes
@@ -21,6 +22,17 @@ find_passes test (y ∷ ys) x found =
 pub name_from_named : (word : Word) (name : OptionName) → option_named word ≡ Some name → word ≡ name_of name
 name_from_named word name named =
     (bytes_eq-Decides word (name_of name)).0 (find_passes (λ n. bytes_eq word (name_of n)) option_names name named)
+
+-- an option of a command has its name
+pub named_from_for : (command : Command) (word : Word) (name : OptionName) → option_for command word ≡ Some name → option_named word ≡ Some name
+named_from_for command word name is = kept (option_named word) is
+  where
+    kept : (found : Option OptionName) → option_and_then (λ n. cond (takes command n) (Some n) None) found ≡ Some name → found ≡ Some name
+    kept None is = cc
+    kept (Some n) is = elim (cases_Bool (takes command n)) [
+      | inl taken ↦ sym (cond-true (takes command n) (Some n) None taken) ∙ is
+      | inr other ↦ absurd (let none : None ≡ Some name = sym (cond-false (takes command n) (Some n) None other) ∙ is in cc)
+    ]
 
 pairs_of-append : (words more : List Word) (k : ℕ) → length words ≡ 2 * k → pairs_of (words ++ more) ≡ pairs_of words ++ pairs_of more
 pairs_of-append [] more k even = refl

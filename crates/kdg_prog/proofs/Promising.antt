@@ -118,7 +118,7 @@ module _ (options : Options) (source sink : Transfer) (text : List ℕ) (reads :
         }
   ]
   when_refused answer (inr (inl exceeded)) same_sink =
-      let told = exceeded.is in record {
+      let told = exceeded.told in record {
         print = λ e. absurd cc;
         budget = λ created limit e.
             let same : status.Budget exceeded.created options.budget ≡ status.Budget created limit = sym told ∙ e in

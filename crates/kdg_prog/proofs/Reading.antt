@@ -1,7 +1,7 @@
 use Rattle.std.proofs.Common.{◌≡◌, ℕ, ◌+◌, ◌*◌, ◌<◌, ◌≤◌, List, [], ◌∷◌, Bool, true, false, cond, Option, Some, None, Ok, Err, is_some, not, length, take, get_or, refl, ap, sym, ◌∙◌, arith, unwrap_or, inl, inr, ◌-◌}
 use Rattle.std.specs.Option.{option_and_then, option_or}
 use Rattle.std.specs.Str.{bytes_eq}
-use Rattle.kdg_prog.specs.Words.{Word, settings_of, given_value, name_of, is_bad, is_value, workers_value, mode_value, seed_value, until_value, budget_value, switch_value, options_of, options_given, option_named, command_of}
+use Rattle.kdg_prog.specs.Words.{Word, settings_of, given_value, name_of, is_bad, is_value, workers_value, mode_value, seed_value, until_value, budget_value, switch_value, options_of, options_given, option_for, command_of, command_in}
 use Rattle.kdg_prog.specs.Draft.{is_given, with_value, options_of_draft}
 use Rattle.kdg_prog.specs.declared.words.Command.{Command}
 use Rattle.kdg_prog.specs.declared.words.Draft.{Draft}
@@ -16,7 +16,7 @@ use Rattle.std.proofs.lemmas.Slice.Eq.{bytes_eq-Decides}
 use Rattle.std.proofs.lemmas.List.{take_all}
 use Rattle.kdg_prog.specs.declared.words.Command.TheVariants.{Sim}
 use Rattle.kdg_prog.proofs.FirstBad.{refused_at, read_whole, is_bad-odd, is_bad-even}
-use Rattle.kdg_prog.proofs.Given.{name_from_named, settings_of_more, given_value_more}
+use Rattle.kdg_prog.proofs.Given.{name_from_named, named_from_for, settings_of_more, given_value_more}
 
 -- the draft of the values that the options have
 abbrev pub draft_of : (OptionName → Option Word) → Draft
@@ -95,15 +95,15 @@ pub record IsRead (words : List Word) (draft : Draft) (index : ℕ) : Type 0 whe
   pub given : (name : OptionName) → is_given draft name ≡ is_some (given_value name (settings_of (take index words)))
 
 -- whether the option at an index is bad
-bad_option_unnamed : (words : List Word) (draft : Draft) (index : ℕ) → IsRead words draft index → index < length words → option_named (get_or words index []) ≡ None → is_bad words index ≡ true
+bad_option_unnamed : (words : List Word) (draft : Draft) (index : ℕ) → IsRead words draft index → index < length words → option_for (command_in words) (get_or words index []) ≡ None → is_bad words index ≡ true
 bad_option_unnamed words draft index read more unnamed =
     is_bad-odd words index (given_count draft) read.turn ∙ rw (slice_get-get_or words index [] more, unnamed) refl
 
-bad_option_named : (words : List Word) (draft : Draft) (index : ℕ) (name : OptionName) → IsRead words draft index → index < length words → option_named (get_or words index []) ≡ Some name → is_bad words index ≡ is_given draft name
+bad_option_named : (words : List Word) (draft : Draft) (index : ℕ) (name : OptionName) → IsRead words draft index → index < length words → option_for (command_in words) (get_or words index []) ≡ Some name → is_bad words index ≡ is_given draft name
 bad_option_named words draft index name read more named =
     is_bad-odd words index (given_count draft) read.turn ∙ rw (slice_get-get_or words index [] more, named) (sym (read.given name))
 
-bad_value : (words : List Word) (draft : Draft) (index : ℕ) (name : OptionName) → IsRead words draft index → index < length words → option_named (get_or words index []) ≡ Some name → is_bad words (index + 1) ≡ not (option_map_or (is_value name) (slice_get words (index + 1)) false)
+bad_value : (words : List Word) (draft : Draft) (index : ℕ) (name : OptionName) → IsRead words draft index → index < length words → option_for (command_in words) (get_or words index []) ≡ Some name → is_bad words (index + 1) ≡ not (option_map_or (is_value name) (slice_get words (index + 1)) false)
 bad_value words draft index name read more named =
     let back : index + 1 - 1 ≡ index = omega arith in
     is_bad-even words (index + 1) (given_count draft) (omega (arith, read.turn)) ∙ rw (back, slice_get-get_or words index [] more, named) refl
@@ -118,24 +118,24 @@ fine_more words index fine here k below =
       ]
     ]
 
-pub refused_unnamed : (words : List Word) (draft : Draft) (index : ℕ) → IsRead words draft index → index < length words → option_named (get_or words index []) ≡ None → options_of words ≡ Err (index + 1)
+pub refused_unnamed : (words : List Word) (draft : Draft) (index : ℕ) → IsRead words draft index → index < length words → option_for (command_in words) (get_or words index []) ≡ None → options_of words ≡ Err (index + 1)
 refused_unnamed words draft index read more unnamed =
     refused_at words index read.within (bad_option_unnamed words draft index read more unnamed) read.fine
 
-pub refused_again : (words : List Word) (draft : Draft) (index : ℕ) (name : OptionName) → IsRead words draft index → index < length words → option_named (get_or words index []) ≡ Some name → is_given draft name ≡ true → options_of words ≡ Err (index + 1)
+pub refused_again : (words : List Word) (draft : Draft) (index : ℕ) (name : OptionName) → IsRead words draft index → index < length words → option_for (command_in words) (get_or words index []) ≡ Some name → is_given draft name ≡ true → options_of words ≡ Err (index + 1)
 refused_again words draft index name read more named given =
     refused_at words index read.within (bad_option_named words draft index name read more named ∙ given) read.fine
 
-fine_name : (words : List Word) (draft : Draft) (index : ℕ) (name : OptionName) → IsRead words draft index → index < length words → option_named (get_or words index []) ≡ Some name → is_given draft name ≡ false → (k : ℕ) → k < index + 1 → is_bad words k ≡ false
+fine_name : (words : List Word) (draft : Draft) (index : ℕ) (name : OptionName) → IsRead words draft index → index < length words → option_for (command_in words) (get_or words index []) ≡ Some name → is_given draft name ≡ false → (k : ℕ) → k < index + 1 → is_bad words k ≡ false
 fine_name words draft index name read more named new =
     fine_more words index read.fine (bad_option_named words draft index name read more named ∙ new)
 
-pub refused_missing : (words : List Word) (draft : Draft) (index : ℕ) (name : OptionName) → IsRead words draft index → index < length words → option_named (get_or words index []) ≡ Some name → is_given draft name ≡ false → length words ≤ index + 1 → options_of words ≡ Err (index + 2)
+pub refused_missing : (words : List Word) (draft : Draft) (index : ℕ) (name : OptionName) → IsRead words draft index → index < length words → option_for (command_in words) (get_or words index []) ≡ Some name → is_given draft name ≡ false → length words ≤ index + 1 → options_of words ≡ Err (index + 2)
 refused_missing words draft index name read more named new end =
     let bad : is_bad words (index + 1) ≡ true = bad_value words draft index name read more named ∙ rw (slice_get_past words (index + 1) end) refl in
     refused_at words (index + 1) (omega arith) bad (fine_name words draft index name read more named new) ∙ ap (λ place. Err place) (omega arith)
 
-pub refused_value : (words : List Word) (draft : Draft) (index : ℕ) (name : OptionName) → IsRead words draft index → index + 1 < length words → option_named (get_or words index []) ≡ Some name → is_given draft name ≡ false → is_value name (get_or words (index + 1) []) ≡ false → options_of words ≡ Err (index + 2)
+pub refused_value : (words : List Word) (draft : Draft) (index : ℕ) (name : OptionName) → IsRead words draft index → index + 1 < length words → option_for (command_in words) (get_or words index []) ≡ Some name → is_given draft name ≡ false → is_value name (get_or words (index + 1) []) ≡ false → options_of words ≡ Err (index + 2)
 refused_value words draft index name read more named new invalid =
     let bad : is_bad words (index + 1) ≡ true = bad_value words draft index name read (omega arith) named ∙ rw (slice_get-get_or words (index + 1) [] more, invalid) refl in
     refused_at words (index + 1) (omega arith) bad (fine_name words draft index name read (omega arith) named new) ∙ ap (λ place. Err place) (omega arith)
@@ -149,11 +149,11 @@ option_or-None None = refl
 option_or-None (Some x) = refl
 
 -- what the options have, with one more
-given_along : (words : List Word) (draft : Draft) (index : ℕ) (name : OptionName) → IsRead words draft index → index + 1 < length words → option_named (get_or words index []) ≡ Some name → is_given draft name ≡ false → (other : OptionName) → one_more (λ n. given_value n (settings_of (take index words))) name (get_or words (index + 1) []) other ≡ given_value other (settings_of (take (index + 2) words))
+given_along : (words : List Word) (draft : Draft) (index : ℕ) (name : OptionName) → IsRead words draft index → index + 1 < length words → option_for (command_in words) (get_or words index []) ≡ Some name → is_given draft name ≡ false → (other : OptionName) → one_more (λ n. given_value n (settings_of (take index words))) name (get_or words (index + 1) []) other ≡ given_value other (settings_of (take (index + 2) words))
 given_along words draft index name read more named new other =
     let settings = settings_of (take index words) in
     let value = get_or words (index + 1) [] in
-    let written = name_from_named (get_or words index []) name named in
+    let written = name_from_named (get_or words index []) name (named_from_for (command_in words) (get_or words index []) name named) in
     let longer = ap (given_value other) (settings_of_more words index (given_count draft) read.turn more) ∙ given_value_more other settings (get_or words index []) value ∙ ap (λ word. option_or (given_value other settings) (cond (bytes_eq word (name_of other)) (Some value) None)) written in
     elim (cases_Bool (bytes_eq (name_of name) (name_of other))) as (λ _. one_more (λ n. given_value n settings) name value other ≡ given_value other (settings_of (take (index + 2) words))) [
       | inl same ↦
@@ -164,7 +164,7 @@ given_along words draft index name read more named new other =
       | inr differs ↦ rw (differs) (sym (longer ∙ rw (differs) (option_or-None (given_value other settings))))
     ]
 
-pub read_more : (words : List Word) (draft : Draft) (index : ℕ) (name : OptionName) → IsRead words draft index → index + 1 < length words → option_named (get_or words index []) ≡ Some name → is_given draft name ≡ false → is_value name (get_or words (index + 1) []) ≡ true → IsRead words (with_value draft name (get_or words (index + 1) [])) (index + 2)
+pub read_more : (words : List Word) (draft : Draft) (index : ℕ) (name : OptionName) → IsRead words draft index → index + 1 < length words → option_for (command_in words) (get_or words index []) ≡ Some name → is_given draft name ≡ false → is_value name (get_or words (index + 1) []) ≡ true → IsRead words (with_value draft name (get_or words (index + 1) [])) (index + 2)
 read_more words draft index name read more named new valid =
     let value = get_or words (index + 1) [] in
     let along = given_along words draft index name read more named new in

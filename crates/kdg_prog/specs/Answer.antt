@@ -1,23 +1,23 @@
 -- What an input is answered: a function of the options and of the input's bytes.
-use Rattle.std.specs.Prelude.{ℕ, List, ◌++◌, length, codes, Option, Some, None, Result, Ok, Err, IfOk}
-use Rattle.std.specs.Fmt.{decimal}
-use Rattle.kdg_text.specs.declared.fault.Fault.{Fault}
+use Rattle.std.specs.Prelude.{ℕ, List}
 use Rattle.bench_reader.specs.declared.deck.Deck.{Deck}
 use Rattle.bench_reader.specs.Grammar.{deck_of}
-use Rattle.cell_store.specs.Values.{values_of}
-use Rattle.output_log.specs.Entries.{joined_texts}
-use Rattle.app_laws.specs.declared.serial_run.Finals.{Finals}
-use Rattle.app_laws.specs.Execution.{Execution, Operator, start_of, run_to_end}
-use Rattle.app_laws.specs.Serial.{FirstPasses}
 use Rattle.logic_sim.specs.Circuit.{start_cells, start_tasks, finals_of}
 use Rattle.logic_sim.specs.Event.{Simulation, act_of}
+use Rattle.spring_mesh.specs.declared.file.MeshFile.{MeshFile}
+use Rattle.spring_mesh.specs.declared.file.MeshNode.{MeshNode}
+use Rattle.spring_mesh.specs.Grammar.{mesh_of}
+use Rattle.spring_mesh.specs.Meaning as meshes
+use Rattle.mtx_reader.specs.declared.pattern.Pattern.{Pattern}
+use Rattle.mtx_reader.specs.Grammar.{pattern_of}
+use Rattle.gf2_eliminate.specs.declared.line.Line2.{Line2}
+use Rattle.gf2_eliminate.specs.Elimination.{elimination}
+use Rattle.gf2_eliminate.specs.Start as matrices
+use Rattle.kdg_prog.specs.declared.words.Command.{Command}
+use Rattle.kdg_prog.specs.declared.words.Command.TheVariants.{Sim, Rank, Mesh}
 use Rattle.kdg_prog.specs.declared.words.Options.{Options}
-
--- a fault of the input, that its execution creates more tasks than the budget, or what is printed
-pub data Answer : Type 0 where
-  input_fault : Fault → Answer
-  over_budget : Answer
-  whole_print : List ℕ → Answer
+use Rattle.kdg_prog.specs.Problem.{Problem, answer_read, FirstPassesRead}
+pub use Rattle.kdg_prog.specs.Problem.{Answer, input_fault, over_budget, whole_print}
 
 -- ---- the command sim
 
@@ -25,45 +25,57 @@ pub data Answer : Type 0 where
 abbrev pub simulation_of : Options → Deck → Simulation
 simulation_of options deck = record { deck = deck; until = options.until }
 
--- what its tasks do
-abbrev pub operator_of : Options → Deck → Operator ℕ
-operator_of options deck = act_of (simulation_of options deck)
+-- every signal is 0 at first, and the outputs are told at the end
+abbrev pub circuit_problem : Simulation → Problem ℕ
+circuit_problem circuit = record {
+  act = act_of circuit;
+  cells = start_cells circuit.deck;
+  tasks = start_tasks circuit;
+  finals = finals_of circuit.deck;
+}
 
--- the execution of a deck before anything has acted
-abbrev pub start_for : Options → Deck → Execution ℕ
-start_for options deck = start_of (start_cells deck) (start_tasks (simulation_of options deck))
+abbrev pub deck_problem : Options → Deck → Problem ℕ
+deck_problem options deck = circuit_problem (simulation_of options deck)
 
--- the execution of a deck to its end, where it creates no more tasks than the budget
-abbrev pub end_of : Options → Deck → Option (Execution ℕ)
-end_of options deck = run_to_end (operator_of options deck) options.budget (start_for options deck)
+-- ---- the command rank
 
--- tasks N
-abbrev pub tasks_line : ℕ → List ℕ
-tasks_line count = codes "tasks " ++ decimal count ++ codes "\n"
+-- the ones of a pattern at first, and the lines and the rank of what elimination makes of them
+abbrev pub pattern_problem : Pattern → Problem Line2
+pattern_problem pattern = record {
+  act = (elimination pattern.rows pattern.cols).act;
+  cells = matrices.start_cells pattern;
+  tasks = matrices.start_tasks pattern;
+  finals = matrices.finals_of pattern.rows;
+}
 
--- the texts of the log in order, then the finals, then the number of tasks
-abbrev pub print_of : Deck → Execution ℕ → List ℕ
-print_of deck end = joined_texts end.log ++ finals_of deck end.cells ++ tasks_line (length end.log)
+-- ---- the command mesh
 
--- the same of what a run leaves
-abbrev pub print_of_finals : Deck → Finals ℕ → List ℕ
-print_of_finals deck finals = joined_texts finals.log.entries ++ finals_of deck (values_of finals.store) ++ tasks_line finals.count
+-- the nodes are where the file has them at first, and are told as they are at its end
+abbrev pub mesh_problem : MeshFile → Problem MeshNode
+mesh_problem file = record {
+  act = (meshes.mesh_steps file).act;
+  cells = file.nodes;
+  tasks = meshes.start_tasks file;
+  finals = meshes.finals_of file;
+}
 
 -- ---- every command
 
--- by the end of the execution, where there is one
-abbrev pub answer_by_end : Deck → Option (Execution ℕ) → Answer
-answer_by_end deck None = over_budget
-answer_by_end deck (Some end) = whole_print (print_of deck end)
+-- what an input of a command is answered
+abbrev pub answer_for : Command → Options → List ℕ → Answer
+answer_for Rank options input = answer_read pattern_problem options (pattern_of input)
+answer_for Mesh options input = answer_read mesh_problem options (mesh_of input)
+answer_for Sim options input = answer_read (deck_problem options) options (deck_of input)
 
-abbrev pub answer_by_deck : Options → Result Deck Fault → Answer
-answer_by_deck options (Err fault) = input_fault fault
-answer_by_deck options (Ok deck) = answer_by_end deck (end_of options deck)
+abbrev pub FirstPassesFor : Command → Options → List ℕ → ℕ → Type 0
+FirstPassesFor Rank options input = FirstPassesRead pattern_problem options (pattern_of input)
+FirstPassesFor Mesh options input = FirstPassesRead mesh_problem options (mesh_of input)
+FirstPassesFor Sim options input = FirstPassesRead (deck_problem options) options (deck_of input)
 
 -- what an input is answered
 abbrev pub answer_of : Options → List ℕ → Answer
-answer_of options input = answer_by_deck options (deck_of input)
+answer_of options input = answer_for options.command options input
 
 -- this many tasks have been created when first there are more than the budget
 abbrev pub FirstPassesBudget : Options → List ℕ → ℕ → Type 0
-FirstPassesBudget options input created = IfOk (deck_of input) (λ deck. FirstPasses (operator_of options deck) options.budget (start_for options deck) created)
+FirstPassesBudget options input = FirstPassesFor options.command options input

@@ -10,7 +10,9 @@ use Rattle.outer_edge.specs.declared.whole_input.ReadAllFault.TheVariants as inp
 use Rattle.kdg_prog.specs.declared.status.Status.{Status}
 use Rattle.kdg_prog.specs.declared.status.Status.TheVariants as status
 use Rattle.kdg_prog.specs.declared.words.Options.{Options}
-use Rattle.kdg_prog.specs.Answer.{input_fault, over_budget, answer_of, FirstPassesBudget}
+use Rattle.kdg_prog.specs.declared.words.Command.{Command}
+use Rattle.kdg_prog.specs.Problem.{Problem, Answer, input_fault, over_budget, answer_by, FirstPassesIn}
+use Rattle.kdg_prog.specs.Answer.{answer_for, FirstPassesFor}
 use Rattle.kdg_prog.specs.Bounds.{input_bound}
 use Rattle.kdg_prog.specs.Status.{status_of_fault}
 
@@ -28,17 +30,29 @@ AnswersSerial (serial.Budget created limit) answer = answer ≡ status.Budget cr
 AnswersSerial serial.NoRoom answer = answer ≡ status.NoMemory
 
 -- a fault of the input
-abbrev pub IsInputFault : Options → List ℕ → Status → Type 0
-IsInputFault options input answer = (fault : Fault) × (answer_of options input ≡ input_fault fault) × (answer ≡ status_of_fault fault)
+abbrev pub IsInputFault : Answer → Status → Type 0
+IsInputFault is answer = (fault : Fault) × (is ≡ input_fault fault) × (answer ≡ status_of_fault fault)
 
 -- more tasks than the budget, with their number when first there are more
-pub record IsBudgetFault (options : Options) (input : List ℕ) (answer : Status) : Type 0 where
+pub record IsBudgetFault (is : Answer) (First : ℕ → Type 0) (budget : ℕ) (answer : Status) : Type 0 where
   pub created : ℕ
-  pub is : answer ≡ status.Budget created options.budget
-  pub above : options.budget < created
-  pub over : answer_of options input ≡ over_budget
-  pub first : FirstPassesBudget options input created
+  pub told : answer ≡ status.Budget created budget
+  pub above : budget < created
+  pub over : is ≡ over_budget
+  pub first : First created
 
--- why there is no print for an input; want of memory may come at any time
+-- why there is no print where this is answered; want of memory may come at any time
+abbrev pub IsRefusalBy : Answer → (ℕ → Type 0) → ℕ → Status → Type 0
+IsRefusalBy is First budget answer = IsInputFault is answer ⊎ (IsBudgetFault is First budget answer ⊎ (answer ≡ status.NoMemory))
+
+-- why a run of a problem gives no print
+abbrev pub IsRunRefusal : {V : Type 0} → Options → Problem V → Status → Type 0
+IsRunRefusal options problem = IsRefusalBy (answer_by options problem) (FirstPassesIn options problem) options.budget
+
+-- why there is no print for an input of a command
+abbrev pub IsRefusalFor : Command → Options → List ℕ → Status → Type 0
+IsRefusalFor command options input = IsRefusalBy (answer_for command options input) (FirstPassesFor command options input) options.budget
+
+-- why there is no print for an input
 abbrev pub IsRefusal : Options → List ℕ → Status → Type 0
-IsRefusal options input answer = IsInputFault options input answer ⊎ (IsBudgetFault options input answer ⊎ (answer ≡ status.NoMemory))
+IsRefusal options input = IsRefusalFor options.command options input

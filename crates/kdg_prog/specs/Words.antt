@@ -6,7 +6,7 @@ use Rattle.std.specs.Str.{bytes_eq}
 use Rattle.kdg_text.specs.Numbers.{u64_of}
 use Rattle.kdg_prog.specs.Bounds.{latest_time, most_tasks, most_workers}
 use Rattle.kdg_prog.specs.declared.words.Command.{Command}
-use Rattle.kdg_prog.specs.declared.words.Command.TheVariants.{Sim}
+use Rattle.kdg_prog.specs.declared.words.Command.TheVariants.{Sim, Rank, Mesh}
 use Rattle.kdg_prog.specs.declared.words.Mode.{Mode}
 use Rattle.kdg_prog.specs.declared.words.Mode.TheVariants.{Serial}
 use Rattle.kdg_prog.specs.declared.words.OptionName.{OptionName}
@@ -19,7 +19,11 @@ Word = List ℕ
 
 -- the command that a word names
 abbrev pub command_named : Word → Option Command
-command_named word = if bytes_eq word (codes "sim") then Some Sim else None
+command_named word =
+    if bytes_eq word (codes "sim") then Some Sim
+    else if bytes_eq word (codes "rank") then Some Rank
+    else if bytes_eq word (codes "mesh") then Some Mesh
+    else None
 
 -- how each option is written
 abbrev pub name_of : OptionName → Word
@@ -37,6 +41,18 @@ option_names =
 -- the option that a word names
 abbrev pub option_named : Word → Option OptionName
 option_named word = find (λ name. bytes_eq word (name_of name)) option_names
+
+-- whether a command has an option: circuits alone are simulated up to a time
+abbrev pub takes : Command → OptionName → Bool
+takes Sim name = true
+takes Rank name.Until = false
+takes Rank name = true
+takes Mesh name.Until = false
+takes Mesh name = true
+
+-- the option of a command that a word names
+abbrev pub option_for : Command → Word → Option OptionName
+option_for command word = option_and_then (λ name. if takes command name then Some name else None) (option_named word)
 
 -- a number that lies in a range, the ends included
 abbrev pub number_within : ℕ → ℕ → Word → Option ℕ
@@ -87,11 +103,19 @@ abbrev pub given_value : OptionName → List (Word × Word) → Option Word
 given_value name settings =
     option_map (λ setting. setting.1) (find (λ setting. bytes_eq setting.0 (name_of name)) settings)
 
--- a word that stands in an option's place is bad: it names no option, or one that was given before
+-- the command among the words
+abbrev pub command_of : List Word → Option Command
+command_of words = option_and_then command_named (slice_get words 0)
+
+-- the command that the other words are read for
+abbrev pub command_in : List Word → Command
+command_in words = unwrap_or (command_of words) Sim
+
+-- a word that stands in an option's place is bad: it names no option of the command, or one that was given before
 abbrev pub is_bad_option : List Word → ℕ → Bool
 is_bad_option words index =
     option_map_or
-    (λ word. option_map_or (λ name. is_some (given_value name (settings_of (take index words)))) (option_named word) true)
+    (λ word. option_map_or (λ name. is_some (given_value name (settings_of (take index words)))) (option_for (command_in words) word) true)
     (slice_get words index)
     false
 
@@ -100,12 +124,8 @@ abbrev pub is_bad_value : List Word → ℕ → Bool
 is_bad_value words index =
     option_map_or
     (λ name. not (option_map_or (is_value name) (slice_get words index) false))
-    (option_and_then option_named (slice_get words (index - 1)))
+    (option_and_then (option_for (command_in words)) (slice_get words (index - 1)))
     false
-
--- the command among the words
-abbrev pub command_of : List Word → Option Command
-command_of words = option_and_then command_named (slice_get words 0)
 
 -- the word at an index is bad: the command comes first, and then options and values take turns
 abbrev pub is_bad : List Word → ℕ → Bool
@@ -138,11 +158,10 @@ options_unless (Some index) options = Err (index + 1)
 -- what the words of a command line ask for, or the place of the first bad one
 abbrev pub options_of : List Word → Result Options ℕ
 options_of words =
-    options_unless (first_bad words) (options_given (unwrap_or (command_of words) Sim) (settings_of words))
+    options_unless (first_bad words) (options_given (command_in words) (settings_of words))
 
 -- options that words can ask for
 pub record IsAllowed (options : Options) : Type 0 where
-  pub command : options.command ≡ Sim
   pub workers : (1 ≤ options.workers) × (options.workers ≤ most_workers)
   pub mode : options.mode ≡ Serial
   pub until : options.until ≤ latest_time

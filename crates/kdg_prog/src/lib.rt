@@ -2,6 +2,7 @@
 #![tactic(auto)]
 
 mod faults;
+mod problem;
 mod status;
 mod whole_run;
 mod words;

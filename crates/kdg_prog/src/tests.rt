@@ -25,8 +25,30 @@ fn defaults() -> Options {
 #[test]
 fn reads_words(rt: HostRuntime) -> Result<(), Fail> {
     let sim = defaults();
-    let rows: [(&[&str], Options); 18] = [
+    let rows: [(&[&str], Options); 21] = [
         (&["sim"], sim),
+        (
+            &["mesh"],
+            Options {
+                command: Command::Mesh,
+                ..sim
+            },
+        ),
+        (
+            &["rank"],
+            Options {
+                command: Command::Rank,
+                ..sim
+            },
+        ),
+        (
+            &["mesh", "--budget", "7"],
+            Options {
+                command: Command::Mesh,
+                budget: 7,
+                ..sim
+            },
+        ),
         (&["sim", "--workers", "1"], Options { workers: 1, ..sim }),
         (&["sim", "--workers", "64"], Options { workers: 64, ..sim }),
         (&["sim", "--workers", "007"], Options { workers: 7, ..sim }),
@@ -111,12 +133,14 @@ fn reads_words(rt: HostRuntime) -> Result<(), Fail> {
 
 #[test]
 fn names_the_first_bad_word(rt: HostRuntime) -> Result<(), Fail> {
-    let rows: [(&[&str], u32); 31] = [
+    let rows: [(&[&str], u32); 33] = [
         (&[], 1),
         (&[""], 1),
         (&["Sim"], 1),
-        (&["rank"], 1),
-        (&["mesh"], 1),
+        (&["rank", "--until", "5"], 2),
+        (&["mesh", "--until", "5"], 2),
+        (&["mesh", "--seed", "1", "--until", "5"], 4),
+        (&["mesh", "mesh"], 2),
         (&["--seed", "1"], 1),
         (&["sim", "--workers", "0"], 3),
         (&["sim", "--workers", "65"], 3),

@@ -1,28 +1,27 @@
-ghost use Rattle.std.specs.Prelude.{◌≡◌, ◌≢◌, ◌++◌, map, string_bytes, IfOk, IfErr, OnOk};
+ghost use Rattle.std.specs.Prelude.{◌≡◌, ◌≢◌, map, string_bytes, IfOk, IfErr};
 ghost use Rattle.outer_edge.specs.Transfers.{transfer_of};
-ghost use Rattle.cell_store.specs.Values.{AreAllHome, values_of};
-ghost use Rattle.logic_sim.specs.Circuit.{IsFitCells};
-ghost use Rattle.kdg_prog.specs.Answer.{answer_of, print_of_finals, tasks_line, whole_print};
+ghost use Rattle.kdg_prog.specs.Answer.{answer_for, answer_of, whole_print};
 ghost use Rattle.kdg_prog.specs.Headline.{CompletesInMemory, Promises, TellsBadWord};
-ghost use Rattle.kdg_prog.specs.Refusals.{IsRefusal};
+ghost use Rattle.kdg_prog.specs.Refusals.{IsRefusal, IsRefusalFor};
 ghost use Rattle.kdg_prog.specs.Words.{IsAllowed, options_of};
 
-use crate::{Options, Status, read_words};
-use app_laws::{Finals, execution_laws, serial};
+use crate::problem::print_of_run;
+use crate::{Command, Options, Status, read_words};
 use bench_reader::read_deck;
-use cell_store::value_laws;
-use kdg_text::{NoRoom, Text, push_u64};
+use gf2_eliminate::Matrix;
+use kdg_text::Text;
 use logic_sim::Circuit;
+use mtx_reader::read_mtx;
 use outer_edge::{CleanSink, CleanSource, Sink, Source, read_all, write_whole};
+use spring_mesh::{Mesh, read_mesh};
 use std::alloc::Global;
-use task_order::put_in_laws;
 
 /// How many bytes an input may have.
 pub(crate) const INPUT_BOUND: u64 = 16_777_216;
 
-/// Reads the words and then the whole input, simulates the circuit that it describes, always
-/// running the earliest pending task, and writes the print: the log, the finals, and the number of
-/// tasks.
+/// Reads the words and then the whole input, runs the circuit, the elimination or the mesh
+/// that it describes, always the earliest pending task, and writes the print: the log, the finals,
+/// and the number of tasks.
 ///
 /// What is wrong is told in this order: the words; a failed read, or more bytes than the bound,
 /// whichever comes first; the input; the budget; a failed write. `NoMemory` may come in place of
@@ -92,50 +91,51 @@ pub fn run_in_memory(
     run_plain(alloc, options, source, sink)
 }
 
-/// The print for an input, or why there is none. The input is dropped before the execution. Where
-/// the first tasks alone are too many, none of them is made.
+/// The print for an input, or why there is none.
 fn print_of(alloc: Global, options: &Options, input: Text) -> Result<Text, Status>
     requires { IsAllowed options.now }
     ensures print { IfOk result (λ bytes. answer_of options.now input ≡ whole_print bytes) }
     ensures refusal { IfErr result (IsRefusal options.now input) }
 {
-    value_laws::<u8>();
-    execution_laws::<u8>();
-    put_in_laws();
+    match options.command {
+        Command::Sim => circuit_print(alloc, options, input),
+        Command::Rank => matrix_print(alloc, options, input),
+        Command::Mesh => mesh_print(alloc, options, input),
+    }
+}
+
+/// The print for a circuit, or why there is none. The input is dropped before the run.
+fn circuit_print(alloc: Global, options: &Options, input: Text) -> Result<Text, Status>
+    requires { IsAllowed options.now }
+    ensures print { IfOk result (λ bytes. answer_for Command.Sim options.now input ≡ whole_print bytes) }
+    ensures refusal { IfErr result (IsRefusalFor Command.Sim options.now input) }
+{
     let deck = read_deck(alloc, input.bytes())?;
     drop(input);
     let circuit = Circuit::new(alloc, deck, options.until)?;
-    let created = circuit.first_task_count();
-    let limit = options.budget;
-    if created > limit {
-        return Err(Status::Budget { created, limit });
-    }
-    let cells = circuit.first_cells()?;
-    let tasks = circuit.first_tasks()?;
-    let finals = serial(alloc, &circuit, cells, tasks, limit)?;
-    Ok(finals_print(&circuit, finals)?)
+    print_of_run(alloc, options, &circuit)
 }
 
-/// The print of a run that has ended: its log, the finals, and the number of tasks.
-fn finals_print(circuit: &Circuit, finals: Finals<u8>) -> Result<Text, NoRoom>
-    requires home { AreAllHome finals.store }
-    requires cells { IsFitCells circuit.now (values_of finals.store) }
-    ensures { IfOk result (λ bytes. bytes ≡ print_of_finals circuit.now.deck finals) }
+/// The print for a matrix, or why there is none. The input is dropped before the run.
+fn matrix_print(alloc: Global, options: &Options, input: Text) -> Result<Text, Status>
+    requires { IsAllowed options.now }
+    ensures print { IfOk result (λ bytes. answer_for Command.Rank options.now input ≡ whole_print bytes) }
+    ensures refusal { IfErr result (IsRefusalFor Command.Rank options.now input) }
 {
-    let Finals { store, log, count } = finals;
-    let mut text = log.all()?;
-    drop(log);
-    text.push_all(circuit.print_finals(&store)?.bytes())?;
-    push_tasks_line(&mut text, count)?;
-    Ok(text)
+    let pattern = read_mtx(alloc, input.bytes())?;
+    drop(input);
+    let matrix = Matrix::new(alloc, pattern);
+    print_of_run(alloc, options, &matrix)
 }
 
-/// Appends `tasks N`.
-fn push_tasks_line(text: &mut Text, count: u64) -> Result<(), NoRoom>
-    ensures { OnOk result (text.new ≡ text.old ++ tasks_line count) }
+/// The print for a mesh, or why there is none. The input is dropped before the run.
+fn mesh_print(alloc: Global, options: &Options, input: Text) -> Result<Text, Status>
+    requires { IsAllowed options.now }
+    ensures print { IfOk result (λ bytes. answer_for Command.Mesh options.now input ≡ whole_print bytes) }
+    ensures refusal { IfErr result (IsRefusalFor Command.Mesh options.now input) }
 {
-    text.push_all(b"tasks ")?;
-    push_u64(text, count)?;
-    text.push_all(b"\n")?;
-    Ok(())
+    let file = read_mesh(alloc, input.bytes())?;
+    drop(input);
+    let mesh = Mesh::new(alloc, file);
+    print_of_run(alloc, options, &mesh)
 }

@@ -1,5 +1,5 @@
 ghost use Rattle.std.specs.Prelude.{◌≡◌, ◌+◌, ◌≤◌, map, string_bytes, is_some, IfOk, IfSome, OnSome};
-ghost use Rattle.kdg_prog.specs.Words.{options_of, IsAllowed, command_named, option_named, number_within, mode_value, switch_value, is_value};
+ghost use Rattle.kdg_prog.specs.Words.{options_of, IsAllowed, command_named, option_for, option_named, takes, number_within, mode_value, switch_value, is_value};
 ghost use Rattle.kdg_prog.specs.Draft.{is_given, with_value, options_of_draft};
 
 use kdg_text::read_u64;
@@ -54,22 +54,22 @@ pub struct Options {
 /// Reads the words of a command line, without the program's name, or gives the place of the first
 /// bad one, counted from 1.
 ///
-/// The first word is the command, `sim`. Pairs of an option and its value follow in any order, each
-/// option at most once:
+/// The first word is the command, `sim`, `rank` or `mesh`. Pairs of an option and its value follow
+/// in any order, each option at most once:
 ///
 /// | option | value | default |
 /// |---|---|---|
 /// | `--workers` | 1 to 64 | 4 |
 /// | `--mode` | `serial` | `serial` |
 /// | `--seed` | 0 to 2^64 - 1 | 0 |
-/// | `--until` | 0 to 1,000,000,000 | 1000 |
+/// | `--until`, only of `sim` | 0 to 1,000,000,000 | 1000 |
 /// | `--budget` | 0 to 1,000,000,000 | 1,000,000 |
 /// | `--stats` | `on` or `off` | `off` |
 ///
 /// Words are compared byte by byte, and numbers are decimal digits, which may begin with zeros. The
-/// first word is bad where it is missing or no command, an option where it is unknown or was given
-/// before, and a value where it is missing or none of its option's. A missing value has the place
-/// behind the last word.
+/// first word is bad where it is missing or no command, an option where it is not one of the
+/// command's or was given before, and a value where it is missing or none of its option's. A missing
+/// value has the place behind the last word.
 pub fn read_words(words: &Vec<String>) -> Result<Options, u32>
     ensures value { result ≡ options_of (map string_bytes words.now.items) }
     ensures allowed { IfOk result IsAllowed }
@@ -82,7 +82,7 @@ pub fn read_words(words: &Vec<String>) -> Result<Options, u32>
     let mut index = 1;
     while index < words.len() {
         let place = index as u32 + 1;
-        let name = option_named(words[index].as_str()).ok_or(place)?;
+        let name = option_for(command, words[index].as_str()).ok_or(place)?;
         if draft.has(name) {
             return Err(place);
         }
@@ -110,7 +110,33 @@ fn command_named(word: &str) -> Option<Command>
 {
     match word {
         "sim" => Some(Command::Sim),
+        "rank" => Some(Command::Rank),
+        "mesh" => Some(Command::Mesh),
         _ => None,
+    }
+}
+
+impl Command {
+    /// Whether it has the option.
+    fn takes(self, name: OptionName) -> bool
+        ensures { result ≡ takes self name }
+    {
+        match (self, name) {
+            (Command::Rank | Command::Mesh, OptionName::Until) => false,
+            _ => true,
+        }
+    }
+}
+
+/// The option of a command that a word names.
+fn option_for(command: Command, word: &str) -> Option<OptionName>
+    ensures { result ≡ option_for command word.now }
+{
+    let name = option_named(word)?;
+    if command.takes(name) {
+        Some(name)
+    } else {
+        None
     }
 }
 

@@ -1,40 +1,12 @@
 //! What is answered and printed for words and an input, in whatever pieces they come and go.
 
-ghost use Rattle.std.specs.Prelude.{◌≤◌};
-
+use crate::answering::answer;
 use crate::decks::{
     C17, C17_CUT, C17_PRINT, C17_SHORT_STIMULUS, C17_STIMULUS, C17_STIMULUS_PRINT, C17_WITH_HEADER,
     RING,
 };
-use kdg_prog::{Status, fault_line, run};
-use kdg_text::NoRoom;
-use outer_edge::{CleanSink, CleanSource};
-use std::alloc::{AllocError, Global};
+use kdg_prog::{Status, fault_line};
 use std::test::Fail;
-
-fn words_of(alloc: Global, line: &str) -> Result<Vec<String>, AllocError> {
-    let mut words = Vec::new(alloc);
-    for word in line.split_whitespace() {
-        words.push(String::from_str(alloc, word)?)?;
-    }
-    Ok(words)
-}
-
-/// The status and what was printed, by reads and writes of at most `step` bytes.
-fn answer(
-    alloc: Global,
-    words: &str,
-    input: &str,
-    step: usize,
-) -> Result<(Status, CleanSink), NoRoom>
-    requires { 1 ≤ step }
-{
-    let words = words_of(alloc, words)?;
-    let mut source = CleanSource::new(input.as_bytes().to_vec(alloc)?, step);
-    let mut sink = CleanSink::with_room(alloc, step, 4096)?;
-    let status = run(alloc, &words, &mut source, &mut sink);
-    Ok((status, sink))
-}
 
 #[test]
 fn answers_and_prints(rt: HostRuntime) -> Result<(), Fail> {
@@ -172,8 +144,8 @@ fn a_deck_has_at_most_4096_signals(rt: HostRuntime) -> Result<(), Fail> {
 fn bad_words_are_told_by_their_place(rt: HostRuntime) -> Result<(), Fail> {
     for (words, word) in [
         ("", 1),
-        ("rank", 1),
-        ("mesh", 1),
+        ("rank --until 5", 2),
+        ("mesh --until 5", 2),
         ("big sim 1", 1),
         ("--budget 5", 1),
         ("sim --workers 0", 3),

@@ -3,8 +3,14 @@
 #![tactic(auto)]
 
 #[cfg(test)]
+mod answering;
+#[cfg(test)]
 mod decks;
 #[cfg(test)]
 mod examples;
 #[cfg(test)]
 mod failures;
+#[cfg(test)]
+mod matrices;
+#[cfg(test)]
+mod meshes;

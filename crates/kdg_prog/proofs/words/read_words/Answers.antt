@@ -1,13 +1,15 @@
 use Rattle.kdg_prog.proofs.words.read_words.Goals as goal
-use Rattle.std.proofs.Common.{◌≡◌, ◌+◌, ◌≤◌, map, string_bytes, ℕ, ◌<◌, length, true, false, List, [], Some, None, Ok, Err, get_or, sym, ap, ◌∙◌, arith, String, Global, Option, Result, subst}
+use Rattle.std.proofs.Common.{◌≡◌, ◌+◌, ◌≤◌, map, string_bytes, ℕ, ◌<◌, length, true, false, List, [], Some, None, Ok, Err, get_or, sym, ap, ◌∙◌, arith, String, Global, Option, Result, subst, unwrap_or}
 use Rattle.std.proofs.lemmas.List.{get_or-map, length-map}
 use Rattle.std.specs.Option.{ok_or}
 use Rattle.std.proofs.lemmas.Grind.{common_steps}
+use Rattle.kdg_prog.specs.declared.words.Command.{Command}
+use Rattle.kdg_prog.specs.declared.words.Command.TheVariants.{Sim}
 use Rattle.kdg_prog.specs.declared.words.Options.{Options}
 use Rattle.std.proofs.lemmas.Result.{err_from_is_err_and}
 use Rattle.kdg_prog.proofs.Allowed.{options_of_allowed}
 use Rattle.std.specs.Result.{IfOk}
-use Rattle.kdg_prog.specs.Words.{Word, IsAllowed, options_of, option_named, is_value, command_of}
+use Rattle.kdg_prog.specs.Words.{Word, IsAllowed, options_of, option_for, is_value, command_of, command_in}
 use Rattle.kdg_prog.proofs.Reading.{refused_command, refused_unnamed, refused_again, refused_missing, refused_value, read_more, read_all}
 
 -- the bytes of the words
@@ -16,6 +18,10 @@ bytes_of words = map string_bytes words
 
 byte_word : (words : List (String Global)) (index : ℕ) (word : String Global) → index < length words → word ≡ get_or words index word → get_or (bytes_of words) index [] ≡ string_bytes word
 byte_word words index word within at = get_or-map string_bytes words index word [] within ∙ ap string_bytes (sym at)
+
+-- the options are those of the command
+for_command : (words : List Word) (command : Command) (word : Word) → command_of words ≡ Some command → option_for (command_in words) word ≡ option_for command word
+for_command words command word is = ap (λ found. option_for (unwrap_or found Sim) word) is
 
 err_of_none : {T : Type 0} (option : Option T) (place code : ℕ) → option ≡ None → ok_or option code ≡ Err place → place ≡ code
 err_of_none None place code none is = cc
@@ -39,8 +45,8 @@ returns-in_err-name-clause-value c =
     let index = c.loop-index.index in
     let p = err_from_is_err_and c.from_residual-in_err-name.result c.from_residual-in_err-name.ensures.1 in
     let word = byte_word words index c.index.result.now (omega arith) c.index.ensures in
-    let unnamed : option_named (get_or (bytes_of words) index []) ≡ None = ap option_named (word ∙ sym c.as_str.ensures.value) ∙ sym c.option_named.ensures ∙ c.in_err-name.ensures.ok_part in
-    let place = err_of_none c.option_named.result c.in_err-name.field-0.0 (index + 1) c.in_err-name.ensures.ok_part (sym c.in_err-name.ensures.value) in
+    let unnamed : option_for (command_in (bytes_of words)) (get_or (bytes_of words) index []) ≡ None = for_command (bytes_of words) c.in_ok-command.command (get_or (bytes_of words) index []) c.loop-index.invariant.1 ∙ ap (option_for c.in_ok-command.command) (word ∙ sym c.as_str.ensures.value) ∙ sym c.option_for.ensures ∙ c.in_err-name.ensures.ok_part in
+    let place = err_of_none c.option_for.result c.in_err-name.field-0.0 (index + 1) c.in_err-name.ensures.ok_part (sym c.in_err-name.ensures.value) in
     refused (bytes_of words) c.from_residual-in_err-name.result c.in_err-name.field-0.0 (index + 1) p place
     (refused_unnamed (bytes_of words) c.loop-index.draft index c.loop-index.invariant.0 (omega (arith, length-map words string_bytes)) unnamed)
 
@@ -49,7 +55,7 @@ returns-then-has-clause-value c =
     let words = c.args.words.now.items in
     let index = c.loop-index.index in
     let word = byte_word words index c.index.result.now (omega arith) c.index.ensures in
-    let named : option_named (get_or (bytes_of words) index []) ≡ Some c.in_ok-name.name = ap option_named (word ∙ sym c.as_str.ensures.value) ∙ sym c.option_named.ensures ∙ c.in_ok-name.ensures.ok_part in
+    let named : option_for (command_in (bytes_of words)) (get_or (bytes_of words) index []) ≡ Some c.in_ok-name.name = for_command (bytes_of words) c.in_ok-command.command (get_or (bytes_of words) index []) c.loop-index.invariant.1 ∙ ap (option_for c.in_ok-command.command) (word ∙ sym c.as_str.ensures.value) ∙ sym c.option_for.ensures ∙ c.in_ok-name.ensures.ok_part in
     sym (refused_again (bytes_of words) c.loop-index.draft index c.in_ok-name.name c.loop-index.invariant.0 (omega (arith, length-map words string_bytes)) named (sym c.if-has.ensures))
 
 pub returns-in_err-value-clause-value : goal.returns-in_err-value-clause-value
@@ -58,7 +64,7 @@ returns-in_err-value-clause-value c =
     let index = c.loop-index.index in
     let p = err_from_is_err_and c.from_residual-in_err-value.result c.from_residual-in_err-value.ensures.1 in
     let word = byte_word words index c.index.result.now (omega arith) c.index.ensures in
-    let named : option_named (get_or (bytes_of words) index []) ≡ Some c.in_ok-name.name = ap option_named (word ∙ sym c.as_str.ensures.value) ∙ sym c.option_named.ensures ∙ c.in_ok-name.ensures.ok_part in
+    let named : option_for (command_in (bytes_of words)) (get_or (bytes_of words) index []) ≡ Some c.in_ok-name.name = for_command (bytes_of words) c.in_ok-command.command (get_or (bytes_of words) index []) c.loop-index.invariant.1 ∙ ap (option_for c.in_ok-command.command) (word ∙ sym c.as_str.ensures.value) ∙ sym c.option_for.ensures ∙ c.in_ok-name.ensures.ok_part in
     let missing : length words ≤ index + 1 = grind (arith, common_steps) in
     let place = err_of_none c.get.result c.in_err-value.field-0.0 (index + 2) c.in_err-value.ensures.ok_part (ap (λ k. ok_or c.get.result k) (omega arith) ∙ sym c.in_err-value.ensures.value) in
     refused (bytes_of words) c.from_residual-in_err-value.result c.in_err-value.field-0.0 (index + 2) p place
@@ -70,7 +76,7 @@ returns-in_err-ok_or-clause-value c =
     let index = c.loop-index.index in
     let p = err_from_is_err_and c.from_residual-in_err-ok_or.result c.from_residual-in_err-ok_or.ensures.1 in
     let word = byte_word words index c.index.result.now (omega arith) c.index.ensures in
-    let named : option_named (get_or (bytes_of words) index []) ≡ Some c.in_ok-name.name = ap option_named (word ∙ sym c.as_str.ensures.value) ∙ sym c.option_named.ensures ∙ c.in_ok-name.ensures.ok_part in
+    let named : option_for (command_in (bytes_of words)) (get_or (bytes_of words) index []) ≡ Some c.in_ok-name.name = for_command (bytes_of words) c.in_ok-command.command (get_or (bytes_of words) index []) c.loop-index.invariant.1 ∙ ap (option_for c.in_ok-command.command) (word ∙ sym c.as_str.ensures.value) ∙ sym c.option_for.ensures ∙ c.in_ok-name.ensures.ok_part in
     let there : index + 1 < length words = grind (arith, common_steps) in
     let at : c.in_ok-value.value.now ≡ get_or words (index + 1) c.in_ok-value.value.now = grind (arith, common_steps) in
     let next = byte_word words (index + 1) c.in_ok-value.value.now there at ∙ sym c.as_str-in-loop-index.ensures.value in
@@ -84,7 +90,7 @@ loop-index-preserved c =
     let words = c.args.words.now.items in
     let index = c.loop-index.index in
     let word = byte_word words index c.index.result.now (omega arith) c.index.ensures in
-    let named : option_named (get_or (bytes_of words) index []) ≡ Some c.in_ok-name.name = ap option_named (word ∙ sym c.as_str.ensures.value) ∙ sym c.option_named.ensures ∙ c.in_ok-name.ensures.ok_part in
+    let named : option_for (command_in (bytes_of words)) (get_or (bytes_of words) index []) ≡ Some c.in_ok-name.name = for_command (bytes_of words) c.in_ok-command.command (get_or (bytes_of words) index []) c.loop-index.invariant.1 ∙ ap (option_for c.in_ok-command.command) (word ∙ sym c.as_str.ensures.value) ∙ sym c.option_for.ensures ∙ c.in_ok-name.ensures.ok_part in
     let there : index + 1 < length words = grind (arith, common_steps) in
     let at : c.in_ok-value.value.now ≡ get_or words (index + 1) c.in_ok-value.value.now = grind (arith, common_steps) in
     let next = byte_word words (index + 1) c.in_ok-value.value.now there at ∙ sym c.as_str-in-loop-index.ensures.value in

@@ -1,0 +1,82 @@
+//! What is answered and printed for patterns of matrices.
+
+use crate::answering::answer;
+use kdg_prog::Status;
+use std::test::Fail;
+
+#[test]
+fn matrices_are_eliminated(rt: HostRuntime) -> Result<(), Fail> {
+    for (words, input, print) in [
+        (
+            "rank",
+            "%%MatrixMarket matrix coordinate pattern general\n3 3 5\n1 1\n1 2\n2 1\n2 3\n3 3\n",
+            "col 1 row 1\ncol 2 row 2\ncol 3 row 3\nrow 1 1\nrow 2 2\nrow 3 3\nrank 3\ntasks 3\n",
+        ),
+        (
+            "rank",
+            "%%MatrixMarket matrix coordinate pattern general\n2 2 2\n2 2\n2 2\n",
+            "col 1 free\ncol 2 row 2\nrow 1\nrow 2 2\nrank 1\ntasks 2\n",
+        ),
+        (
+            "rank",
+            "%%MatrixMarket matrix coordinate pattern symmetric\n% c\n3 3 2\n2 1\n3 2\n",
+            "col 1 row 2\ncol 2 row 1\ncol 3 free\nrow 1 2\nrow 2 1 3\nrow 3\nrank 2\ntasks 3\n",
+        ),
+        (
+            "rank --stats on --mode serial",
+            "%%MatrixMarket matrix coordinate pattern general\n3 4 6\n1 1\n1 3\n2 2\n2 4\n3 3\n3 4\n",
+            "col 1 row 1\ncol 2 row 2\ncol 3 row 3\ncol 4 free\nrow 1 1 4\nrow 2 2 4\nrow 3 3 4\nrank 3\ntasks 4\n",
+        ),
+        (
+            "rank --budget 2",
+            "%%MatrixMarket matrix coordinate pattern general\n2 2 2\n1 1\n2 2\n",
+            "col 1 row 1\ncol 2 row 2\nrow 1 1\nrow 2 2\nrank 2\ntasks 2\n",
+        ),
+        (
+            "rank",
+            "%%MatrixMarket matrix coordinate pattern general\n0 0 0\n",
+            "rank 0\ntasks 0\n",
+        ),
+    ] {
+        for step in [1usize, 3, 4096] {
+            let (answered, sink) = answer(rt.alloc(), words, input, step)?;
+            assert_eq!(rt; answered, Status::Ok, "{words} {input}");
+            assert_eq!(rt; sink.held(), print.as_bytes(), "{words} {input}");
+        }
+    }
+    Ok(())
+}
+
+#[test]
+fn bad_matrices_are_told(rt: HostRuntime) -> Result<(), Fail> {
+    for (words, input, status) in [
+        (
+            "rank",
+            "%%MatrixMarket matrix coordinate pattern general\n2 2 3\n1 1\n2 2\n",
+            Status::BadInput { line: 5, kind: 6 },
+        ),
+        (
+            "rank",
+            "%%MatrixMarket matrix coordinate pattern general\n4097 1 0\n",
+            Status::TooLarge {
+                line: 2,
+                bound: 4096,
+            },
+        ),
+        ("rank", "", Status::BadInput { line: 1, kind: 1 }),
+        (
+            "rank --budget 1",
+            "%%MatrixMarket matrix coordinate pattern general\n2 2 2\n1 1\n2 2\n",
+            Status::Budget {
+                created: 2,
+                limit: 1,
+            },
+        ),
+        ("rank --until 5", "", Status::Usage { word: 2 }),
+    ] {
+        let (answered, sink) = answer(rt.alloc(), words, input, 5)?;
+        assert_eq!(rt; answered, status, "{words} {input}");
+        assert_eq!(rt; sink.held(), b"".as_slice(), "{words} {input}");
+    }
+    Ok(())
+}
