@@ -1,20 +1,17 @@
 -- What is still to be found of the entries, line by line.
-use Rattle.std.specs.Prelude.{◌≡◌, ℕ, ◌+◌, ◌<◌, ◌≤◌, Bool, true, false, List, [], ◌∷◌, ◌++◌, length, Option, None, Some, Result, Ok, Err, cond, nat_lt, refl}
+use Rattle.std.specs.Prelude.{◌≡◌, ℕ, ◌+◌, ◌<◌, ◌≤◌, Bool, true, false, List, [], ◌∷◌, ◌++◌, length, Option, None, Some, Ok, Err, cond, nat_lt, refl}
 use Rattle.std.specs.Option.{option_or, option_map}
-use Rattle.std.proofs.Common.{arith, sym, ap, ◌∙◌, subst, append_assoc, append-nil, length-append, zero-add}
-use Rattle.std.proofs.lemmas.Bool.Decides.{nat_tests}
+use Rattle.std.proofs.Common.{arith, ap, ◌∙◌, subst, append_assoc, append-nil, length-append, zero-add}
 use Rattle.std.proofs.lemmas.Bool.{lt-ltb, le-ltb, ltb-false}
-use Rattle.kdg_text.specs.declared.fault.Fault.{Fault}
 use Rattle.kdg_text.specs.declared.fault.LineFault.{LineFault}
-use Rattle.kdg_text.specs.Faults.{Numbered, fault_on, first_fault_after, unless_fault}
+use Rattle.kdg_text.specs.Faults.{Numbered, fault_on, first_fault_after}
 use Rattle.mtx_reader.specs.declared.banner.Symmetry.{Symmetry}
 use Rattle.mtx_reader.specs.declared.line_form.LineForm.{LineForm}
 use Rattle.mtx_reader.specs.declared.line_form.LineForm.TheVariants as form
 use Rattle.mtx_reader.specs.declared.line_form.Size.{Size}
-use Rattle.mtx_reader.specs.declared.pattern.Pattern.{Pattern}
 use Rattle.mtx_reader.specs.Faults.{bad_size, few, many, beyond}
 use Rattle.mtx_reader.specs.Grammar.{answer_below}
-use Rattle.mtx_reader.specs.Patterns.{size_fault, is_skew, limit_fault, IsPattern, entry_fault, few_fault, later_fault, line_fault, places_by, named_places, pattern_among, place_fault}
+use Rattle.mtx_reader.specs.Patterns.{size_fault, is_skew, limit_fault, IsPattern, entry_fault, line_fault, places_by, named_places, pattern_among, place_fault}
 use Rattle.mtx_reader.specs.Places.{Place}
 use Rattle.mtx_reader.specs.Readings.{entries_fault, answer_from}
 use Rattle.mtx_reader.proofs.Listing.{places-within, ascending_among}

@@ -1,20 +1,20 @@
 -- Places in order, and what sorting and leaving out what is there twice makes of a list of them.
-use Rattle.std.specs.Prelude.{◌≡◌, ℕ, zero, suc, ◌+◌, ◌<◌, ◌≤◌, ◌==◌, ◌&&◌, ◌||◌, Bool, true, false, List, [], ◌∷◌, ◌++◌, length, map, filter, refl, slice_index_or}
+use Rattle.std.specs.Prelude.{◌≡◌, ℕ, zero, suc, ◌+◌, ◌<◌, ◌≤◌, ◌==◌, ◌&&◌, Bool, true, List, [], ◌∷◌, length, map, refl, slice_index_or}
 use Rattle.std.specs.Cmp.{IsTotalOrder, IsEquivalence}
-use Rattle.std.specs.List.{AllByRecursion, Contains, dedup, list_any}
+use Rattle.std.specs.List.{AllByRecursion, Contains, dedup}
 use Rattle.std.specs.List.Retain.{IsFiltered, DiffersFromLast}
 use Rattle.std.specs.List.Sorted.{IsPermutation, IsSorted, IsStrictlySortedBy}
 use Rattle.std.specs.Ordering.{nat_cmp, ordering_then, eq_by_cmp}
 use Rattle.std.specs.declared.cmp.Ordering.{Ordering}
 use Rattle.std.specs.declared.cmp.Ordering.TheVariants.{Less, Equal, Greater}
-use Rattle.std.proofs.Common.{◌⊎◌, inl, inr, arith, sym, ap, ◌∙◌, subst, get_or}
+use Rattle.std.proofs.Common.{inl, inr, arith, sym, ap, ◌∙◌, subst}
 use Rattle.std.proofs.lemmas.Bool.{and_parts, and_from, or_cases, or_left, or_right, eqb-true, eq-eqb, cases_eq}
 use Rattle.std.proofs.lemmas.Bool.Decides.{nat_tests}
 use Rattle.std.proofs.lemmas.Cmp.{nat_cmp_total, on_total, then_total, nat_eq_equiv, on_equiv, and_equiv}
 use Rattle.std.proofs.lemmas.List.Filters.{dedup_is}
 use Rattle.std.proofs.lemmas.List.Kept.{Contains-dedup, Contains-from_dedup, IsStrictlySortedBy-dedup}
 use Rattle.std.proofs.lemmas.List.Sorted.{Contains-permutation, IsPermutation-sym}
-use Rattle.mtx_reader.specs.Ascending.{IsAscendingBy, IsIn, numbers_from, all_in, all_from_in, in_left, in_right, in_either, in_map, from_map, in_filter, from_filter, ascending_append, ascending_filter, ascending_map, same_members, nat_alike, nat_less, less_from_cmp, in_numbers, from_numbers, ascending_numbers}
+use Rattle.mtx_reader.specs.Ascending.{IsAscendingBy, IsIn, numbers_from, all_in, all_from_in, in_left, in_right, in_either, in_map, from_map, in_filter, from_filter, ascending_append, ascending_filter, ascending_map, same_members, nat_alike, nat_less, in_numbers, from_numbers, ascending_numbers}
 use Rattle.mtx_reader.specs.Places.{Place, is_same, place_cmp, is_among, places_from, places_among, IsWithin, ArePlaces}
 
 pub place_total : IsTotalOrder place_cmp

@@ -1,6 +1,5 @@
 -- What a reader that has come so far still has to find.
-use Rattle.std.specs.Prelude.{◌≡◌, ℕ, ◌+◌, ◌^◌, ◌<◌, List, [], ◌∷◌, ◌++◌, length, Option, None, Some, Result, Ok, Err}
-use Rattle.std.specs.List.{AllByRecursion}
+use Rattle.std.specs.Prelude.{ℕ, ◌+◌, List, [], ◌∷◌, ◌++◌, length, Option, None, Result, Ok}
 use Rattle.std.specs.Option.{option_or, option_map}
 use Rattle.kdg_text.specs.Lines.{LinesLeft}
 use Rattle.kdg_text.specs.Faults.{Numbered, forms_from, fault_on, unless_fault}

@@ -2,9 +2,8 @@ use Rattle.std.specs.Prelude.{◌≡◌, [], Ok, Err}
 use Rattle.std.proofs.Common.{◌∙◌, ap, sym, subst}
 use Rattle.std.proofs.lemmas.Result.{err_from_is_err_and}
 use Rattle.kdg_text.specs.Faults.{Answers}
-use Rattle.mtx_reader.specs.declared.pattern.Pattern.{Pattern}
 use Rattle.mtx_reader.specs.Grammar.{answer_below}
-use Rattle.mtx_reader.specs.Patterns.{IsPattern, size_fault}
+use Rattle.mtx_reader.specs.Patterns.{size_fault}
 use Rattle.mtx_reader.specs.Readings.{answer_from, end_of, forms_left}
 use Rattle.mtx_reader.proofs.Entries.{answer-entries, pattern-sound}
 use Rattle.mtx_reader.proofs.reader.pattern_below.Goals as goal

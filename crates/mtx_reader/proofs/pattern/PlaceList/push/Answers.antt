@@ -1,5 +1,4 @@
-use Rattle.std.specs.Prelude.{◌≡◌, ◌≤◌}
-use Rattle.std.specs.declared.cmp.Ordering.TheVariants.{Less}
+use Rattle.std.specs.Prelude.{◌≤◌}
 use Rattle.mtx_reader.specs.Ascending.{all_push, ascending_push}
 use Rattle.mtx_reader.specs.Places.{Place, place_cmp}
 use Rattle.mtx_reader.proofs.pattern.PlaceList.push.Goals as goal
