@@ -1,10 +1,9 @@
 -- What a step finds in its bundle, and what it leaves there.
-use Rattle.std.proofs.Common.{◌≡◌, ◌<◌, ◌≤◌, ◌⊎◌, ◌+◌, ℕ, Bool, true, false, List, [], ◌∷◌, map, length, IsSome, IsTrue, arith, refl, sym, ap, ◌∙◌, subst, length-set, nat_le}
+use Rattle.std.proofs.Common.{◌≡◌, ◌<◌, ◌≤◌, ◌+◌, ℕ, Bool, true, false, List, [], ◌∷◌, map, length, IsSome, IsTrue, arith, refl, sym, ap, ◌∙◌, subst, length-set, nat_le}
 use Rattle.std.specs.Prelude.{if◌then◌else◌, slice_set}
 use Rattle.task_order.specs.declared.task.Body.{Body}
 use Rattle.task_order.specs.declared.task.Task.{Task}
 use Rattle.rw_sets.specs.Accesses.{access_at, writes}
-use Rattle.cell_store.specs.declared.cell.Cell.{Cell}
 use Rattle.cell_store.specs.declared.cell.Cell.TheVariants.{Home}
 use Rattle.cell_store.specs.Part.{Part}
 use Rattle.cell_store.specs.Cells.{cell_in, part_of, with_value}
@@ -17,7 +16,7 @@ use Rattle.spring_mesh.specs.declared.file.MeshFile.{MeshFile}
 use Rattle.spring_mesh.specs.declared.file.MeshNode.{MeshNode}
 use Rattle.spring_mesh.specs.declared.file.Spring.{Spring}
 use Rattle.spring_mesh.specs.LineForms.{latest}
-use Rattle.spring_mesh.specs.Files.{IsMesh, IsNode, IsSpring}
+use Rattle.spring_mesh.specs.Files.{IsNode, IsSpring}
 use Rattle.spring_mesh.specs.Motion.{brought_to, first_after, second_after}
 use Rattle.spring_mesh.specs.Meaning.{IsFitCells, IsFitTask, children_of, ends_of, first_stepped, mass_at, mesh_steps, next_steps, no_node, node_at, second_stepped, spring_at, with_ends}
 use Rattle.spring_mesh.specs.Ends.{ends_of-ascending, first-named, first-written, second-named, second-written}

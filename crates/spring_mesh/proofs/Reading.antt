@@ -2,8 +2,7 @@
 use Rattle.std.proofs.Common.{arith, refl, sym, ap, subst, ◌∙◌, ◌≡◌, ◌+◌, [], ◌∷◌, ◌++◌, ℕ, List, Option, Some, None, Ok, Err, length, append-nil, append_assoc, option_to_list}
 use Rattle.std.proofs.lemmas.List.Elements.{filter_map-append}
 use Rattle.std.specs.List.{cons_option, slice_get}
-use Rattle.std.specs.Option.{option_map, option_or, is_some}
-use Rattle.kdg_text.specs.declared.fault.Fault.{Fault}
+use Rattle.std.specs.Option.{option_or, is_some}
 use Rattle.kdg_text.specs.declared.fault.LineFault.{LineFault}
 use Rattle.kdg_text.specs.Faults.{Numbered, forms_from, first_fault, first_fault_after}
 use Rattle.spring_mesh.specs.declared.draft.Draft.{Draft}

@@ -1,11 +1,11 @@
 -- Each mesh that bytes spell is sound.
-use Rattle.std.proofs.Common.{arith, refl, sym, ap, subst, ◌∙◌, ◌≡◌, ◌≢◌, ◌≤◌, ◌<◌, ◌-◌, ◌+◌, ◌==◌, ◌&&◌, not, true, false, ℕ, ℤ, pos, [], ◌∷◌, ◌++◌, List, Bool, Option, Some, None, Result, Ok, Err, IfOk, cond, length, nat_le, append-nil, append_assoc, length-append, ◌≤ℤ◌, int_le, unsigned_abs}
-use Rattle.std.proofs.lemmas.Bool.{and_parts, false≢true}
+use Rattle.std.proofs.Common.{arith, refl, sym, ap, subst, ◌∙◌, ◌≡◌, ◌≢◌, ◌≤◌, ◌+◌, ◌==◌, ◌&&◌, not, true, false, ℕ, ℤ, pos, [], ◌∷◌, ◌++◌, List, Bool, Option, Some, None, Result, Ok, Err, IfOk, cond, length, nat_le, append-nil, append_assoc, length-append, ◌≤ℤ◌, int_le}
+use Rattle.std.proofs.lemmas.Bool.{and_parts}
 use Rattle.std.proofs.lemmas.Bool.Decides.{nat_tests}
 use Rattle.std.proofs.lemmas.Int.{ints}
 use Rattle.std.proofs.lemmas.List.Elements.{All-nil, All-push, All-weaker}
 use Rattle.std.specs.List.{All, AllByRecursion}
-use Rattle.std.specs.Option.{option_map, option_map_or, option_or, is_some}
+use Rattle.std.specs.Option.{option_map, option_map_or, option_or}
 use Rattle.std.specs.Str.{bytes_eq}
 use Rattle.kdg_text.specs.Lines.{lines_of}
 use Rattle.kdg_text.specs.Tokens.{tokens_of}
@@ -21,10 +21,10 @@ use Rattle.spring_mesh.specs.declared.file.MeshNode.{MeshNode}
 use Rattle.spring_mesh.specs.declared.file.Spring.{Spring}
 use Rattle.spring_mesh.specs.declared.statement.SpringDraft.{SpringDraft}
 use Rattle.spring_mesh.specs.declared.statement.Statement.TheVariants as says
-use Rattle.spring_mesh.specs.Faults.{syntax, no_node, beyond, bad_number}
+use Rattle.spring_mesh.specs.Faults.{syntax, bad_number}
 use Rattle.spring_mesh.specs.LineForms.{LineForm, reach, most_stiffness, most_mass, latest, allowed, is_within_reach, is_stiffness, is_between, coordinate_of, stiffness_of, number_in, any_number, with_number, node_by, spring_by, end_by, form_by, form_of_words, form_of, comment}
-use Rattle.spring_mesh.specs.Files.{most_nodes, most_springs, fault_where, is_one_of, are_two_of, form_fault, statement_fault, line_fault, spring_from, IsWithin, IsNode, IsMass, IsSpring, IsMesh, end_of, file_with}
-use Rattle.spring_mesh.specs.Grammar.{said_lines, answer_of, mesh_of}
+use Rattle.spring_mesh.specs.Files.{most_nodes, most_springs, fault_where, is_one_of, are_two_of, form_fault, line_fault, spring_from, IsWithin, IsNode, IsMass, IsSpring, IsMesh, end_of, file_with}
+use Rattle.spring_mesh.specs.Grammar.{said_lines, mesh_of}
 use Rattle.spring_mesh.specs.Drafts.{draft_of, draft_fault, draft_with, draft_plus, ended}
 use Rattle.spring_mesh.proofs.Reading.{draft_of-push, or_none}
 

@@ -19,7 +19,7 @@ use Rattle.app_laws.specs.Applications.{AreFitStarts}
 use Rattle.spring_mesh.specs.declared.file.MeshNode.{MeshNode}
 use Rattle.spring_mesh.specs.Files.{IsMesh}
 use Rattle.spring_mesh.specs.Motion.{brought_to}
-use Rattle.spring_mesh.specs.Meaning.{IsFitTask, final_line, first_step, mesh_steps, no_node, no_spring, node_at, node_line, spring_at, start_tasks, stepping_among}
+use Rattle.spring_mesh.specs.Meaning.{IsFitTask, final_line, first_step, mesh_steps, no_node, node_at, node_line, spring_at, start_tasks, stepping_among}
 use Rattle.spring_mesh.specs.Lawful.{in_time}
 
 range_more : (n : ℕ) → range_with_len 0 (n + 1) ≡ range_with_len 0 n ++ n ∷ []

@@ -1,13 +1,13 @@
 -- Numbers that come back from their bits as they were.
-use Rattle.std.proofs.Common.{arith, refl, ◌≡◌, ◌<◌, ◌+◌, ◌^◌, ◌*◌, ◌∙◌, ap, sym, ℕ, ℤ, pos, ◌+ℤ◌, ◌-ℤ◌, ◌*ℤ◌, ◌≤ℤ◌, unsigned_abs, FitsSigned, to_z, of_z}
+use Rattle.std.proofs.Common.{arith, ◌≡◌, ◌<◌, ◌+◌, ◌^◌, ◌*◌, ◌∙◌, ap, ℕ, ℤ, pos, ◌+ℤ◌, ◌-ℤ◌, ◌*ℤ◌, ◌≤ℤ◌, FitsSigned, to_z, of_z}
 use Rattle.std.specs.Int.{w64, w128}
 use Rattle.std.proofs.lemmas.Int.{ints, to_z-of_z, fits_signed_from_abs}
 use Rattle.spring_mesh.specs.declared.file.MeshNode.{MeshNode}
 use Rattle.spring_mesh.specs.declared.file.Spring.{Spring}
 use Rattle.spring_mesh.specs.LineForms.{reach, latest, most_stiffness}
-use Rattle.spring_mesh.specs.Files.{IsWithin, IsMass, IsSpring}
+use Rattle.spring_mesh.specs.Files.{IsWithin, IsMass}
 use Rattle.spring_mesh.specs.Motion.{clamped, moved, impulse, change_by}
-use Rattle.spring_mesh.specs.Bounds.{product-within, stiffness-within}
+use Rattle.spring_mesh.specs.Bounds.{product-within}
 
 -- a number as it comes back from 64 bits, and from 128
 abbrev pub narrow : ℤ → ℤ

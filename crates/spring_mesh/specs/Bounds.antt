@@ -1,13 +1,13 @@
 -- How great the numbers of a step can be.
-use Rattle.std.specs.Prelude.{◌≡◌, ℕ, ◌*◌, ◌+◌, ◌≤◌, ℤ, pos, negsuc, neg_ℤ, ◌+ℤ◌, ◌-ℤ◌, ◌*ℤ◌, ◌≤ℤ◌, unsigned_abs}
+use Rattle.std.specs.Prelude.{ℕ, ◌*◌, ◌≤◌, ℤ, pos, negsuc, ◌+ℤ◌, ◌-ℤ◌, ◌*ℤ◌, ◌≤ℤ◌}
 use Rattle.std.specs.Int.{int_div_euclid}
 use Rattle.std.proofs.Common.{arith, mul-le-mul, div-le_self}
 use Rattle.std.proofs.lemmas.Int.{ints, clamps, unsigned_abs-mul}
 use Rattle.spring_mesh.specs.declared.file.MeshNode.{MeshNode}
 use Rattle.spring_mesh.specs.declared.file.Spring.{Spring}
-use Rattle.spring_mesh.specs.LineForms.{reach, latest, most_stiffness, most_mass}
-use Rattle.spring_mesh.specs.Files.{IsWithin, IsNode, IsMass, IsSpring}
-use Rattle.spring_mesh.specs.Motion.{clamped, moved, brought_to, impulse, change_by, first_after, second_after}
+use Rattle.spring_mesh.specs.LineForms.{reach, latest, most_stiffness}
+use Rattle.spring_mesh.specs.Files.{IsWithin, IsNode}
+use Rattle.spring_mesh.specs.Motion.{clamped, brought_to, impulse, change_by, first_after, second_after}
 
 pub clamped-within : (n : ℤ) → IsWithin reach (clamped n)
 clamped-within n = omega (arith, ints, clamps)

@@ -4,7 +4,7 @@ use Rattle.std.proofs.Common.{inl, inr, sym, ap, ◌∙◌, subst}
 use Rattle.std.proofs.lemmas.Bool.{cases_eq, false≢true}
 use Rattle.rw_sets.specs.declared.access.Access.{Access}
 use Rattle.rw_sets.specs.declared.access.Access.TheVariants.{Read, Write}
-use Rattle.rw_sets.specs.Accesses.{Accesses, IsAscending, access_at, allows_write, joined, stronger, writes}
+use Rattle.rw_sets.specs.Accesses.{IsAscending, access_at, allows_write, joined, stronger, writes}
 use Rattle.rw_sets.specs.AccessLaws.{access_first, access_other, ascending_cons, ascending_none}
 use Rattle.rw_sets.specs.MergeLaws.{access_put_here, access_put_other, ascending_put}
 use Rattle.spring_mesh.specs.declared.file.Spring.{Spring}

@@ -1,5 +1,5 @@
 -- The mesh that lines describe, and what holds of every mesh that was read.
-use Rattle.std.specs.Prelude.{◌≡◌, ◌≢◌, ℕ, ◌-◌, ◌<◌, ◌≤◌, Bool, true, ◌&&◌, not, ◌==◌, nat_le, if◌then◌else◌, List, [], ◌∷◌, length, Option, None, Some, is_some, Result, Ok, Err, ℤ, pos, ◌≤ℤ◌, unsigned_abs, slice_get, All}
+use Rattle.std.specs.Prelude.{◌≡◌, ◌≢◌, ℕ, ◌-◌, ◌<◌, ◌≤◌, Bool, ◌&&◌, not, ◌==◌, nat_le, if◌then◌else◌, List, length, Option, None, Some, is_some, Result, Ok, Err, ℤ, pos, ◌≤ℤ◌, unsigned_abs, slice_get, All}
 use Rattle.std.specs.List.{filter_map}
 use Rattle.std.specs.Option.{option_or}
 use Rattle.kdg_text.specs.declared.fault.Fault.{Fault}

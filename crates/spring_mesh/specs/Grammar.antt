@@ -1,5 +1,5 @@
 -- The meshes that bytes spell, and the faults of those that spell none.
-use Rattle.std.specs.Prelude.{◌≡◌, ℕ, ◌+◌, List, length, Result, Ok, Err}
+use Rattle.std.specs.Prelude.{◌≡◌, ℕ, ◌+◌, List, length, Result, Err}
 use Rattle.kdg_text.specs.Lines.{lines_of}
 use Rattle.kdg_text.specs.Faults.{Numbered, forms_from, first_fault, unless_fault}
 use Rattle.kdg_text.specs.declared.fault.Fault.{Fault}

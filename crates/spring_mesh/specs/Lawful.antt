@@ -1,5 +1,5 @@
 -- The laws of meshes.
-use Rattle.std.specs.Prelude.{◌≡◌, ◌≢◌, ◌⊎◌, ℕ, pos, zero, suc, ◌+◌, ◌<◌, ◌≤◌, ◌^◌, Bool, true, List, [], ◌∷◌, ◌++◌, length, nat_le, slice_get, slice_index_or, slice_set, Some, None, IsSome, IsFalse, refl, All}
+use Rattle.std.specs.Prelude.{◌≡◌, ◌≢◌, ◌⊎◌, ℕ, pos, zero, suc, ◌+◌, ◌<◌, ◌≤◌, ◌^◌, Bool, true, List, [], ◌∷◌, length, nat_le, slice_get, slice_set, refl, All}
 use Rattle.std.specs.List.{AllByRecursion, filter}
 use Rattle.std.proofs.Common.{arith, inl, inr, lit<, sym, ap, ◌∙◌, subst}
 use Rattle.std.proofs.lemmas.Bool.{cond_both}
@@ -7,13 +7,12 @@ use Rattle.std.proofs.lemmas.Bool.Decides.{nat_tests}
 use Rattle.std.proofs.lemmas.List.{length-set}
 use Rattle.std.proofs.lemmas.List.Elements.{All-get_or, All-set}
 use Rattle.std.proofs.lemmas.Option.{slice_get-get_or, same_Some}
-use Rattle.task_order.specs.declared.key.Key.{Key}
 use Rattle.task_order.specs.declared.start.Start.{Start}
 use Rattle.task_order.specs.declared.task.Body.{Body}
 use Rattle.task_order.specs.declared.task.Task.{Task}
-use Rattle.rw_sets.specs.Accesses.{access_at, Conflicts}
+use Rattle.rw_sets.specs.Accesses.{Conflicts}
 use Rattle.rw_sets.specs.LookupLaws.{merges_hold_both}
-use Rattle.app_laws.specs.Applications.{AgreeOn, IsFitTask as IsTaskOf, IsInRange, set_in, CellsAreCounted, SetsAreInRange, ActsAreFit, SetsAreLocal, IsSameOutcome, ActsAreLocal, ChildrenComeNoEarlier, SetsStayWithin, WalksAreTrue, IsSafeAlone, SafeTasksStaySafe}
+use Rattle.app_laws.specs.Applications.{AgreeOn, set_in, CellsAreCounted, SetsAreInRange, ActsAreFit, SetsAreLocal, IsSameOutcome, ActsAreLocal, ChildrenComeNoEarlier, SetsStayWithin, WalksAreTrue, IsSafeAlone, SafeTasksStaySafe}
 use Rattle.app_laws.specs.Execution.{children_from}
 use Rattle.spring_mesh.specs.declared.file.MeshFile.{MeshFile}
 use Rattle.spring_mesh.specs.declared.file.MeshNode.{MeshNode}

@@ -4,7 +4,6 @@ use Rattle.std.specs.Fmt.{decimal, signed_decimal}
 use Rattle.std.specs.List.{flat_map, range_with_len}
 use Rattle.task_order.specs.declared.start.Start.{Start}
 use Rattle.task_order.specs.declared.task.Body.{Body}
-use Rattle.task_order.specs.declared.task.Task.{Task}
 use Rattle.rw_sets.specs.declared.access.Access.TheVariants.{Write}
 use Rattle.rw_sets.specs.Accesses.{Accesses, put_access}
 use Rattle.app_laws.specs.declared.app.SetAnswer.TheVariants as answer

@@ -1,4 +1,4 @@
-use Rattle.std.proofs.Common.{◌≡◌, ◌∷◌, ◌++◌, [], ap, ◌∙◌}
+use Rattle.std.proofs.Common.{◌∷◌, ◌++◌, [], ap, ◌∙◌}
 use Rattle.std.specs.Fmt.{decimal}
 use Rattle.spring_mesh.specs.Meaning.{value_piece}
 use Rattle.spring_mesh.proofs.Steps.{on_ok, piece_more}

@@ -1,4 +1,4 @@
-use Rattle.std.proofs.Common.{arith, refl, ◌≡◌, ◌∙◌, ◌-ℤ◌, ◌*ℤ◌, pos, ap}
+use Rattle.std.proofs.Common.{arith, refl, ◌∙◌, ◌-ℤ◌, ◌*ℤ◌, pos, ap}
 use Rattle.std.specs.Int.{w128}
 use Rattle.std.proofs.lemmas.Int.{to_z-of_z}
 use Rattle.spring_mesh.specs.Bounds.{stiffness-within}

@@ -1,4 +1,4 @@
-use Rattle.std.proofs.Common.{arith, ap, ◌≡◌, ◌<◌, length, ◌∙◌}
+use Rattle.std.proofs.Common.{arith, ap, ◌<◌, length, ◌∙◌}
 use Rattle.cell_store.specs.Values.{values_of}
 use Rattle.spring_mesh.specs.declared.file.MeshFile.{MeshFile}
 use Rattle.spring_mesh.specs.Bounds.{brought_to-fits}

@@ -1,4 +1,4 @@
-use Rattle.std.proofs.Common.{arith, ◌≡◌, ◌∙◌, length, ap, subst, sym}
+use Rattle.std.proofs.Common.{◌≡◌, ◌∙◌, length, ap, subst, sym}
 use Rattle.std.specs.Prelude.{IsSome, IsTrue}
 use Rattle.rw_sets.specs.Accesses.{access_at, writes}
 use Rattle.cell_store.specs.declared.cell.Cell.TheVariants.{Home}
@@ -7,9 +7,8 @@ use Rattle.spring_mesh.specs.declared.file.MeshFile.{MeshFile}
 use Rattle.spring_mesh.specs.declared.file.Spring.{Spring}
 use Rattle.spring_mesh.specs.Bounds.{brought_to-fits}
 use Rattle.spring_mesh.specs.Files.{IsMass, IsNode, IsSpring}
-use Rattle.spring_mesh.specs.LineForms.{latest}
 use Rattle.spring_mesh.specs.Motion.{first_after, second_after}
-use Rattle.spring_mesh.specs.Meaning.{children_of, mass_at}
+use Rattle.spring_mesh.specs.Meaning.{children_of}
 use Rattle.spring_mesh.specs.Lawful.{mass_at-fits}
 use Rattle.spring_mesh.proofs.Held.{effect_found, first-in_bundle, first-named_in_bundle, first_fits, from_taken, in_time, second-in_bundle, second-named_in_bundle, second_fits, spring_fits}
 use Rattle.spring_mesh.proofs.Wide.{narrow_mass}
