@@ -1,6 +1,7 @@
 pub mod Allowed
 pub mod Digits
 pub mod FirstBad
+pub mod FirstTasks
 pub mod Given
 pub mod InMemory
 pub mod Promising

@@ -1,11 +1,11 @@
 -- The print of a run, and why there is none.
-use Rattle.std.proofs.Common.{◌≡◌, ℕ, List, ◌++◌, Ok, Err, sym, ◌∙◌, ap, subst, inl, inr}
+use Rattle.std.proofs.Common.{◌≡◌, ℕ, List, ◌++◌, Ok, Err, refl, sym, ◌∙◌, ap, subst, inl, inr}
 use Rattle.std.specs.Prelude.{IfOk, IfErr, IsErrAnd, Result}
 use Rattle.cell_store.specs.Laws.{HomesAreValues}
 use Rattle.cell_store.specs.Values.{AreAllHome, values_of}
 use Rattle.output_log.specs.Entries.{joined_texts}
 use Rattle.app_laws.specs.Execution.{Execution, Operator, start_of}
-use Rattle.app_laws.specs.Serial.{IsFault, IsRun}
+use Rattle.app_laws.specs.Serial.{IsFault, IsOverBudget, IsRun}
 use Rattle.app_laws.specs.declared.serial_run.Finals.{Finals}
 use Rattle.app_laws.specs.declared.serial_run.SerialFault.{SerialFault}
 use Rattle.app_laws.specs.declared.serial_run.SerialFault.TheVariants.{Budget, NoRoom}
@@ -21,7 +21,32 @@ use Rattle.kdg_prog.specs.Refusals.{AnswersSerial, IsRefusalBy, IsRunRefusal}
 pub run_is_home : {V : Type 0} (act : Operator V) (budget : ℕ) (start : Execution V) (finals : Finals V) → HomesAreValues V → IsRun act budget start finals → AreAllHome finals.store
 run_is_home act budget start finals laws run = subst AreAllHome (sym run.store) (laws.all_home run.end.cells)
 
+refused_with : (result : Result (List ℕ) Status) (P Q : Status → Type 0) → ((answer : Status) → P answer → Q answer) → IsErrAnd result P → IfErr result Q
+refused_with (Ok bytes) P Q implies is = tt
+refused_with (Err answer) P Q implies is = implies answer is
+
 module _ {V : Type 0} (options : Options) (problem : Problem V) where
+  pub refusal_when_over : (created : ℕ) → IsOverBudget problem.act options.budget (start_for problem) created options.budget → IsRunRefusal options problem (status.Budget created options.budget)
+  refusal_when_over created over =
+      inr (inl (record {
+        created = created;
+        told = refl;
+        above = over.first_passes.passes;
+        over = ap (answer_by_end problem) over.too_long;
+        first = over.first_passes;
+      }))
+
+  refusal_from_fault : (fault : SerialFault) (answer : Status) → IsFault problem.act options.budget (start_for problem) fault → AnswersSerial fault answer → IsRunRefusal options problem answer
+  refusal_from_fault (Budget created limit) answer over told =
+      inr (inl (record {
+        created = created;
+        told = told ∙ ap (status.Budget created) over.limit_is;
+        above = over.first_passes.passes;
+        over = ap (answer_by_end problem) over.too_long;
+        first = over.first_passes;
+      }))
+  refusal_from_fault NoRoom answer over told = inr (inr told)
+
   print_from_run : (finals : Finals V) (bytes : List ℕ) → HomesAreValues V → IsRun problem.act options.budget (start_for problem) finals → bytes ≡ print_of_finals problem finals →
       answer_by options problem ≡ whole_print bytes
   print_from_run finals bytes laws run is-bytes =
@@ -31,6 +56,13 @@ module _ {V : Type 0} (options : Options) (problem : Problem V) where
       ap (answer_by_end problem) run.ends ∙ ap whole_print (sym printed)
 
   module _ (act : Operator V) (cells : List V) (tasks : List Start) (is-act : problem.act ≡ act) (is-cells : cells ≡ problem.cells) (is-tasks : tasks ≡ problem.tasks) where
+    -- the refusal of a serial run
+    pub refusal_from_serial : (fault : SerialFault) (result : Result (List ℕ) Status) → IsFault act options.budget (start_of cells tasks) fault → IsErrAnd result (AnswersSerial fault) → IfErr result (IsRunRefusal options problem)
+    refusal_from_serial fault result over told =
+        refused_with result (AnswersSerial fault) (IsRunRefusal options problem)
+        (λ answer told. refusal_from_fault fault answer (rw (is-act, ← is-cells, ← is-tasks) over) told)
+        told
+
     -- the print of a serial run
     pub print_from_serial : (finals : Finals V) (bytes : List ℕ) → HomesAreValues V → IsRun act options.budget (start_of cells tasks) finals → bytes ≡ print_of_finals problem finals → answer_by options problem ≡ whole_print bytes
     print_from_serial finals bytes laws ran is-bytes = print_from_run finals bytes laws (rw (is-act, ← is-cells, ← is-tasks) ran) is-bytes

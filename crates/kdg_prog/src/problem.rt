@@ -5,24 +5,29 @@ ghost use Rattle.kdg_prog.specs.Problem.{answer_by, print_of_finals, tasks_line,
 ghost use Rattle.kdg_prog.specs.Refusals.{IsRunRefusal};
 
 use crate::{Options, Status};
-use app_laws::{App, Finals, serial};
+use app_laws::{App, Finals, execution_laws, serial};
 use cell_store::{Store, value_laws};
 use gf2_eliminate::{Line2, Matrix};
 use kdg_text::{NoRoom, Text, push_u64};
 use logic_sim::Circuit;
 use spring_mesh::{Mesh, MeshNode};
 use std::alloc::Global;
-use task_order::StartList;
+use task_order::{StartList, put_in_laws};
 
 /// An application with its start, and with the text that its cells give at the end.
 pub(crate) trait Runnable: App {
-    ghost use Rattle.std.specs.Prelude.{◌≡◌, ◌<◌, ◌^◌, length, IfOk};
+    ghost use Rattle.std.specs.Prelude.{◌≡◌, ◌<◌, ◌^◌, length, IfOk, IfSome};
     ghost use Rattle.cell_store.specs.Values.{AreAllHome, values_of};
     ghost use Rattle.app_laws.specs.Applications.{AreFitStarts};
     ghost use Rattle.kdg_prog.specs.Problem.{Problem};
 
     /// What its run needs.
     ghost problem: { Self → Problem Self.Val };
+
+    /// How many tasks there are at the start, where they are more than the budget and so many that
+    /// it pays to know before they are made.
+    fn too_many_tasks(&self, budget: u64) -> Option<u64>
+        ensures { IfSome result (λ created. (created ≡ length (problem self.now).tasks) × (budget < created)) };
 
     /// The cells at the start.
     fn start_cells(&self) -> Result<Vec<Self::Val>, NoRoom>
@@ -51,6 +56,15 @@ impl Runnable for Circuit {
 
     ghost problem = { circuit_problem };
 
+    fn too_many_tasks(&self, budget: u64) -> Option<u64> {
+        let created = self.first_task_count();
+        if created > budget {
+            Some(created)
+        } else {
+            None
+        }
+    }
+
     fn start_cells(&self) -> Result<Vec<u8>, NoRoom> {
         self.first_cells()
     }
@@ -71,6 +85,10 @@ impl Runnable for Matrix {
     ghost use Rattle.kdg_prog.specs.Answer.{pattern_problem};
 
     ghost problem = { pattern_problem };
+
+    fn too_many_tasks(&self, _budget: u64) -> Option<u64> {
+        None
+    }
 
     fn start_cells(&self) -> Result<Vec<Line2>, NoRoom> {
         self.first_cells()
@@ -95,6 +113,10 @@ impl Runnable for Mesh {
     ghost problem = { mesh_problem };
 
     ghost acts_alike = { λ app. refl };
+
+    fn too_many_tasks(&self, _budget: u64) -> Option<u64> {
+        None
+    }
 
     fn start_cells(&self) -> Result<Vec<MeshNode>, NoRoom> {
         self.first_cells()
@@ -121,9 +143,15 @@ pub(crate) fn print_of_run<A: Runnable>(
     ensures refusal { IfErr result (IsRunRefusal options.now (A.problem app.now)) }
 {
     value_laws::<A::Val>();
+    execution_laws::<A::Val>();
+    put_in_laws();
+    let limit = options.budget;
+    if let Some(created) = app.too_many_tasks(limit) {
+        return Err(Status::Budget { created, limit });
+    }
     let cells = app.start_cells()?;
     let tasks = app.start_tasks()?;
-    let finals = serial(alloc, app, cells, tasks, options.budget)?;
+    let finals = serial(alloc, app, cells, tasks, limit)?;
     Ok(finals_print(app, finals)?)
 }
 

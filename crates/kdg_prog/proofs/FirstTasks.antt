@@ -1,0 +1,54 @@
+-- Where the first tasks alone are more than the budget.
+use Rattle.std.proofs.Common.{◌≡◌, ◌∙◌, ℕ, suc, ◌+◌, ◌<◌, List, [], ◌∷◌, length, ap, refl, sym, subst, arith}
+use Rattle.task_order.specs.declared.start.Start.{Start}
+use Rattle.task_order.specs.declared.task.Task.{Task}
+use Rattle.task_order.specs.Laws.{PutsAddOne}
+use Rattle.task_order.specs.TaskList.{put_in, put_all}
+use Rattle.app_laws.specs.Execution.{Execution, Operator, after_steps, created_after, created_by, first_from, start_of}
+use Rattle.app_laws.specs.Laws.{EndsWithinLimit}
+use Rattle.app_laws.specs.Serial.{IsOverBudget}
+use Rattle.kdg_prog.specs.declared.status.Status.TheVariants as status
+use Rattle.kdg_prog.specs.declared.words.Options.{Options}
+use Rattle.kdg_prog.specs.Problem.{Problem}
+use Rattle.kdg_prog.specs.Refusals.{IsRunRefusal}
+use Rattle.kdg_prog.proofs.Refusing.{refusal_when_over}
+
+length-put_all : PutsAddOne → (new tasks : List Task) → length (put_all new tasks) ≡ length new + length tasks
+length-put_all adds_one [] tasks = omega arith
+length-put_all adds_one (task ∷ new) tasks =
+    let rest = length-put_all adds_one new (put_in task tasks) in
+    let one = adds_one task tasks in
+    omega (arith, rest, one)
+
+length-first_from : (number : ℕ) (starts : List Start) → length (first_from number starts) ≡ length starts
+length-first_from number [] = refl
+length-first_from number (start ∷ starts) = ap suc (length-first_from (suc number) starts)
+
+after_none : {V : Type 0} (act : Operator V) (e : Execution V) → after_steps act 0 e ≡ e
+unfolding after_steps
+after_none act e = refl
+
+module _ {V : Type 0} (adds_one : PutsAddOne) where
+  -- before a task has acted, the first ones are created
+  created_at_start : (act : Operator V) (cells : List V) (first : List Start) → created_after act 0 (start_of cells first) ≡ length first
+  created_at_start act cells first =
+      let pending = length-put_all adds_one (first_from 0 first) [] in
+      let numbered = length-first_from 0 first in
+      let created : created_by (start_of cells first) ≡ length first = omega (arith, pending, numbered) in
+      ap created_by (after_none act (start_of cells first)) ∙ created
+
+  module _ (ends : (act : Operator V) (e : Execution V) → EndsWithinLimit act e) where
+    over_at_start : (act : Operator V) (budget : ℕ) (cells : List V) (first : List Start) (created : ℕ) → created ≡ length first → budget < created → IsOverBudget act budget (start_of cells first) created budget
+    over_at_start act budget cells first created is over =
+        let start = start_of cells first in
+        let many : created ≡ created_after act 0 start = is ∙ sym (created_at_start act cells first) in
+        let beyond : budget < created_after act 0 start = subst (λ (n : ℕ). budget < n) many over in
+        record {
+          too_long = (ends act start budget).1 (0, omega (arith, beyond));
+          limit_is = refl;
+          first_passes = record { steps = 0; many = many; passes = over; first = λ fewer below. absurd (omega arith) };
+        }
+
+    -- the refusal where the first tasks are more than the budget
+    pub refusal_at_start : (options : Options) (problem : Problem V) (created : ℕ) → created ≡ length problem.tasks → options.budget < created → IsRunRefusal options problem (status.Budget created options.budget)
+    refusal_at_start options problem created is over = refusal_when_over options problem created (over_at_start problem.act options.budget problem.cells problem.tasks created is over)
