@@ -86,8 +86,8 @@ with_key_at_point : (key : Key) (nodes : List Node) (place : ℕ) (d : Node) →
 with_key_at_point key [] place d up inside point = absurd (omega (arith, inside))
 with_key_at_point key (node ∷ nodes) zero d up inside point =
     let rest : is_eq (key_cmp node.task.key key) ≡ false → node_with_key nodes key ≡ None = λ other.
-        let greater : key_cmp node.task.key key ≡ Greater = eq_from_test (key_cmp node.task.key key) false (point.1 0 node (omega arith) (omega (arith, inside))) other in
-        none_behind key node.task.key nodes (key_cmp_total.antisymm key node.task.key ∙ ap ordering_reverse greater) up.0 in
+    let greater : key_cmp node.task.key key ≡ Greater = eq_from_test (key_cmp node.task.key key) false (point.1 0 node (omega arith) (omega (arith, inside))) other in
+    none_behind key node.task.key nodes (key_cmp_total.antisymm key node.task.key ∙ ap ordering_reverse greater) up.0 in
     by_test (is_eq (key_cmp node.task.key key)) node (node_with_key nodes key) rest
 with_key_at_point key (node ∷ nodes) (suc place) d up inside point =
     let less : key_cmp node.task.key key ≡ Less = Less_from_test _ (point.0 0 node (omega arith) (omega arith)) in

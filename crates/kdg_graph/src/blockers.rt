@@ -51,7 +51,10 @@ impl Blockers {
         ensures len { vec_len self.new.counts ≤ vec_len self.old.counts + 1 }
     {
         self.raise(nodes, place, set);
-        match self.counts.insert(place, count_clashes(&nodes[..place], set)) {
+        match self
+            .counts
+            .insert(place, count_clashes(&nodes[..place], set))
+        {
             Ok(()) => (),
             Err(_) => unreachable!(),
         }
