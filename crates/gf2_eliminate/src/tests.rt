@@ -1,5 +1,6 @@
 use crate::{Line2, Matrix};
 use app_laws::{App, serial};
+use cell_store::value_laws;
 use kdg_text::{NumList, Text};
 use mtx_reader::read_mtx;
 use std::alloc::Global;
@@ -39,6 +40,7 @@ fn prints(
     lines: &str,
     want: &str,
 ) -> Result<(), Fail> {
+    value_laws::<Line2>();
     let mut input = Text::new(alloc);
     input.push_all(b"%%MatrixMarket matrix coordinate pattern ")?;
     input.push_all(symmetry.as_bytes())?;
