@@ -5,3 +5,4 @@ pub mod Ranges
 pub mod Readers
 pub mod SafeTasks
 pub mod Sets
+pub mod Chains

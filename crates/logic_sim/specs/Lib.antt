@@ -7,3 +7,4 @@ pub mod Laws
 pub mod Meaning
 pub mod Lawful
 pub mod Bundles
+pub mod Chain

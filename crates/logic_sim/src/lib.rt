@@ -2,11 +2,13 @@
 //! gate has a delay of one unit of time.
 #![tactic(auto)]
 
+mod chain;
 mod circuit;
 mod event;
 mod gate;
 mod laws;
 mod tables;
 
+pub use chain::chain_deck;
 pub use circuit::Circuit;
 pub use laws::circuit_laws;

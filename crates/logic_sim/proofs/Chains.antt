@@ -1,0 +1,48 @@
+-- Inverters in a row make a deck that is wired soundly.
+use Rattle.std.proofs.Common.{◌≡◌, ◌∙◌, ℕ, suc, ◌+◌, ◌<◌, ◌≤◌, List, [], ◌∷◌, ◌++◌, length, arith, ap, sym, refl, subst, zero-add}
+use Rattle.std.specs.List.{All, range_with_len}
+use Rattle.std.proofs.lemmas.List.Elements.{All-nil, All-cons, All-map, All-from_get_or, All-weaker}
+use Rattle.std.proofs.lemmas.List.FromFn.{length-map-range_with_len, length-range_with_len, get_or-range_with_len, map-range_with_len_more}
+use Rattle.bench_reader.specs.declared.deck.Signal.{Signal}
+use Rattle.bench_reader.specs.declared.deck.Stim.{Stim}
+use Rattle.bench_reader.specs.Decks.{IsSoundlyWired, IsStimFor, IsWired, inputs_of}
+use Rattle.logic_sim.specs.Chain.{chain_input, chain_signals, generated_input, inverter_of, most_inverters}
+
+-- one gate more
+pub gate_added : (n : ℕ) (before after : List Signal) (gate : Signal) → before ≡ chain_signals n → gate ≡ inverter_of n → after ≡ before ++ gate ∷ [] → after ≡ chain_signals (n + 1)
+gate_added n before after gate so_far is more =
+    more
+    ∙ ap (λ (signal : Signal). before ++ signal ∷ []) is
+    ∙ ap (λ (signals : List Signal). signals ++ inverter_of n ∷ []) so_far
+    ∙ ap (λ (gates : List Signal). chain_input ∷ gates) (sym (map-range_with_len_more inverter_of 0 n n (zero-add n)))
+
+numbers-below : (n : ℕ) → All (λ i. i < n) (range_with_len 0 n)
+numbers-below n = All-from_get_or (λ i. i < n) (range_with_len 0 n) 0 (λ k below.
+    let in_range : k < n = omega (arith, below, length-range_with_len 0 n) in
+    omega (arith, get_or-range_with_len 0 n k 0 in_range, in_range))
+
+length-chain : (n : ℕ) → length (chain_signals n) ≡ suc n
+length-chain n = ap suc (length-map-range_with_len inverter_of 0 n)
+
+one-below : (count i : ℕ) → i < count → All (λ number. number < count) (i ∷ [])
+one-below count i below = All-cons (λ number. number < count) i [] below (All-nil (λ number. number < count))
+
+pub chain-sound : (n : ℕ) → n ≤ most_inverters → IsSoundlyWired (generated_input n)
+chain-sound n few =
+    let count = length (chain_signals n) in
+    let IsWiredIn : Signal → Type 0 = λ signal. IsWired count signal.form in
+    record {
+      signal_count = omega (arith, few, length-chain n);
+      stimulus_count = omega arith;
+      wired = All-cons IsWiredIn chain_input _ tt (All-map IsWiredIn inverter_of (range_with_len 0 n) (All-weaker (λ i. i < n) (λ i. IsWiredIn (inverter_of i)) (λ i below. (refl, one-below count i (omega (arith, below, length-chain n)))) (range_with_len 0 n) (numbers-below n)));
+      outputs_in_range = one-below count n (omega (arith, length-chain n));
+      outputs_differ = λ i j d before below. absurd (omega arith);
+      stimuli_fit = All-nil (IsStimFor (length (inputs_of (chain_signals n))));
+    }
+
+-- a deck of these parts is sound
+pub parts-sound : (n : ℕ) (signals : List Signal) (outputs : List ℕ) (stimuli : List Stim) → n ≤ most_inverters → signals ≡ chain_signals n → outputs ≡ n ∷ [] → stimuli ≡ []
+    → IsSoundlyWired (record { signals = signals; outputs = outputs; stimuli = stimuli })
+parts-sound n signals outputs stimuli few are_signals are_outputs no_stimuli =
+    let made : record { signals = signals; outputs = outputs; stimuli = stimuli } ≡ generated_input n = cc in
+    subst IsSoundlyWired (sym made) (chain-sound n few)

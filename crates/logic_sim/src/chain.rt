@@ -1,0 +1,92 @@
+ghost use Rattle.std.specs.Prelude.{◌≡◌, ◌≤◌, ◌<◌, IfOk};
+ghost use Rattle.bench_reader.specs.Decks.{IsSoundlyWired};
+ghost use Rattle.logic_sim.specs.Chain.{chain_input, generated_input, inverter_of, most_inverters};
+
+use bench_reader::{Deck, Form, GateKind, Signal, SignalList, StimList};
+use kdg_text::{NoRoom, NumList, Text, push_u64};
+use std::alloc::Global;
+
+/// A deck of `n` inverters in a row, from 1 to 999. The first gate inverts the input `a`, each
+/// other gate the one before it, and the last is the output. No stimulus changes the input.
+pub fn chain_deck(alloc: Global, n: u32) -> Result<Deck, NoRoom>
+    requires some { 1 ≤ n }
+    requires few { n ≤ most_inverters }
+    ensures deck { IfOk result (λ deck. deck ≡ generated_input n) }
+    ensures sound { IfOk result IsSoundlyWired }
+{
+    let mut signals = SignalList::new(alloc);
+    signals.push(chain_input(alloc)?)?;
+    for before in 0..n {
+        signals.push(inverter(alloc, before)?)?;
+    }
+    let mut outputs = NumList::new(alloc);
+    outputs.push(n)?;
+    Ok(Deck {
+        signals,
+        outputs,
+        stimuli: StimList::new(alloc),
+    })
+}
+
+/// The input that drives the first gate.
+fn chain_input(alloc: Global) -> Result<Signal, NoRoom>
+    ensures { IfOk result (λ signal. signal ≡ chain_input) }
+{
+    let mut name = Text::new(alloc);
+    name.push_all(b"a")?;
+    let form = Form::Input;
+    Ok(Signal { name, form })
+}
+
+/// The gate that inverts the signal with that number.
+fn inverter(alloc: Global, before: u32) -> Result<Signal, NoRoom>
+    requires { before < most_inverters }
+    ensures { IfOk result (λ signal. signal ≡ inverter_of before) }
+{
+    let mut name = Text::new(alloc);
+    name.push_all(b"g")?;
+    push_u64(&mut name, u64::from(before) + 1)?;
+    let mut fan_in = NumList::new(alloc);
+    fan_in.push(before)?;
+    let kind = GateKind::Not;
+    let form = Form::Gate { kind, fan_in };
+    Ok(Signal { name, form })
+}
+
+#[cfg(test)]
+mod tests {
+    use super::*;
+    use crate::Circuit;
+    use std::test::Fail;
+
+    /// Each gate's name, and the number of the signal that it inverts.
+    #[test]
+    fn gates_invert_the_signals_before_them(rt: HostRuntime) -> Result<(), Fail> {
+        let deck = chain_deck(rt.alloc(), 3)?;
+        let signals = deck.signals.items();
+        assert_eq!(rt; signals.len(), 4);
+        assert_eq!(rt; signals[0].name.bytes(), b"a".as_slice());
+        assert!(rt; matches!(signals[0].form, Form::Input));
+        for (number, name) in ["g1", "g2", "g3"].iter().enumerate() {
+            let Signal { name: given, form } = &signals[number + 1];
+            assert_eq!(rt; given.bytes(), name.as_bytes());
+            let Form::Gate { kind, fan_in } = form else {
+                panic!(rt; "no gate");
+            };
+            assert_eq!(rt; *kind, GateKind::Not);
+            assert_eq!(rt; fan_in.items(), [number as u32].as_slice());
+        }
+        assert_eq!(rt; deck.outputs.items(), [3].as_slice());
+        assert!(rt; deck.stimuli.items().is_empty());
+        Ok(())
+    }
+
+    #[test]
+    fn chains_are_circuits(rt: HostRuntime) -> Result<(), Fail> {
+        for n in [1, 2, 999] {
+            let circuit = Circuit::new(rt.alloc(), chain_deck(rt.alloc(), n)?, 1000)?;
+            assert_eq!(rt; circuit.first_task_count(), u64::from(n));
+        }
+        Ok(())
+    }
+}
