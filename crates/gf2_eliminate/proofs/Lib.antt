@@ -6,3 +6,4 @@ pub mod Marking
 pub mod Found
 pub mod Printing
 pub mod FirstCells
+pub mod Diagonal

@@ -5,3 +5,4 @@ pub mod Touched
 pub mod Membership
 pub mod Lawful
 pub mod Start
+pub mod Blocks

@@ -1,6 +1,7 @@
 //! Elimination over the field of two elements as an ordered application, whose sets move.
 #![tactic(auto)]
 
+mod blocks;
 mod finals;
 mod laws;
 mod line;
@@ -9,6 +10,7 @@ mod start;
 mod step;
 mod touched;
 
+pub use blocks::block_pattern;
 pub use laws::elimination_laws;
 pub use line::Line2;
 pub use matrix::Matrix;
