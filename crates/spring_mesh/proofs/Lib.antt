@@ -4,3 +4,4 @@ pub mod Sound
 pub mod Wide
 pub mod Steps
 pub mod Held
+pub mod PairMeshes

@@ -22,7 +22,7 @@ use Rattle.spring_mesh.specs.Motion.{brought_to}
 use Rattle.spring_mesh.specs.Meaning.{IsFitTask, final_line, first_step, mesh_steps, no_node, node_at, node_line, spring_at, start_tasks, stepping_among}
 use Rattle.spring_mesh.specs.Lawful.{in_time}
 
-range_more : (n : ℕ) → range_with_len 0 (n + 1) ≡ range_with_len 0 n ++ n ∷ []
+pub range_more : (n : ℕ) → range_with_len 0 (n + 1) ≡ range_with_len 0 n ++ n ∷ []
 range_more n =
     sym (map-id (range_with_len 0 (n + 1)))
     ∙ map-range_with_len_more (λ (z : ℕ). z) 0 n n (zero-add n)

@@ -8,3 +8,4 @@ pub mod Meaning
 pub mod Bounds
 pub mod Ends
 pub mod Lawful
+pub mod Pairs

@@ -7,9 +7,11 @@ mod faults;
 mod file;
 mod mesh;
 mod motion;
+mod pairs;
 mod reader;
 mod statement;
 
 pub use file::{MassList, MeshFile, MeshNode, MeshNodeList, Spring, SpringList};
 pub use mesh::Mesh;
+pub use pairs::pair_mesh;
 pub use reader::read_mesh;
