@@ -1,6 +1,10 @@
 pub mod Claimed
+pub mod Dealing
 pub mod Drawing
 pub mod Ending
 pub mod Jobs
+pub mod LatestFirst
 pub mod Lists
+pub mod Parts
+pub mod Turns
 pub mod RoundNumbers

@@ -1,3 +1,4 @@
 pub mod Basis
 pub mod Course
 pub mod Laws
+pub mod Performing

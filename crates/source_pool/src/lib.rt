@@ -2,5 +2,6 @@
 #![tactic(auto)]
 
 mod laws;
+mod performing;
 
 pub use laws::{drawing_laws, ending_laws, idle_laws, rounds_laws};

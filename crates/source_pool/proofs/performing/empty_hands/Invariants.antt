@@ -1,0 +1,6 @@
+use Rattle.source_pool.specs.Performing.{AreEmptyHands}
+use Rattle.source_pool.proofs.performing.empty_hands.Given as goal
+
+-- a hand for each worker so far
+abbrev pub invariant-loop-worker : goal.invariant-loop-worker
+invariant-loop-worker g l = AreEmptyHands l.worker l.hands.items

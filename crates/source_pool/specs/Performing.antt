@@ -1,0 +1,57 @@
+-- How the jobs of a round are dealt out among workers, and what these make of them.
+use Rattle.std.specs.Prelude.{◌≡◌, ◌+◌, ◌%◌, ◌==◌, ◌++◌, if◌then◌else◌, ℕ, List, [], ◌∷◌, length, slice_get, Option, Some, None, Result, Ok, Err, IsPermutation, Vec}
+use Rattle.std.specs.List.{AllByRecursion, flat_map}
+use Rattle.std.specs.Option.{option_map}
+use Rattle.std.specs.List.Sorted.{IsSortedBy}
+use Rattle.std.specs.Ordering.{is_lt}
+use Rattle.task_order.specs.Key.{key_cmp}
+use Rattle.app_laws.specs.Applications.{Application}
+use Rattle.graph_update.specs.declared.job.Done.{Done}
+use Rattle.graph_update.specs.declared.job.Job.{Job}
+use Rattle.graph_update.specs.Engine.{MayRun}
+use Rattle.source_pool.specs.declared.performing.Hand.{Hand}
+use Rattle.source_pool.specs.Course.{IsJobDone}
+
+-- of items numbered from a first number on, those whose number leaves the worker's when it is divided by the count of workers
+abbrev pub share : {X : Type 0} → ℕ → ℕ → ℕ → List X → List X
+share workers worker number [] = []
+share workers worker number (x ∷ xs) = if number % workers == worker then x ∷ share workers worker (number + 1) xs else share workers worker (number + 1) xs
+
+module _ {V : Type 0} where
+  -- the jobs of all hands
+  abbrev pub dealt_jobs : List (Hand V) → List (Job V)
+  dealt_jobs hands = flat_map (λ hand. hand.jobs.items) hands
+
+  -- each worker has a hand without jobs, in the order of the workers' numbers
+  pub record AreEmptyHands (workers : ℕ) (hands : List (Hand V)) : Type 0 where
+    pub count : length hands ≡ workers
+    pub numbers : (number : ℕ) (hand : Hand V) → slice_get hands number ≡ Some hand → hand.worker ≡ number
+    pub empty : (number : ℕ) (hand : Hand V) → slice_get hands number ≡ Some hand → hand.jobs.items ≡ []
+
+  -- each worker has a hand with its share of the jobs, in the order of the workers' numbers, and all jobs are in hands
+  pub record AreDealt (workers : ℕ) (jobs : List (Job V)) (hands : List (Hand V)) : Type 0 where
+    pub count : length hands ≡ workers
+    pub numbers : (number : ℕ) (hand : Hand V) → slice_get hands number ≡ Some hand → hand.worker ≡ number
+    pub shares : (number : ℕ) (hand : Hand V) → slice_get hands number ≡ Some hand → hand.jobs.items ≡ share workers number 0 jobs
+    pub all : IsPermutation jobs (dealt_jobs hands)
+
+  -- no key is earlier than one after it
+  abbrev pub IsLatestFirst : List (Done V) → Type 0
+  IsLatestFirst dones = IsSortedBy (λ one other. is_lt (key_cmp other.task.key one.task.key)) dones
+
+  module _ (app : Application V) where
+    -- each job of the hand may run
+    abbrev pub MayPlay : Hand V → Type 0
+    MayPlay hand = AllByRecursion (MayRun app) hand.jobs.items
+
+    -- each job is performed, in order
+    abbrev pub AreDoneInTurn : List (Job V) → List (Done V) → Type 0
+    AreDoneInTurn [] [] = Unit {0}
+    AreDoneInTurn (job ∷ jobs) (done ∷ dones) = IsJobDone app job done × AreDoneInTurn jobs dones
+    AreDoneInTurn jobs dones = ⊥
+
+-- the parts as one list, where none is wanting
+abbrev pub joined_parts : {X Z E : Type 0} → List (Result (Vec X Z) E) → Option (List X)
+joined_parts [] = Some []
+joined_parts (Ok part ∷ parts) = option_map (λ rest. part.items ++ rest) (joined_parts parts)
+joined_parts (Err fault ∷ parts) = None
