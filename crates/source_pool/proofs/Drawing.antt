@@ -1,5 +1,5 @@
 -- The jobs that are drawn in a round are those of all clear tasks.
-use Rattle.std.proofs.Common.{◌≡◌, ◌≢◌, ◌⊎◌, inl, inr, ℕ, zero, suc, ◌+◌, ◌<◌, not, Bool, true, false, cond, List, [], ◌∷◌, ◌++◌, Some, length, slice_get, refl, sym, ap, subst, ◌∙◌, arith, eqb-true, eq-eqb}
+use Rattle.std.proofs.Common.{◌≡◌, ◌≢◌, ◌⊎◌, inl, inr, ℕ, zero, suc, ◌+◌, ◌<◌, not, Bool, true, false, cond, List, [], ◌∷◌, Some, length, slice_get, refl, sym, ap, subst, ◌∙◌, arith, eqb-true, eq-eqb}
 use Rattle.std.specs.Prelude.{Contains, IsSome}
 use Rattle.std.specs.List.{AllByRecursion, filter}
 use Rattle.std.specs.declared.cmp.Ordering.{Ordering}
@@ -18,7 +18,7 @@ use Rattle.cell_store.specs.Home.{IsHome}
 use Rattle.kdg_graph.specs.declared.node_id.NodeId.{NodeId}
 use Rattle.kdg_graph.specs.Edges.{is_blocked}
 use Rattle.kdg_graph.specs.Node.{Node}
-use Rattle.kdg_graph.specs.Nodes.{HaveOwnIds, earlier_than, is_at, node_with_key, started, tasks_of}
+use Rattle.kdg_graph.specs.Nodes.{HaveOwnIds, earlier_than, is_at, started, tasks_of}
 use Rattle.app_laws.specs.Applications.{Application, set_in, tasks_before}
 use Rattle.commuting.specs.Clear.{IsClear, IsReady}
 use Rattle.commuting.specs.Rounds.{after_round, clear_tasks}

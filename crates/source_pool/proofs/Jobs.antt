@@ -10,7 +10,6 @@ use Rattle.cell_store.specs.Values.{homes}
 use Rattle.rw_sets.specs.Accesses.{writes}
 use Rattle.kdg_graph.specs.Node.{Node}
 use Rattle.app_laws.specs.Applications.{Application, effect_of, set_in}
-use Rattle.app_laws.specs.Order.{Pairwise}
 use Rattle.graph_update.specs.declared.job.Done.{Done}
 use Rattle.graph_update.specs.declared.job.Job.{Job}
 use Rattle.graph_update.specs.Laws.{IsPerformed}

@@ -1,7 +1,11 @@
 pub mod Claimed
 pub mod Dealing
 pub mod Drawing
+pub mod Drawn
+pub mod Played
+pub mod Finished
 pub mod Ending
+pub mod EngineAtRest
 pub mod Jobs
 pub mod LatestFirst
 pub mod Lists

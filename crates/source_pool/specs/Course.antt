@@ -1,5 +1,5 @@
 -- How far rounds of claims and ends have come since an execution in which nothing was running.
-use Rattle.std.specs.Prelude.{◌≡◌, ◌≢◌, ℕ, zero, suc, ◌+◌, not, false, List, [], ◌∷◌, length, map, None, Contains}
+use Rattle.std.specs.Prelude.{◌≡◌, ◌≢◌, ℕ, zero, suc, ◌+◌, not, false, List, [], length, map, None, Contains}
 use Rattle.std.specs.List.{AllByRecursion, filter}
 use Rattle.task_order.specs.declared.task.Task.{Task}
 use Rattle.task_order.specs.TaskList.{IsAscending}
@@ -30,6 +30,11 @@ NothingRuns nodes = AllByRecursion (λ node. node.running ≡ false) nodes
 -- how many nodes are not running
 abbrev pub idle_count : List Node → ℕ
 idle_count nodes = length (filter (λ node. not node.running) nodes)
+
+-- a point of a run: where the run began, and the whole state there
+pub record RunPoint (V : Type 0) : Type 0 where
+  pub start : Progress V
+  pub state : State V
 
 module _ {V : Type 0} (app : Application V) where
   -- the job is performed: its task with what its operator makes of its bundle

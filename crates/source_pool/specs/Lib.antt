@@ -1,4 +1,6 @@
 pub mod Basis
 pub mod Course
+pub mod Faults
 pub mod Laws
 pub mod Performing
+pub mod Runs

@@ -1,7 +1,14 @@
 //! Rounds: all tasks that are clear are performed at once, and then all that are clear then.
 #![tactic(auto)]
 
+mod claiming;
+mod finishing;
 mod laws;
 mod performing;
+mod rounds;
 
 pub use laws::{drawing_laws, ending_laws, idle_laws, rounds_laws};
+pub use rounds::{RunFault, run_rounds};
+
+#[cfg(test)]
+mod tests;

@@ -1,0 +1,63 @@
+-- What the parts of a round come to: its jobs are some, and so are the performed ones.
+use Rattle.std.proofs.Common.{◌≡◌, ◌≢◌, ◌<◌, inl, inr, List, [], ◌∷◌, ◌++◌, length, reverse, refl, sym, ap, subst, ◌∙◌, arith}
+use Rattle.std.specs.Prelude.{Contains}
+use Rattle.std.proofs.lemmas.List.{reverse-append, reverse-reverse}
+use Rattle.app_laws.specs.Applications.{Application}
+use Rattle.commuting.specs.States.{State}
+use Rattle.kdg_graph.specs.Node.{Node}
+use Rattle.kdg_graph.specs.Nodes.{tasks_of}
+use Rattle.graph_update.specs.declared.job.Done.{Done}
+use Rattle.graph_update.specs.declared.job.Job.{Job}
+use Rattle.graph_update.specs.Progress.{Progress}
+use Rattle.source_pool.specs.Course.{AreAllDone, IsAtRest}
+use Rattle.source_pool.proofs.Lists.{cases, here, none, there}
+
+-- ---- lists from behind
+
+at_last : {X : Type 0} (xs : List X) (x : X) → Contains (xs ++ x ∷ []) x
+at_last [] x = here x []
+at_last (y ∷ xs) x = there y x (xs ++ x ∷ []) (at_last xs x)
+
+before_last : {X : Type 0} (xs : List X) (y x : X) → Contains xs x → Contains (xs ++ y ∷ []) x
+before_last [] y x has = absurd (none x has)
+before_last {X} (z ∷ xs) y x has = elim (cases z x xs has) [
+  | inl same ↦ subst (λ (first : X). Contains (first ∷ (xs ++ y ∷ [])) x) (sym same) (here x (xs ++ y ∷ []))
+  | inr later ↦ there z x (xs ++ y ∷ []) (before_last xs y x later)
+]
+
+pub from_behind : {X : Type 0} (xs : List X) (x : X) → Contains xs x → Contains (reverse xs) x
+from_behind [] x has = absurd (none x has)
+from_behind {X} (y ∷ xs) x has =
+    subst (λ items. Contains items x) (sym (reverse-append (y ∷ []) xs))
+    (elim (cases y x xs has) [
+      | inl same ↦ subst (λ (last : X). Contains (reverse xs ++ last ∷ []) x) (sym same) (at_last (reverse xs) x)
+      | inr later ↦ before_last (reverse xs) y x (from_behind xs x later)
+    ])
+
+pub as_before : {X : Type 0} (xs : List X) (x : X) → Contains (reverse xs) x → Contains xs x
+as_before xs x has = subst (λ items. Contains items x) (reverse-reverse xs) (from_behind (reverse xs) x has)
+
+some_of : {X : Type 0} (xs : List X) (x : X) → Contains xs x → 0 < length xs
+some_of [] x has = absurd (none x has)
+some_of (y ∷ xs) x has = omega arith
+
+-- ---- jobs
+
+module _ {V : Type 0} (app : Application V) where
+  pub all_done_reversed : (jobs : List (Job V)) (dones : List (Done V)) → AreAllDone app jobs dones → AreAllDone app jobs (reverse dones)
+  all_done_reversed jobs dones all = record {
+    each = λ job has. let done = all.each job has in (done.0, from_behind dones done.0 done.1, done.2);
+    no_other = λ done has. all.no_other done (as_before dones done has);
+  }
+
+  pub some_done : (jobs : List (Job V)) (dones : List (Done V)) → jobs ≢ [] → AreAllDone app jobs dones → 0 < length dones
+  some_done [] dones some all = absurd (some refl)
+  some_done (job ∷ jobs) dones some all = let done = all.each job (here job jobs) in some_of dones done.0 done.1
+
+  no_tasks : (nodes : List Node) → tasks_of nodes ≡ [] → nodes ≡ []
+  no_tasks [] none = refl
+  no_tasks (node ∷ nodes) none = cc
+
+  -- where a node is left, some task is pending
+  pub some_pending : (start now : Progress V) (cells : List V) (state : State V) → IsAtRest app start cells state now → now.nodes ≢ [] → state.pending ≢ []
+  some_pending start now cells state rest some none_pending = some (no_tasks now.nodes (ap (λ (s : State V). s.pending) rest.state_is ∙ none_pending))

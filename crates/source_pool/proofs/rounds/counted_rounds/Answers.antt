@@ -1,0 +1,51 @@
+use Rattle.std.proofs.Common.{ℕ, suc, sym, ap, subst, ◌∙◌, add-one, arith}
+use Rattle.cell_store.specs.Values.{values_of}
+use Rattle.commuting.specs.Rounds.{after_round}
+use Rattle.kdg_graph.specs.Nodes.{least_of, tasks_of}
+use Rattle.source_pool.specs.Course.{IsAtRest, LeadsByRounds}
+use Rattle.source_pool.specs.Runs.{state_at_rest}
+use Rattle.source_pool.proofs.EngineAtRest.{no_node, rest_at, some_node, state_is}
+use Rattle.source_pool.proofs.Played.{some_pending}
+use Rattle.source_pool.proofs.rounds.counted_rounds.Goals as goal
+
+pub play_round-requires : goal.play_round-requires
+play_round-requires g c κs within =
+    let bounds = c.requires.1.1.1.1.1 in
+    let workers = c.requires.1.1.1.1.1.1.1.1.1.1.1.1.0 in
+    let rest = subst (λ (app : g.row.A.Denot). IsAtRest (g.A.App.meaning app) g.start (values_of g.start.cells) (state_at_rest c.loop-picks.engine.progress) c.loop-picks.engine.progress) (sym c.loop-picks.invariant.app) c.loop-picks.invariant.rest in
+    let some = some_node c.loop-picks.engine.progress.nodes c.least.result (c.least.ensures.least ∙ ap least_of c.graph.ensures.nodes) (sym c.is_some.ensures ∙ c.loop-picks-test.true) in (
+      within.0,
+      (within.1.0, (within.1.1.0, (within.1.1.1.0, (within.1.1.1.1, (bounds.0, (bounds.1.0, (bounds.1.1.0, (bounds.1.1.1.0, (workers, (rest, some)))))))))),
+    )
+
+pub loop-picks-preserved : goal.loop-picks-preserved
+loop-picks-preserved g c =
+    let app = g.A.App.meaning c.args.engine.app in
+    let old = c.loop-picks.engine.progress in
+    let now = c.play_round.new.engine.progress in
+    let home = c.rounds_laws.ensures.home c.args.engine.app in
+    let some = some_node old.nodes c.least.result (c.least.ensures.least ∙ ap least_of c.graph.ensures.nodes) (sym c.is_some.ensures ∙ c.loop-picks-test.true) in
+    let rest = subst (λ (app : g.row.A.Denot). IsAtRest (g.A.App.meaning app) g.start (values_of g.start.cells) (after_round (g.A.App.meaning app) (state_at_rest old)) now) c.loop-picks.invariant.app c.in_ok-play_round.ensures.rest in
+    let leads = c.rounds_laws.ensures.add c.args.engine.app c.loop-picks.rounds (state_at_rest g.start) (state_at_rest old) c.loop-picks.invariant.leads
+    (some_pending app g.start old (values_of g.start.cells) (state_at_rest old) c.loop-picks.invariant.rest some) in
+    record {
+      app = c.play_round.ensures.app ∙ c.loop-picks.invariant.app;
+      rest = rest_at home g.start now (values_of g.start.cells) (after_round app (state_at_rest old)) rest;
+      leads = subst (λ (n : ℕ). LeadsByRounds app n (state_at_rest g.start) (state_at_rest now)) (sym (add-one c.loop-picks.rounds))
+          (subst (LeadsByRounds app (suc c.loop-picks.rounds) (state_at_rest g.start)) (state_is home g.start now (values_of g.start.cells) (after_round app (state_at_rest old)) rest) leads);
+      few = omega (arith, c.loop-picks.invariant.few, c.in_ok-play_round.ensures.ended);
+    }
+
+pub returns-clause-end : goal.returns-clause-end
+returns-clause-end g c =
+    let now = c.loop-picks.engine.progress in
+    let empty = no_node now.nodes c.least.result (c.least.ensures.least ∙ ap least_of c.graph.ensures.nodes) (sym c.is_some.ensures ∙ c.loop-picks-test.false) in
+    let come = c.rounds_laws.ensures.end c.args.engine.app g.start now (values_of g.start.cells) (state_at_rest now) c.loop-picks.invariant.rest empty in
+    record {
+      last = come.last;
+      is_end = come.is_end;
+      store = c.end.ensures.store ∙ come.home;
+      log = c.end.ensures.log ∙ come.log;
+      count = c.end.ensures.count ∙ come.ended;
+      rounds_are = c.rounds_laws.ensures.taken c.args.engine.app c.loop-picks.rounds (state_at_rest g.start) (state_at_rest now) c.loop-picks.invariant.leads (ap tasks_of empty);
+    }

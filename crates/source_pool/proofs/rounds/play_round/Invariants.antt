@@ -1,0 +1,8 @@
+use Rattle.commuting.specs.Rounds.{after_round}
+use Rattle.source_pool.proofs.rounds.play_round.Given as goal
+
+abbrev pub ghost-draw : goal.ghost-draw
+ghost-draw g a = g.from
+
+abbrev pub ghost-end_all : goal.ghost-end_all
+ghost-end_all g a = record { start = g.from.start; state = after_round (g.A.App.meaning a.engine.now.app) g.from.state }

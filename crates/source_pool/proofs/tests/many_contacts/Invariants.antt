@@ -1,0 +1,9 @@
+use Rattle.std.proofs.Common.{◌≡◌, ◌<◌, length}
+use Rattle.std.specs.List.{All}
+use Rattle.source_pool.proofs.tests.many_contacts.Given as goal
+
+abbrev pub invariant-loop-person : goal.invariant-loop-person
+invariant-loop-person l = record {
+  one_each : length l.contacts.items ≡ l.person;
+  known : All (λ contact. contact < 1200) l.contacts.items;
+}

@@ -1,0 +1,10 @@
+use Rattle.std.proofs.Common.{◌≡◌, length}
+use Rattle.app_laws.specs.Applications.{AreFitStarts}
+use Rattle.example_app.specs.Introduction.{introductions}
+use Rattle.source_pool.proofs.tests.many_meetings.Given as goal
+
+abbrev pub invariant-loop-group : goal.invariant-loop-group
+invariant-loop-group l = record {
+  fit : AreFitStarts (introductions 1200) l.first;
+  few : length l.first ≡ l.group;
+}

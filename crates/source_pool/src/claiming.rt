@@ -1,0 +1,68 @@
+//! How the jobs of a round are drawn.
+
+ghost use Rattle.std.specs.Prelude.{◌≡◌, [], IfOk, OnOk};
+ghost use Rattle.std.specs.List.{AllByRecursion};
+ghost use Rattle.cell_store.specs.Values.{values_of};
+ghost use Rattle.graph_update.specs.Engine.{MayRun};
+ghost use Rattle.graph_update.specs.Events.{clear_nodes};
+ghost use Rattle.source_pool.specs.Course.{IsAtRest, RunPoint, IsDrawing};
+
+use crate::laws::drawing_laws;
+use app_laws::App;
+use graph_update::{Claim, Engine, Job};
+use kdg_text::NoRoom;
+use outer_edge::Gate;
+use std::alloc::Global;
+
+/// What a gate chooses for worker 0, turn by turn.
+#[derive(Drop)]
+pub(crate) struct Picks<'g, G: Gate> {
+    gate: &'g G,
+    seed: u64,
+    turn: u64,
+}
+
+impl<'g, G: Gate> Picks<'g, G> {
+    /// The picks from turn 0 on.
+    pub(crate) fn new(gate: &'g G, seed: u64) -> Picks<'g, G> {
+        Picks {
+            gate,
+            seed,
+            turn: 0,
+        }
+    }
+
+    /// The gate that chooses.
+    pub(crate) fn gate(&self) -> &'g G {
+        self.gate
+    }
+
+    /// The pick of the next turn.
+    fn next(&mut self) -> u64 {
+        let pick = self.gate.choose(self.seed, 0, self.turn);
+        self.turn = self.turn.saturating_add(1);
+        pick
+    }
+}
+
+/// Claims until a claim gives no job, and gives the jobs, which are those of all clear tasks.
+pub(crate) fn draw<A: App, G: Gate>(
+    alloc: Global,
+    engine: &mut Engine<'_, A>,
+    picks: &mut Picks<'_, G>,
+) -> Result<Vec<Job<A::Val>>, NoRoom>
+    ghost from: { RunPoint A.Val }
+    requires rest { IsAtRest (A.meaning engine.old.app) from.start (values_of from.start.cells) from.state engine.old.progress }
+    ensures app { engine.new.app ≡ engine.old.app }
+    ensures drawing { IfOk result (λ jobs. IsDrawing (A.meaning engine.old.app) from.start (values_of from.start.cells) from.state engine.new.progress jobs.items) }
+    ensures none_clear { OnOk result (clear_nodes (A.meaning engine.old.app) engine.new.progress.nodes ≡ []) }
+    ensures may_run { IfOk result (λ jobs. AllByRecursion (MayRun (A.meaning engine.old.app)) jobs.items) }
+    ensures ended { OnOk result (engine.new.progress.ended ≡ engine.old.progress.ended) }
+{
+    drawing_laws::<A>();
+    let mut jobs = Vec::new(alloc);
+    while let Claim::Job(job) = engine.claim(picks.next())? {
+        jobs.push(job)?;
+    }
+    Ok(jobs)
+}

@@ -1,0 +1,145 @@
+ghost use Rattle.std.specs.Prelude.{◌≡◌, ◌≢◌, ◌<◌, ◌≤◌, [], None, IfOk, IfErr, OnOk};
+ghost use Rattle.cell_store.specs.Values.{values_of};
+ghost use Rattle.commuting.specs.Rounds.{after_round};
+ghost use Rattle.graph_update.specs.Progress.{Progress};
+ghost use Rattle.source_pool.specs.Course.{IsAtRest, NothingRuns, RunPoint};
+ghost use Rattle.source_pool.specs.Runs.{IsRoundsEnd, IsRunFault, state_at_rest};
+
+use crate::claiming::{Picks, draw};
+use crate::finishing::end_all;
+use crate::laws::{drawing_laws, idle_laws, rounds_laws};
+use crate::performing::perform_jobs;
+use app_laws::{App, Finals};
+use cell_store::Held;
+use graph_update::{Engine, FinishFault};
+use kdg_text::{NoRoom, Steps};
+use outer_edge::Gate;
+use std::alloc::Global;
+use std::marker::Brand;
+use std::sync::ledger::{Blank, Ledger};
+use std::thread::Threads;
+
+/// Why a run in rounds did not end.
+#[derive(Clone, Copy, Debug, PartialEq, Eq)]
+pub enum RunFault {
+    /// More tasks would have been created than allowed.
+    Budget {
+        /// How many tasks there would have been.
+        created: u64,
+        /// How many are allowed.
+        limit: u64,
+    },
+    /// No memory was to be had.
+    NoRoom,
+}
+
+impl From<NoRoom> for RunFault {
+    ghost use Rattle.std.specs.Prelude.{◌≡◌};
+    ghost use Rattle.source_pool.specs.declared.rounds.RunFault.TheVariants.{NoRoom};
+
+    ghost from_gives = { λ _ fault. fault ≡ NoRoom };
+
+    fn from(_: NoRoom) -> RunFault {
+        RunFault::NoRoom
+    }
+}
+
+impl<V: Held> From<FinishFault<V>> for RunFault {
+    ghost use Rattle.std.specs.Prelude.{◌≡◌};
+    ghost use Rattle.source_pool.specs.Faults.{fault_of};
+
+    ghost from_gives = { λ refusal fault. fault ≡ fault_of refusal };
+
+    fn from(refusal: FinishFault<V>) -> RunFault {
+        match refusal {
+            FinishFault::Budget { created, limit, .. } => RunFault::Budget { created, limit },
+            FinishFault::NoRoom { .. } => RunFault::NoRoom,
+        }
+    }
+}
+
+/// Runs an execution to its end in rounds, and counts them: all tasks that are clear are claimed,
+/// then performed, each by its worker, and then ended in the order of their keys. Only rounds with
+/// a task are counted.
+///
+/// Worker 0 claims, and the gate chooses for it at each turn, counted from 0; job number `i` of a
+/// round is worker `i mod workers`'s. What was handed in is dropped after a fault.
+pub fn run_rounds<'a, R: Threads + Sync, A: App + Sync, G: Gate + Sync>(
+    rt: &R,
+    alloc: Global,
+    engine: Engine<'a, A>,
+    gate: &G,
+    seed: u64,
+    workers: u32,
+) -> Result<(Finals<A::Val>, u64), RunFault>
+    requires workers { (1 ≤ workers) × (workers ≤ 64) }
+    requires at_rest { NothingRuns engine.progress.nodes }
+    requires not_over { engine.progress.over ≡ None }
+    ensures end { IfOk result (λ run. IsRoundsEnd (A.meaning engine.entry.app) engine.entry.progress run.0 run.1) }
+    ensures fit { IfOk result (λ run. (A.meaning engine.entry.app).is_fit_cells (values_of run.0.store)) }
+    ensures fault { IfErr result (IsRunFault (A.meaning engine.entry.app) engine.entry.progress) }
+{
+    drawing_laws::<A>();
+    idle_laws::<A>();
+    // Where it begins the execution is sound, as every engine's is.
+    let _graph = engine.graph();
+    let blank = Blank::new(1);
+    counted_rounds::<R, A, G, Brand>(rt, alloc, engine, gate, seed, workers, blank)
+}
+
+/// The rounds from one at whose beginning nothing runs, with a count of the sets that are asked for.
+fn counted_rounds<'a, R: Threads + Sync, A: App + Sync, G: Gate + Sync, L: Ledger>(
+    rt: &R,
+    alloc: Global,
+    mut engine: Engine<'a, A>,
+    gate: &G,
+    seed: u64,
+    workers: u32,
+    blank: Blank,
+) -> Result<(Finals<A::Val>, u64), RunFault>
+    ghost start: { Progress A.Val }
+    requires name { blank.name ≡ L.name }
+    requires parts { blank.parts ≡ L.parts }
+    requires some { 0 < blank.parts }
+    requires workers { 1 ≤ workers }
+    requires rest { IsAtRest (A.meaning engine.app) start (values_of start.cells) (state_at_rest start) engine.progress }
+    requires begins { engine.progress ≡ start }
+    ensures end { IfOk result (λ run. IsRoundsEnd (A.meaning engine.entry.app) start run.0 run.1) }
+    ensures fit { IfOk result (λ run. (A.meaning engine.entry.app).is_fit_cells (values_of run.0.store)) }
+    ensures fault { IfErr result (IsRunFault (A.meaning engine.entry.app) start) }
+{
+    rounds_laws::<A>();
+    let mut steps = Steps::<L>::new(blank);
+    let mut picks = Picks::new(gate, seed);
+    let mut rounds = 0u64;
+    while engine.graph().least().is_some() {
+        play_round(rt, alloc, &mut engine, &mut picks, workers, &mut steps)?;
+        rounds += 1;
+    }
+    Ok((engine.end(), rounds))
+}
+
+/// Plays one round of an execution in which nothing runs: draws the jobs of all clear tasks, has
+/// them performed, and ends them in the order of their keys.
+fn play_round<R: Threads + Sync, A: App + Sync, G: Gate + Sync, L: Ledger>(
+    rt: &R,
+    alloc: Global,
+    engine: &mut Engine<'_, A>,
+    picks: &mut Picks<'_, G>,
+    workers: u32,
+    steps: &mut Steps<L>,
+) -> Result<(), RunFault>
+    ghost from: { RunPoint A.Val }
+    requires workers { 1 ≤ workers }
+    requires rest { IsAtRest (A.meaning engine.old.app) from.start (values_of from.start.cells) from.state engine.old.progress }
+    requires some { engine.old.progress.nodes ≢ [] }
+    ensures app { engine.new.app ≡ engine.old.app }
+    ensures rest { OnOk result (IsAtRest (A.meaning engine.old.app) from.start (values_of from.start.cells) (after_round (A.meaning engine.old.app) from.state) engine.new.progress) }
+    ensures ended { OnOk result (engine.old.progress.ended < engine.new.progress.ended) }
+    ensures fault { IfErr result (IsRunFault (A.meaning engine.old.app) from.start) }
+{
+    drawing_laws::<A>();
+    let jobs = draw(alloc, engine, picks)?;
+    let dones = perform_jobs(rt, alloc, engine.app(), picks.gate(), workers, jobs)?;
+    end_all(engine, dones, steps)
+}
