@@ -2,7 +2,7 @@
 #![tactic(auto)]
 
 use kdg_prog::{Status, fault_line, run};
-use outer_edge::{ReadEdge, WriteEdge};
+use outer_edge::{ReadEdge, Seeded, WriteEdge};
 use std::env::Env;
 use std::io::ErrorKind;
 use std::process::ExitCode;
@@ -11,10 +11,12 @@ use std::{env, io};
 fn main(rt: HostRuntime) -> ExitCode {
     let status = match words_of(&rt) {
         Ok(words) => run(
+            &rt,
             rt.alloc(),
             &words,
             &mut ReadEdge::new(rt.stdin()),
             &mut WriteEdge::new(rt.stdout()),
+            &Seeded,
         ),
         Err(status) => status,
     };

@@ -1,16 +1,14 @@
-use Rattle.std.proofs.Common.{◌≡◌, ℕ, ◌≤◌, ◌&&◌, List, cond, Option, Some, None, unwrap_or, option_and_then, refl, arith, inl, inr}
+use Rattle.std.proofs.Common.{ℕ, ◌≤◌, ◌&&◌, Bool, true, false, List, cond, Option, Some, None, unwrap_or, option_and_then, arith, inl, inr}
 use Rattle.std.proofs.lemmas.Bool.{cases_Bool, and_parts, leb-true}
 use Rattle.std.specs.Prelude.{◌≢◌, nat_le, IfOk}
 use Rattle.std.specs.Result.{result_ok}
 use Rattle.std.specs.Str.{bytes_eq}
 use Rattle.std.specs.Prelude.{codes}
 use Rattle.kdg_text.specs.Numbers.{u64_of}
-use Rattle.kdg_prog.specs.Words.{Word, IsAllowed, number_within, command_named, mode_value, given_value, options_given, options_unless, options_of, first_bad, settings_of, command_in}
-use Rattle.kdg_prog.specs.declared.words.Command.TheVariants.{Sim, Rank}
-use Rattle.kdg_prog.specs.declared.words.Mode.TheVariants.{Serial}
+use Rattle.kdg_prog.specs.Words.{Word, IsAllowed, number_within, mode_value, given_value, options_given, options_unless, options_of, first_bad, settings_of, command_in}
+use Rattle.kdg_prog.specs.declared.words.Mode.TheVariants.{Serial, Rounds, Free}
 use Rattle.kdg_prog.specs.declared.words.OptionName.TheVariants as name
 use Rattle.kdg_prog.specs.declared.words.Options.{Options}
-use Rattle.std.specs.List.{slice_get}
 
 abbrev Lies : ℕ → ℕ → ℕ → Type 0
 Lies low high n = (low ≤ n) × (n ≤ high)
@@ -28,18 +26,19 @@ value_lies : (low high default : ℕ) → Lies low high default → (given : Opt
 value_lies low high default lies None = lies
 value_lies low high default lies (Some word) = kept_lies low high default lies (result_ok (u64_of word))
 
-mode_is_serial : (given : Option Word) → unwrap_or (option_and_then mode_value given) Serial ≡ Serial
-mode_is_serial None = refl
-mode_is_serial (Some word) =
-    elim (cases_Bool (bytes_eq word (codes "serial"))) as (λ _. unwrap_or (mode_value word) Serial ≡ Serial) [
-      | inl same ↦ rw (same) refl
-      | inr other ↦ rw (other) refl
-    ]
+mode_is_not_free : (given : Option Word) → unwrap_or (option_and_then mode_value given) Rounds ≢ Free
+mode_is_not_free None = λ e. cc
+mode_is_not_free (Some word) = by_word (bytes_eq word (codes "serial")) (bytes_eq word (codes "rounds"))
+  where
+    by_word : (serial rounds : Bool) → unwrap_or (cond serial (Some Serial) (cond rounds (Some Rounds) None)) Rounds ≢ Free
+    by_word true rounds = λ e. cc
+    by_word false true = λ e. cc
+    by_word false false = λ e. cc
 
 given_allowed : (words : List Word) → IsAllowed (options_given (command_in words) (settings_of words))
 given_allowed words = record {
   workers = value_lies 1 64 4 (omega arith, omega arith) (given_value name.Workers (settings_of words));
-  mode = mode_is_serial (given_value name.Mode (settings_of words));
+  mode = mode_is_not_free (given_value name.Mode (settings_of words));
   until = (value_lies 0 1000000000 1000 (omega arith, omega arith) (given_value name.Until (settings_of words))).1;
   budget = (value_lies 0 1000000000 1000000 (omega arith, omega arith) (given_value name.Budget (settings_of words))).1;
 }

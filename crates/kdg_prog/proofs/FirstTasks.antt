@@ -1,5 +1,5 @@
 -- Where the first tasks alone are more than the budget.
-use Rattle.std.proofs.Common.{◌≡◌, ◌∙◌, ℕ, suc, ◌+◌, ◌<◌, List, [], ◌∷◌, length, ap, refl, sym, subst, arith}
+use Rattle.std.proofs.Common.{◌≡◌, ◌∙◌, ℕ, suc, ◌+◌, ◌<◌, List, [], ◌∷◌, length, ap, refl, sym, subst, inr, arith}
 use Rattle.task_order.specs.declared.start.Start.{Start}
 use Rattle.task_order.specs.declared.task.Task.{Task}
 use Rattle.task_order.specs.Laws.{PutsAddOne}
@@ -7,10 +7,14 @@ use Rattle.task_order.specs.TaskList.{put_in, put_all}
 use Rattle.app_laws.specs.Execution.{Execution, Operator, after_steps, created_after, created_by, first_from, start_of}
 use Rattle.app_laws.specs.Laws.{EndsWithinLimit}
 use Rattle.app_laws.specs.Serial.{IsOverBudget}
+use Rattle.graph_update.specs.Engine.{IsBeginFault}
+use Rattle.graph_update.specs.declared.answers.BeginFault.{BeginFault}
+use Rattle.graph_update.specs.declared.answers.BeginFault.TheVariants as fault
+use Rattle.kdg_prog.specs.declared.status.Status.{Status}
 use Rattle.kdg_prog.specs.declared.status.Status.TheVariants as status
 use Rattle.kdg_prog.specs.declared.words.Options.{Options}
 use Rattle.kdg_prog.specs.Problem.{Problem}
-use Rattle.kdg_prog.specs.Refusals.{IsRunRefusal}
+use Rattle.kdg_prog.specs.Refusals.{AnswersBegin, IsRunRefusal}
 use Rattle.kdg_prog.proofs.Refusing.{refusal_when_over}
 
 length-put_all : PutsAddOne → (new tasks : List Task) → length (put_all new tasks) ≡ length new + length tasks
@@ -51,4 +55,12 @@ module _ {V : Type 0} (adds_one : PutsAddOne) where
 
     -- the refusal where the first tasks are more than the budget
     pub refusal_at_start : (options : Options) (problem : Problem V) (created : ℕ) → created ≡ length problem.tasks → options.budget < created → IsRunRefusal options problem (status.Budget created options.budget)
-    refusal_at_start options problem created is over = refusal_when_over options problem created (over_at_start problem.act options.budget problem.cells problem.tasks created is over)
+    refusal_at_start options problem created is over = refusal_when_over options problem created (over_at_start problem.app.act options.budget problem.cells problem.tasks created is over)
+
+    -- and that of an engine that doesn't begin for want of budget
+    pub refusal_of_begin : (options : Options) (problem : Problem V) (tasks : List Start) → tasks ≡ problem.tasks → (fault : BeginFault) (answer : Status) → IsBeginFault tasks options.budget fault → AnswersBegin fault answer → IsRunRefusal options problem answer
+    refusal_of_begin options problem tasks is-tasks (fault.Budget asked limit) answer over told =
+        let many : asked ≡ length problem.tasks = over.0 ∙ ap length is-tasks in
+        let beyond : options.budget < asked = omega (arith, over.0, over.2) in
+        subst (IsRunRefusal options problem) (sym (told ∙ ap (status.Budget asked) over.1)) (refusal_at_start options problem asked many beyond)
+    refusal_of_begin options problem tasks is-tasks fault.NoRoom answer over told = inr (inr told)

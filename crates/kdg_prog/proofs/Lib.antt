@@ -4,6 +4,8 @@ pub mod FirstBad
 pub mod FirstTasks
 pub mod Given
 pub mod InMemory
+pub mod InRounds
 pub mod Promising
 pub mod Reading
 pub mod Refusing
+pub mod RoundCounting

@@ -129,7 +129,7 @@ module _ (options : Options) (source sink : Transfer) (text : List ℕ) (reads :
               input = text;
               read = reads.ok;
               over = exceeded.over;
-              first = λ serial. subst (λ n. FirstPassesBudget options text n) number exceeded.first;
+              first = λ serial. subst (λ n. FirstPassesBudget options text n) number (exceeded.first serial);
             };
         causes = record {
           good_words = λ word e. cc;

@@ -1,5 +1,6 @@
 -- The print of a run, and why there is none.
-use Rattle.std.proofs.Common.{◌≡◌, ℕ, List, ◌++◌, Ok, Err, refl, sym, ◌∙◌, ap, subst, inl, inr}
+use Rattle.std.proofs.Common.{◌≡◌, ℕ, ◌<◌, List, ◌++◌, ◌&&◌, Bool, true, false, cond, Option, Some, None, Ok, Err, refl, sym, ◌∙◌, ap, subst, inl, inr, arith}
+use Rattle.std.specs.Bool.{then_some}
 use Rattle.std.specs.Prelude.{IfOk, IfErr, IsErrAnd, Result}
 use Rattle.cell_store.specs.Laws.{HomesAreValues}
 use Rattle.cell_store.specs.Values.{AreAllHome, values_of}
@@ -13,59 +14,88 @@ use Rattle.kdg_text.specs.declared.fault.Fault.{Fault}
 use Rattle.task_order.specs.declared.start.Start.{Start}
 use Rattle.kdg_prog.specs.declared.status.Status.{Status}
 use Rattle.kdg_prog.specs.declared.status.Status.TheVariants as status
+use Rattle.kdg_prog.specs.declared.words.Mode.TheVariants.{Serial, Rounds}
 use Rattle.kdg_prog.specs.declared.words.Options.{Options}
-use Rattle.kdg_prog.specs.Problem.{Problem, Answer, whole_print, start_for, print_of, print_of_finals, answer_by, answer_by_end, answer_read, FirstPassesRead, tasks_line}
+use Rattle.kdg_prog.specs.Problem.{Problem, whole_print, start_for, print_of, print_of_finals, answer_by, answer_by_end, answer_read, end_of, is_in_rounds, rounds_of, rounds_text, rounds_told, FirstPassesRead, tasks_line}
 use Rattle.kdg_prog.specs.Refusals.{AnswersSerial, IsRefusalBy, IsRunRefusal}
 
 -- cells of a run that has ended are home
 pub run_is_home : {V : Type 0} (act : Operator V) (budget : ℕ) (start : Execution V) (finals : Finals V) → HomesAreValues V → IsRun act budget start finals → AreAllHome finals.store
 run_is_home act budget start finals laws run = subst AreAllHome (sym run.store) (laws.all_home run.end.cells)
 
-refused_with : (result : Result (List ℕ) Status) (P Q : Status → Type 0) → ((answer : Status) → P answer → Q answer) → IsErrAnd result P → IfErr result Q
+pub refused_with : (result : Result (List ℕ) Status) (P Q : Status → Type 0) → ((answer : Status) → P answer → Q answer) → IsErrAnd result P → IfErr result Q
 refused_with (Ok bytes) P Q implies is = tt
 refused_with (Err answer) P Q implies is = implies answer is
 
 module _ {V : Type 0} (options : Options) (problem : Problem V) where
-  pub refusal_when_over : (created : ℕ) → IsOverBudget problem.act options.budget (start_for problem) created options.budget → IsRunRefusal options problem (status.Budget created options.budget)
+  pub refusal_when_over : (created : ℕ) → IsOverBudget problem.app.act options.budget (start_for problem) created options.budget → IsRunRefusal options problem (status.Budget created options.budget)
   refusal_when_over created over =
       inr (inl (record {
         created = created;
         told = refl;
         above = over.first_passes.passes;
-        over = ap (answer_by_end problem) over.too_long;
-        first = over.first_passes;
+        over = ap (answer_by_end problem (rounds_told options problem)) over.too_long;
+        first = λ serial. over.first_passes;
       }))
 
-  refusal_from_fault : (fault : SerialFault) (answer : Status) → IsFault problem.act options.budget (start_for problem) fault → AnswersSerial fault answer → IsRunRefusal options problem answer
+  refusal_from_fault : (fault : SerialFault) (answer : Status) → IsFault problem.app.act options.budget (start_for problem) fault → AnswersSerial fault answer → IsRunRefusal options problem answer
   refusal_from_fault (Budget created limit) answer over told =
       inr (inl (record {
         created = created;
         told = told ∙ ap (status.Budget created) over.limit_is;
         above = over.first_passes.passes;
-        over = ap (answer_by_end problem) over.too_long;
-        first = over.first_passes;
+        over = ap (answer_by_end problem (rounds_told options problem)) over.too_long;
+        first = λ serial. over.first_passes;
       }))
   refusal_from_fault NoRoom answer over told = inr (inr told)
 
-  print_from_run : (finals : Finals V) (bytes : List ℕ) → HomesAreValues V → IsRun problem.act options.budget (start_for problem) finals → bytes ≡ print_of_finals problem finals →
-      answer_by options problem ≡ whole_print bytes
-  print_from_run finals bytes laws run is-bytes =
+  pub print_from_run : (finals : Finals V) (told : Option ℕ) (bytes : List ℕ) → HomesAreValues V → rounds_told options problem ≡ told → IsRun problem.app.act options.budget (start_for problem) finals →
+      bytes ≡ print_of_finals problem told finals → answer_by options problem ≡ whole_print bytes
+  print_from_run finals told bytes laws tells run is-bytes =
       let cells : values_of finals.store ≡ run.end.cells = ap values_of run.store ∙ laws.values_of_homes run.end.cells in
-      let printed : bytes ≡ print_of problem run.end =
-      is-bytes ∙ (λ i. joined_texts (run.log i) ++ problem.finals (cells i) ++ tasks_line (run.count i)) in
-      ap (answer_by_end problem) run.ends ∙ ap whole_print (sym printed)
+      let printed : bytes ≡ print_of problem told run.end =
+      is-bytes ∙ (λ i. joined_texts (run.log i) ++ problem.finals (cells i) ++ tasks_line (run.count i) ++ rounds_text told) in
+      (λ i. answer_by_end problem (tells i) (run.ends i)) ∙ ap whole_print (sym printed)
 
-  module _ (act : Operator V) (cells : List V) (tasks : List Start) (is-act : problem.act ≡ act) (is-cells : cells ≡ problem.cells) (is-tasks : tasks ≡ problem.tasks) where
+  -- in mode serial no rounds are told
+  pub none_told_in_serial : options.mode ≡ Serial → rounds_told options problem ≡ None
+  none_told_in_serial serial = ap (λ mode. cond (options.stats && is_in_rounds mode) (Some (rounds_of options problem)) None) serial ∙ neither options.stats
+    where
+      neither : (stats : Bool) → cond (stats && false) (Some (rounds_of options problem)) None ≡ None
+      neither true = refl
+      neither false = refl
+
+  -- in mode rounds their number is told, where figures are asked for
+  pub rounds_told_in_rounds : options.mode ≡ Rounds → (rounds : ℕ) → rounds_of options problem ≡ rounds → rounds_told options problem ≡ then_some options.stats rounds
+  rounds_told_in_rounds in_rounds rounds counted =
+      (λ i. cond (options.stats && is_in_rounds (in_rounds i)) (Some (counted i)) None) ∙ asked options.stats
+    where
+      asked : (stats : Bool) → cond (stats && true) (Some rounds) None ≡ then_some stats rounds
+      asked true = refl
+      asked false = refl
+
+  -- the refusal of a run in rounds that does not end within the budget
+  pub refusal_when_endless : options.mode ≡ Rounds → (created limit : ℕ) → end_of options problem ≡ None → limit ≡ options.budget → limit < created → (answer : Status) → answer ≡ status.Budget created limit → IsRunRefusal options problem answer
+  refusal_when_endless in_rounds created limit endless bound above answer told =
+      inr (inl (record {
+        created = created;
+        told = told ∙ ap (status.Budget created) bound;
+        above = omega (arith, above, bound);
+        over = ap (answer_by_end problem (rounds_told options problem)) endless;
+        first = λ serial. absurd (let both : Serial ≡ Rounds = sym serial ∙ in_rounds in cc);
+      }))
+
+  module _ (cells : List V) (tasks : List Start) (is-cells : cells ≡ problem.cells) (is-tasks : tasks ≡ problem.tasks) where
     -- the refusal of a serial run
-    pub refusal_from_serial : (fault : SerialFault) (result : Result (List ℕ) Status) → IsFault act options.budget (start_of cells tasks) fault → IsErrAnd result (AnswersSerial fault) → IfErr result (IsRunRefusal options problem)
+    pub refusal_from_serial : (fault : SerialFault) (result : Result (List ℕ) Status) → IsFault problem.app.act options.budget (start_of cells tasks) fault → IsErrAnd result (AnswersSerial fault) → IfErr result (IsRunRefusal options problem)
     refusal_from_serial fault result over told =
         refused_with result (AnswersSerial fault) (IsRunRefusal options problem)
-        (λ answer told. refusal_from_fault fault answer (rw (is-act, ← is-cells, ← is-tasks) over) told)
+        (λ answer told. refusal_from_fault fault answer (rw (← is-cells, ← is-tasks) over) told)
         told
 
     -- the print of a serial run
-    pub print_from_serial : (finals : Finals V) (bytes : List ℕ) → HomesAreValues V → IsRun act options.budget (start_of cells tasks) finals → bytes ≡ print_of_finals problem finals → answer_by options problem ≡ whole_print bytes
-    print_from_serial finals bytes laws ran is-bytes = print_from_run finals bytes laws (rw (is-act, ← is-cells, ← is-tasks) ran) is-bytes
+    pub print_from_serial : (finals : Finals V) (bytes : List ℕ) → HomesAreValues V → rounds_told options problem ≡ None → IsRun problem.app.act options.budget (start_of cells tasks) finals → bytes ≡ print_of_finals problem None finals → answer_by options problem ≡ whole_print bytes
+    print_from_serial finals bytes laws tells ran is-bytes = print_from_run finals None bytes laws tells (rw (← is-cells, ← is-tasks) ran) is-bytes
 
 -- a run of what an input describes is answered what the input is
 module _ {D V : Type 0} (problem : D → Problem V) (options : Options) (found : Result D Fault) (described : D) (run : Problem V) (spelled : found ≡ Ok described) (is : run ≡ problem described) (result : Result (List ℕ) Status) where
@@ -74,7 +104,7 @@ module _ {D V : Type 0} (problem : D → Problem V) (options : Options) (found :
       subst (λ read. IfOk result (λ bytes. answer_read problem options read ≡ whole_print bytes)) (sym spelled)
       (subst (λ p. IfOk result (λ bytes. answer_by options p ≡ whole_print bytes)) is print)
 
-  pub refusal_when_read : IfErr result (IsRunRefusal options run) → IfErr result (IsRefusalBy (answer_read problem options found) (FirstPassesRead problem options found) options.budget)
+  pub refusal_when_read : IfErr result (IsRunRefusal options run) → IfErr result (IsRefusalBy (answer_read problem options found) (FirstPassesRead problem options found) options)
   refusal_when_read refusal =
-      subst (λ read. IfErr result (IsRefusalBy (answer_read problem options read) (FirstPassesRead problem options read) options.budget)) (sym spelled)
+      subst (λ read. IfErr result (IsRefusalBy (answer_read problem options read) (FirstPassesRead problem options read) options)) (sym spelled)
       (subst (λ p. IfErr result (IsRunRefusal options p)) is refusal)

@@ -3,7 +3,8 @@ use Rattle.std.specs.Prelude.{ℕ, List}
 use Rattle.bench_reader.specs.declared.deck.Deck.{Deck}
 use Rattle.bench_reader.specs.Grammar.{deck_of}
 use Rattle.logic_sim.specs.Circuit.{start_cells, start_tasks, finals_of}
-use Rattle.logic_sim.specs.Event.{Simulation, act_of}
+use Rattle.logic_sim.specs.Event.{Simulation}
+use Rattle.logic_sim.specs.Meaning.{simulation}
 use Rattle.spring_mesh.specs.declared.file.MeshFile.{MeshFile}
 use Rattle.spring_mesh.specs.declared.file.MeshNode.{MeshNode}
 use Rattle.spring_mesh.specs.Grammar.{mesh_of}
@@ -16,7 +17,7 @@ use Rattle.gf2_eliminate.specs.Start as matrices
 use Rattle.kdg_prog.specs.declared.words.Command.{Command}
 use Rattle.kdg_prog.specs.declared.words.Command.TheVariants.{Sim, Rank, Mesh}
 use Rattle.kdg_prog.specs.declared.words.Options.{Options}
-use Rattle.kdg_prog.specs.Problem.{Problem, answer_read, FirstPassesRead}
+use Rattle.kdg_prog.specs.Problem.{Problem, Setting, answer_read, problem_of, FirstPassesRead}
 pub use Rattle.kdg_prog.specs.Problem.{Answer, input_fault, over_budget, whole_print}
 
 -- ---- the command sim
@@ -26,13 +27,15 @@ abbrev pub simulation_of : Options → Deck → Simulation
 simulation_of options deck = record { deck = deck; until = options.until }
 
 -- every signal is 0 at first, and the outputs are told at the end
-abbrev pub circuit_problem : Simulation → Problem ℕ
-circuit_problem circuit = record {
-  act = act_of circuit;
+abbrev pub circuit_setting : Simulation → Setting ℕ
+circuit_setting circuit = record {
   cells = start_cells circuit.deck;
   tasks = start_tasks circuit;
   finals = finals_of circuit.deck;
 }
+
+abbrev pub circuit_problem : Simulation → Problem ℕ
+circuit_problem circuit = problem_of (simulation circuit) (circuit_setting circuit)
 
 abbrev pub deck_problem : Options → Deck → Problem ℕ
 deck_problem options deck = circuit_problem (simulation_of options deck)
@@ -40,24 +43,28 @@ deck_problem options deck = circuit_problem (simulation_of options deck)
 -- ---- the command rank
 
 -- the ones of a pattern at first, and the lines and the rank of what elimination makes of them
-abbrev pub pattern_problem : Pattern → Problem Line2
-pattern_problem pattern = record {
-  act = (elimination pattern.rows pattern.cols).act;
+abbrev pub pattern_setting : Pattern → Setting Line2
+pattern_setting pattern = record {
   cells = matrices.start_cells pattern;
   tasks = matrices.start_tasks pattern;
   finals = matrices.finals_of pattern.rows;
 }
 
+abbrev pub pattern_problem : Pattern → Problem Line2
+pattern_problem pattern = problem_of (elimination pattern.rows pattern.cols) (pattern_setting pattern)
+
 -- ---- the command mesh
 
 -- the nodes are where the file has them at first, and are told as they are at its end
-abbrev pub mesh_problem : MeshFile → Problem MeshNode
-mesh_problem file = record {
-  act = (meshes.mesh_steps file).act;
+abbrev pub mesh_setting : MeshFile → Setting MeshNode
+mesh_setting file = record {
   cells = file.nodes;
   tasks = meshes.start_tasks file;
   finals = meshes.finals_of file;
 }
+
+abbrev pub mesh_problem : MeshFile → Problem MeshNode
+mesh_problem file = problem_of (meshes.mesh_steps file) (mesh_setting file)
 
 -- ---- every command
 

@@ -2,7 +2,7 @@ use Rattle.std.specs.Prelude.{Bool, false, is_some, unwrap_or}
 use Rattle.kdg_prog.specs.Words.{Word, workers_value, mode_value, seed_value, until_value, budget_value, switch_value}
 use Rattle.kdg_prog.specs.declared.words.Command.{Command}
 use Rattle.kdg_prog.specs.declared.words.Draft.{Draft}
-use Rattle.kdg_prog.specs.declared.words.Mode.TheVariants.{Serial}
+use Rattle.kdg_prog.specs.declared.words.Mode.TheVariants.{Rounds}
 use Rattle.kdg_prog.specs.declared.words.OptionName.{OptionName}
 use Rattle.kdg_prog.specs.declared.words.OptionName.TheVariants as name
 use Rattle.kdg_prog.specs.declared.words.Options.{Options}
@@ -30,7 +30,7 @@ abbrev pub options_of_draft : Command → Draft → Options
 options_of_draft command draft = record {
   command = command;
   workers = unwrap_or draft.workers 4;
-  mode = unwrap_or draft.mode Serial;
+  mode = unwrap_or draft.mode Rounds;
   seed = unwrap_or draft.seed 0;
   until = unwrap_or draft.until 1000;
   budget = unwrap_or draft.budget 1000000;

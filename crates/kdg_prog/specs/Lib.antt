@@ -4,5 +4,6 @@ pub mod Draft
 pub mod Headline
 pub mod Problem
 pub mod Refusals
+pub mod RoundCount
 pub mod Status
 pub mod Words

@@ -1,4 +1,4 @@
-use Rattle.std.specs.Prelude.{◌≡◌, ◌≤◌, ◌==◌, ℕ, ◌+◌, ◌-◌, ◌%◌, ◌^◌, List, [], ◌∷◌, ◌&&◌, Bool, true, false, not, nat_le, length, drop, take, Option, Some, None, is_some, is_none, unwrap_or, option_and_then, Result, Ok, Err, codes, find, if◌then◌else◌}
+use Rattle.std.specs.Prelude.{◌≢◌, ◌≤◌, ◌==◌, ℕ, ◌+◌, ◌-◌, ◌%◌, ◌^◌, List, [], ◌∷◌, ◌&&◌, Bool, true, false, not, nat_le, length, drop, take, Option, Some, None, is_some, is_none, unwrap_or, option_and_then, Result, Ok, Err, codes, find, if◌then◌else◌}
 use Rattle.std.specs.List.{slice_get, range_with_len}
 use Rattle.std.specs.Option.{option_map, option_map_or}
 use Rattle.std.specs.Result.{result_ok}
@@ -8,7 +8,7 @@ use Rattle.kdg_prog.specs.Bounds.{latest_time, most_tasks, most_workers}
 use Rattle.kdg_prog.specs.declared.words.Command.{Command}
 use Rattle.kdg_prog.specs.declared.words.Command.TheVariants.{Sim, Rank, Mesh}
 use Rattle.kdg_prog.specs.declared.words.Mode.{Mode}
-use Rattle.kdg_prog.specs.declared.words.Mode.TheVariants.{Serial}
+use Rattle.kdg_prog.specs.declared.words.Mode.TheVariants.{Serial, Rounds, Free}
 use Rattle.kdg_prog.specs.declared.words.OptionName.{OptionName}
 use Rattle.kdg_prog.specs.declared.words.OptionName.TheVariants as name
 use Rattle.kdg_prog.specs.declared.words.Options.{Options}
@@ -64,7 +64,8 @@ abbrev pub workers_value : Word → Option ℕ
 workers_value = number_within 1 most_workers
 
 abbrev pub mode_value : Word → Option Mode
-mode_value word = if bytes_eq word (codes "serial") then Some Serial else None
+mode_value word =
+    if bytes_eq word (codes "serial") then Some Serial else if bytes_eq word (codes "rounds") then Some Rounds else None
 
 abbrev pub seed_value : Word → Option ℕ
 seed_value = number_within 0 (2 ^ 64 - 1)
@@ -143,7 +144,7 @@ abbrev pub options_given : Command → List (Word × Word) → Options
 options_given command settings = record {
   command = command;
   workers = unwrap_or (option_and_then workers_value (given_value name.Workers settings)) 4;
-  mode = unwrap_or (option_and_then mode_value (given_value name.Mode settings)) Serial;
+  mode = unwrap_or (option_and_then mode_value (given_value name.Mode settings)) Rounds;
   seed = unwrap_or (option_and_then seed_value (given_value name.Seed settings)) 0;
   until = unwrap_or (option_and_then until_value (given_value name.Until settings)) 1000;
   budget = unwrap_or (option_and_then budget_value (given_value name.Budget settings)) 1000000;
@@ -163,6 +164,6 @@ options_of words =
 -- options that words can ask for
 pub record IsAllowed (options : Options) : Type 0 where
   pub workers : (1 ≤ options.workers) × (options.workers ≤ most_workers)
-  pub mode : options.mode ≡ Serial
+  pub mode : options.mode ≢ Free
   pub until : options.until ≤ latest_time
   pub budget : options.budget ≤ most_tasks

@@ -1,11 +1,13 @@
 ghost use Rattle.std.specs.Prelude.{◌≡◌};
 ghost use Rattle.kdg_prog.specs.declared.status.Status.TheVariants.{NoMemory};
-ghost use Rattle.kdg_prog.specs.Refusals.{AnswersRead, AnswersReader, AnswersSerial};
+ghost use Rattle.kdg_prog.specs.Refusals.{AnswersBegin, AnswersRead, AnswersReader, AnswersRounds, AnswersSerial};
 
 use crate::Status;
 use app_laws::SerialFault;
+use graph_update::BeginFault;
 use kdg_text::{NoRoom, ReadFail};
 use outer_edge::ReadAllFault;
+use source_pool::RunFault;
 
 impl From<NoRoom> for Status {
     ghost from_gives = { λ _ answer. answer ≡ NoMemory };
@@ -48,6 +50,31 @@ impl From<SerialFault> for Status {
         match fault {
             SerialFault::Budget { created, limit } => Status::Budget { created, limit },
             SerialFault::NoRoom => Status::NoMemory,
+        }
+    }
+}
+
+impl From<BeginFault> for Status {
+    ghost from_gives = { AnswersBegin };
+
+    fn from(fault: BeginFault) -> Status {
+        match fault {
+            BeginFault::Budget { asked, limit } => Status::Budget {
+                created: asked,
+                limit,
+            },
+            BeginFault::NoRoom => Status::NoMemory,
+        }
+    }
+}
+
+impl From<RunFault> for Status {
+    ghost from_gives = { AnswersRounds };
+
+    fn from(fault: RunFault) -> Status {
+        match fault {
+            RunFault::Budget { created, limit } => Status::Budget { created, limit },
+            RunFault::NoRoom => Status::NoMemory,
         }
     }
 }

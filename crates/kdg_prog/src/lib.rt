@@ -2,11 +2,14 @@
 #![tactic(auto)]
 
 mod faults;
+mod laws;
 mod problem;
+mod running;
 mod status;
 mod whole_run;
 mod words;
 
+pub use laws::round_count_laws;
 pub use status::{Status, fault_line};
 pub use whole_run::{run, run_in_memory, run_plain};
 pub use words::{Command, Mode, Options, read_words};

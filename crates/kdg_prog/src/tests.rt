@@ -14,7 +14,7 @@ fn defaults() -> Options {
     Options {
         command: Command::Sim,
         workers: 4,
-        mode: Mode::Serial,
+        mode: Mode::Rounds,
         seed: 0,
         until: 1000,
         budget: 1_000_000,
@@ -25,7 +25,11 @@ fn defaults() -> Options {
 #[test]
 fn reads_words(rt: HostRuntime) -> Result<(), Fail> {
     let sim = defaults();
-    let rows: [(&[&str], Options); 21] = [
+    let serial = Options {
+        mode: Mode::Serial,
+        ..sim
+    };
+    let rows: [(&[&str], Options); 22] = [
         (&["sim"], sim),
         (
             &["mesh"],
@@ -52,7 +56,8 @@ fn reads_words(rt: HostRuntime) -> Result<(), Fail> {
         (&["sim", "--workers", "1"], Options { workers: 1, ..sim }),
         (&["sim", "--workers", "64"], Options { workers: 64, ..sim }),
         (&["sim", "--workers", "007"], Options { workers: 7, ..sim }),
-        (&["sim", "--mode", "serial"], sim),
+        (&["sim", "--mode", "serial"], serial),
+        (&["sim", "--mode", "rounds"], sim),
         (&["sim", "--seed", "0"], sim),
         (
             &["sim", "--seed", "18446744073709551615"],
@@ -85,11 +90,17 @@ fn reads_words(rt: HostRuntime) -> Result<(), Fail> {
         (&["sim", "--stats", "off"], sim),
         (
             &["sim", "--mode", "serial", "--budget", "19"],
-            Options { budget: 19, ..sim },
+            Options {
+                budget: 19,
+                ..serial
+            },
         ),
         (
             &["sim", "--budget", "19", "--mode", "serial"],
-            Options { budget: 19, ..sim },
+            Options {
+                budget: 19,
+                ..serial
+            },
         ),
         (
             &[
@@ -113,7 +124,7 @@ fn reads_words(rt: HostRuntime) -> Result<(), Fail> {
                 until: 7,
                 budget: 9,
                 stats: true,
-                ..sim
+                ..serial
             },
         ),
         (
@@ -147,7 +158,7 @@ fn names_the_first_bad_word(rt: HostRuntime) -> Result<(), Fail> {
         (&["sim", "--workers", ""], 3),
         (&["sim", "--workers", "+4"], 3),
         (&["sim", "--workers", "4 "], 3),
-        (&["sim", "--mode", "rounds"], 3),
+        (&["sim", "--mode", "Rounds"], 3),
         (&["sim", "--mode", "free"], 3),
         (&["sim", "--mode", "Serial"], 3),
         (&["sim", "--seed", "18446744073709551616"], 3),

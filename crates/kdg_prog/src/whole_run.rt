@@ -5,32 +5,38 @@ ghost use Rattle.kdg_prog.specs.Headline.{CompletesInMemory, Promises, TellsBadW
 ghost use Rattle.kdg_prog.specs.Refusals.{IsRefusal, IsRefusalFor};
 ghost use Rattle.kdg_prog.specs.Words.{IsAllowed, options_of};
 
-use crate::problem::print_of_run;
+use crate::running::print_of_run;
 use crate::{Command, Options, Status, read_words};
 use bench_reader::read_deck;
 use gf2_eliminate::Matrix;
 use kdg_text::Text;
 use logic_sim::Circuit;
 use mtx_reader::read_mtx;
-use outer_edge::{CleanSink, CleanSource, Sink, Source, read_all, write_whole};
+use outer_edge::{CleanSink, CleanSource, Gate, Sink, Source, read_all, write_whole};
 use spring_mesh::{Mesh, read_mesh};
 use std::alloc::Global;
+use std::thread::Threads;
 
 /// How many bytes an input may have.
 pub(crate) const INPUT_BOUND: u64 = 16_777_216;
 
-/// Reads the words and then the whole input, runs the circuit, the elimination or the mesh
-/// that it describes, always the earliest pending task, and writes the print: the log, the finals,
-/// and the number of tasks.
+/// Reads the words and then the whole input, runs the circuit, the elimination or the mesh that it
+/// describes, and writes the print: the log, the finals, the number of tasks, and, where figures
+/// are asked for in mode rounds, that of rounds.
+///
+/// In mode serial always the earliest pending task runs. In mode rounds the gate chooses among the
+/// tasks that are clear, and workers perform them; what is printed is the same.
 ///
 /// What is wrong is told in this order: the words; a failed read, or more bytes than the bound,
 /// whichever comes first; the input; the budget; a failed write. `NoMemory` may come in place of
 /// any answer but `Usage`.
-pub fn run<S: Source, K: Sink>(
+pub fn run<R: Threads + Sync, S: Source, K: Sink, G: Gate + Sync>(
+    rt: &R,
     alloc: Global,
     words: &Vec<String>,
     source: &mut S,
     sink: &mut K,
+    gate: &G,
 ) -> Status
     // `Usage` comes exactly where a word is bad, and then nothing is read or written.
     ensures usage { TellsBadWord (options_of (map string_bytes words.now.items)) result }
@@ -46,17 +52,19 @@ pub fn run<S: Source, K: Sink>(
     ensures same_room { K.room sink.new ≡ K.room sink.old }
 {
     match read_words(words) {
-        Ok(options) => run_plain(alloc, &options, source, sink),
+        Ok(options) => run_plain(rt, alloc, &options, source, sink, gate),
         Err(word) => Status::Usage { word },
     }
 }
 
 /// Does what `run` does behind its words.
-pub fn run_plain<S: Source, K: Sink>(
+pub fn run_plain<R: Threads + Sync, S: Source, K: Sink, G: Gate + Sync>(
+    rt: &R,
     alloc: Global,
     options: &Options,
     source: &mut S,
     sink: &mut K,
+    gate: &G,
 ) -> Status
     requires { IsAllowed options.now }
     ensures promises { Promises options.now (transfer_of S.remaining S.faults source.old source.new)
@@ -65,7 +73,7 @@ pub fn run_plain<S: Source, K: Sink>(
     ensures same_room { K.room sink.new ≡ K.room sink.old }
 {
     match read_all(alloc, source, INPUT_BOUND) {
-        Ok(input) => match print_of(alloc, options, input) {
+        Ok(input) => match print_of(rt, alloc, options, input, gate) {
             Ok(print) => match write_whole(sink, print.bytes()) {
                 Ok(()) => Status::Ok,
                 Err(_) => Status::WriteFault,
@@ -78,34 +86,48 @@ pub fn run_plain<S: Source, K: Sink>(
 
 /// `run_plain` over a source and a sink in memory that never fail. Where the sink has room for more
 /// than the print, only the input decides the answer, or memory runs out.
-pub fn run_in_memory(
+pub fn run_in_memory<R: Threads + Sync, G: Gate + Sync>(
+    rt: &R,
     alloc: Global,
     options: &Options,
     source: &mut CleanSource,
     sink: &mut CleanSink,
+    gate: &G,
 ) -> Status
     requires { IsAllowed options.now }
     ensures { result ≢ Status.NoMemory →
         CompletesInMemory options.now source.old.left sink.old sink.new result }
 {
-    run_plain(alloc, options, source, sink)
+    run_plain(rt, alloc, options, source, sink, gate)
 }
 
 /// The print for an input, or why there is none.
-fn print_of(alloc: Global, options: &Options, input: Text) -> Result<Text, Status>
+fn print_of<R: Threads + Sync, G: Gate + Sync>(
+    rt: &R,
+    alloc: Global,
+    options: &Options,
+    input: Text,
+    gate: &G,
+) -> Result<Text, Status>
     requires { IsAllowed options.now }
     ensures print { IfOk result (λ bytes. answer_of options.now input ≡ whole_print bytes) }
     ensures refusal { IfErr result (IsRefusal options.now input) }
 {
     match options.command {
-        Command::Sim => circuit_print(alloc, options, input),
-        Command::Rank => matrix_print(alloc, options, input),
-        Command::Mesh => mesh_print(alloc, options, input),
+        Command::Sim => circuit_print(rt, alloc, options, input, gate),
+        Command::Rank => matrix_print(rt, alloc, options, input, gate),
+        Command::Mesh => mesh_print(rt, alloc, options, input, gate),
     }
 }
 
 /// The print for a circuit, or why there is none. The input is dropped before the run.
-fn circuit_print(alloc: Global, options: &Options, input: Text) -> Result<Text, Status>
+fn circuit_print<R: Threads + Sync, G: Gate + Sync>(
+    rt: &R,
+    alloc: Global,
+    options: &Options,
+    input: Text,
+    gate: &G,
+) -> Result<Text, Status>
     requires { IsAllowed options.now }
     ensures print { IfOk result (λ bytes. answer_for Command.Sim options.now input ≡ whole_print bytes) }
     ensures refusal { IfErr result (IsRefusalFor Command.Sim options.now input) }
@@ -113,11 +135,17 @@ fn circuit_print(alloc: Global, options: &Options, input: Text) -> Result<Text, 
     let deck = read_deck(alloc, input.bytes())?;
     drop(input);
     let circuit = Circuit::new(alloc, deck, options.until)?;
-    print_of_run(alloc, options, &circuit)
+    print_of_run(rt, alloc, options, &circuit, gate)
 }
 
 /// The print for a matrix, or why there is none. The input is dropped before the run.
-fn matrix_print(alloc: Global, options: &Options, input: Text) -> Result<Text, Status>
+fn matrix_print<R: Threads + Sync, G: Gate + Sync>(
+    rt: &R,
+    alloc: Global,
+    options: &Options,
+    input: Text,
+    gate: &G,
+) -> Result<Text, Status>
     requires { IsAllowed options.now }
     ensures print { IfOk result (λ bytes. answer_for Command.Rank options.now input ≡ whole_print bytes) }
     ensures refusal { IfErr result (IsRefusalFor Command.Rank options.now input) }
@@ -125,11 +153,17 @@ fn matrix_print(alloc: Global, options: &Options, input: Text) -> Result<Text, S
     let pattern = read_mtx(alloc, input.bytes())?;
     drop(input);
     let matrix = Matrix::new(alloc, pattern);
-    print_of_run(alloc, options, &matrix)
+    print_of_run(rt, alloc, options, &matrix, gate)
 }
 
 /// The print for a mesh, or why there is none. The input is dropped before the run.
-fn mesh_print(alloc: Global, options: &Options, input: Text) -> Result<Text, Status>
+fn mesh_print<R: Threads + Sync, G: Gate + Sync>(
+    rt: &R,
+    alloc: Global,
+    options: &Options,
+    input: Text,
+    gate: &G,
+) -> Result<Text, Status>
     requires { IsAllowed options.now }
     ensures print { IfOk result (λ bytes. answer_for Command.Mesh options.now input ≡ whole_print bytes) }
     ensures refusal { IfErr result (IsRefusalFor Command.Mesh options.now input) }
@@ -137,5 +171,5 @@ fn mesh_print(alloc: Global, options: &Options, input: Text) -> Result<Text, Sta
     let file = read_mesh(alloc, input.bytes())?;
     drop(input);
     let mesh = Mesh::new(alloc, file);
-    print_of_run(alloc, options, &mesh)
+    print_of_run(rt, alloc, options, &mesh, gate)
 }

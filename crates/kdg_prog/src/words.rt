@@ -60,7 +60,7 @@ pub struct Options {
 /// | option | value | default |
 /// |---|---|---|
 /// | `--workers` | 1 to 64 | 4 |
-/// | `--mode` | `serial` | `serial` |
+/// | `--mode` | `serial` or `rounds` | `rounds` |
 /// | `--seed` | 0 to 2^64 - 1 | 0 |
 /// | `--until`, only of `sim` | 0 to 1,000,000,000 | 1000 |
 /// | `--budget` | 0 to 1,000,000,000 | 1,000,000 |
@@ -161,6 +161,7 @@ fn read_mode(word: &str) -> Option<Mode>
 {
     match word {
         "serial" => Some(Mode::Serial),
+        "rounds" => Some(Mode::Rounds),
         _ => None,
     }
 }
@@ -238,7 +239,7 @@ impl Draft {
         Options {
             command,
             workers: self.workers.unwrap_or(4),
-            mode: self.mode.unwrap_or(Mode::Serial),
+            mode: self.mode.unwrap_or(Mode::Rounds),
             seed: self.seed.unwrap_or(0),
             until: self.until.unwrap_or(1000),
             budget: self.budget.unwrap_or(1_000_000),

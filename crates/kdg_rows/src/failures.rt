@@ -4,7 +4,7 @@ ghost use Rattle.kdg_prog.specs.Words.{IsAllowed};
 
 use crate::decks::{C17, C17_PRINT};
 use kdg_prog::{Command, Mode, Options, Status, run_in_memory, run_plain};
-use outer_edge::{CleanSink, CleanSource, MemSink, MemSource};
+use outer_edge::{CleanSink, CleanSource, MemSink, MemSource, Seeded};
 use std::test::Fail;
 
 /// What the plain command asks for.
@@ -14,7 +14,7 @@ fn plain_options() -> Options
     Options {
         command: Command::Sim,
         workers: 4,
-        mode: Mode::Serial,
+        mode: Mode::Rounds,
         seed: 0,
         until: 1000,
         budget: 1_000_000,
@@ -29,7 +29,7 @@ fn a_failed_read_ends_the_run(rt: HostRuntime) -> Result<(), Fail> {
         let fails = vec![in rt.alloc(); failed]?;
         let mut source = MemSource::new(C17.as_bytes().to_vec(rt.alloc())?, 5, fails);
         let mut sink = CleanSink::with_room(rt.alloc(), 64, 4096)?;
-        let status = run_plain(rt.alloc(), &options, &mut source, &mut sink);
+        let status = run_plain(&rt, rt.alloc(), &options, &mut source, &mut sink, &Seeded);
         assert_eq!(rt; status, Status::ReadFault, "read {failed}");
         assert_eq!(rt; sink.held(), b"".as_slice());
     }
@@ -43,7 +43,7 @@ fn a_failed_write_leaves_a_front_of_the_print(rt: HostRuntime) -> Result<(), Fai
         let fails = vec![in rt.alloc(); failed]?;
         let mut source = CleanSource::new(C17.as_bytes().to_vec(rt.alloc())?, 64);
         let mut sink = MemSink::with_room(rt.alloc(), 4, room, fails)?;
-        let status = run_plain(rt.alloc(), &options, &mut source, &mut sink);
+        let status = run_plain(&rt, rt.alloc(), &options, &mut source, &mut sink, &Seeded);
         assert_eq!(rt; status, Status::WriteFault, "write {failed}");
         assert_eq!(rt; status.code(), 7);
         assert_eq!(rt; sink.held().len(), held);
@@ -57,7 +57,7 @@ fn a_print_may_fill_the_room(rt: HostRuntime) -> Result<(), Fail> {
     let options = plain_options();
     let mut source = CleanSource::new(C17.as_bytes().to_vec(rt.alloc())?, 64);
     let mut sink = MemSink::with_room(rt.alloc(), 4, 59, Vec::new(rt.alloc()))?;
-    let status = run_plain(rt.alloc(), &options, &mut source, &mut sink);
+    let status = run_plain(&rt, rt.alloc(), &options, &mut source, &mut sink, &Seeded);
     assert_eq!(rt; status, Status::Ok);
     assert_eq!(rt; sink.held(), C17_PRINT.as_bytes());
     Ok(())
@@ -79,7 +79,7 @@ fn an_input_may_be_too_large(rt: HostRuntime) -> Result<(), Fail> {
     ] {
         let mut source = CleanSource::new(vec![in rt.alloc(); b'#'; len]?, 1 << 20);
         let mut sink = CleanSink::with_room(rt.alloc(), 64, 4096)?;
-        let status = run_in_memory(rt.alloc(), &options, &mut source, &mut sink);
+        let status = run_in_memory(&rt, rt.alloc(), &options, &mut source, &mut sink, &Seeded);
         assert_eq!(rt; status, want);
         assert_eq!(rt; sink.held(), print.as_bytes());
     }

@@ -5,13 +5,13 @@ use Rattle.kdg_prog.proofs.Refusing.{print_when_read, refusal_when_read}
 use Rattle.kdg_prog.proofs.whole_run.mesh_print.Goals as goal
 
 pub returns-clause-print : goal.returns-clause-print
-returns-clause-print c =
+returns-clause-print g c =
     let file = c.in_ok-file.file in
     let spelled : mesh_of c.args.input ≡ Ok file = sym (ap mesh_of c.bytes.ensures) ∙ c.in_ok-file.ensures.found in
     print_when_read mesh_problem c.args.options.now (mesh_of c.args.input) file (mesh_problem c.new-mesh.result) spelled (ap mesh_problem c.new-mesh.ensures) c.print_of_run.result c.print_of_run.ensures.print
 
 pub returns-clause-refusal : goal.returns-clause-refusal
-returns-clause-refusal c =
+returns-clause-refusal g c =
     let file = c.in_ok-file.file in
     let spelled : mesh_of c.args.input ≡ Ok file = sym (ap mesh_of c.bytes.ensures) ∙ c.in_ok-file.ensures.found in
     refusal_when_read mesh_problem c.args.options.now (mesh_of c.args.input) file (mesh_problem c.new-mesh.result) spelled (ap mesh_problem c.new-mesh.ensures) c.print_of_run.result c.print_of_run.ensures.refusal

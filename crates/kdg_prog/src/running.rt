@@ -1,0 +1,159 @@
+ghost use Rattle.std.specs.Prelude.{◌≡◌, ◌<◌, ◌≤◌, ◌^◌, ◌++◌, length, [], IfOk, IfErr, OnOk};
+ghost use Rattle.cell_store.specs.Values.{AreAllHome, values_of};
+ghost use Rattle.app_laws.specs.Applications.{AreFitStarts};
+ghost use Rattle.graph_update.specs.Answers.{IsBegun};
+ghost use Rattle.graph_update.specs.Engine.{IsBeginFault};
+ghost use Rattle.graph_update.specs.Sound.{IsSound};
+ghost use Rattle.kdg_prog.specs.Problem.{answer_by, print_of_finals, problem_of, rounds_text, tasks_line, whole_print};
+ghost use Rattle.kdg_prog.specs.Refusals.{IsRunRefusal};
+ghost use Rattle.kdg_prog.specs.Words.{IsAllowed};
+
+use crate::laws::round_count_laws;
+use crate::problem::Runnable;
+use crate::{Mode, Options, Status};
+use app_laws::{App, Finals, execution_laws, orderly_laws, serial};
+use cell_store::value_laws;
+use commuting::{round_laws, standing_laws};
+use graph_update::{BeginFault, Engine};
+use kdg_text::{NoRoom, Steps, Text, push_u64};
+use outer_edge::Gate;
+use output_log::join_laws;
+use source_pool::run_rounds;
+use std::alloc::Global;
+use std::marker::Brand;
+use std::sync::ledger::{Blank, Ledger};
+use std::thread::Threads;
+use task_order::{StartList, put_in_laws};
+
+/// Runs an application, and gives the print, or why there is none.
+pub(crate) fn print_of_run<R: Threads + Sync, A: Runnable, G: Gate + Sync>(
+    rt: &R,
+    alloc: Global,
+    options: &Options,
+    app: &A,
+    gate: &G,
+) -> Result<Text, Status>
+    requires { IsAllowed options.now }
+    ensures print { IfOk result (λ bytes. answer_by options.now (problem_of (A.meaning app.now) (A.setting app.now)) ≡ whole_print bytes) }
+    ensures refusal { IfErr result (IsRunRefusal options.now (problem_of (A.meaning app.now) (A.setting app.now))) }
+{
+    execution_laws::<A::Val>();
+    put_in_laws();
+    let limit = options.budget;
+    if let Some(created) = app.too_many_tasks(limit) {
+        return Err(Status::Budget { created, limit });
+    }
+    match options.mode {
+        Mode::Serial => serial_print(alloc, options, app),
+        Mode::Rounds => rounds_print(rt, alloc, options, app, gate),
+        Mode::Free => unreachable!(),
+    }
+}
+
+/// The print of a run of always the earliest pending task.
+fn serial_print<A: Runnable>(alloc: Global, options: &Options, app: &A) -> Result<Text, Status>
+    requires allowed { IsAllowed options.now }
+    requires mode { options.now.mode ≡ Mode.Serial }
+    ensures print { IfOk result (λ bytes. answer_by options.now (problem_of (A.meaning app.now) (A.setting app.now)) ≡ whole_print bytes) }
+    ensures refusal { IfErr result (IsRunRefusal options.now (problem_of (A.meaning app.now) (A.setting app.now))) }
+{
+    value_laws::<A::Val>();
+    let cells = app.start_cells()?;
+    let tasks = app.start_tasks()?;
+    let finals = serial(alloc, app, cells, tasks, options.budget)?;
+    Ok(finals_print(app, finals, None)?)
+}
+
+/// The print of a run in rounds.
+fn rounds_print<R: Threads + Sync, A: Runnable, G: Gate + Sync>(
+    rt: &R,
+    alloc: Global,
+    options: &Options,
+    app: &A,
+    gate: &G,
+) -> Result<Text, Status>
+    requires allowed { IsAllowed options.now }
+    requires mode { options.now.mode ≡ Mode.Rounds }
+    ensures print { IfOk result (λ bytes. answer_by options.now (problem_of (A.meaning app.now) (A.setting app.now)) ≡ whole_print bytes) }
+    ensures refusal { IfErr result (IsRunRefusal options.now (problem_of (A.meaning app.now) (A.setting app.now))) }
+{
+    value_laws::<A::Val>();
+    execution_laws::<A::Val>();
+    orderly_laws::<A>();
+    put_in_laws();
+    join_laws();
+    round_laws::<A>();
+    standing_laws::<A>();
+    round_count_laws::<A>();
+    let cells = app.start_cells()?;
+    let tasks = app.start_tasks()?;
+    let engine = begin::<A, Brand>(alloc, app, cells, tasks, options.budget, Blank::new(1))?;
+    let (finals, rounds) = run_rounds(rt, alloc, engine, gate, options.seed, options.workers)?;
+    Ok(finals_print(app, finals, options.stats.then_some(rounds))?)
+}
+
+/// An engine on these cells and tasks, whose steps nobody counts.
+fn begin<'a, A: App, L: Ledger>(
+    alloc: Global,
+    app: &'a A,
+    cells: Vec<A::Val>,
+    tasks: StartList,
+    budget: u64,
+    blank: Blank,
+) -> Result<Engine<'a, A>, BeginFault>
+    requires name { blank.name ≡ L.name }
+    requires parts { blank.parts ≡ L.parts }
+    requires some { 0 < blank.parts }
+    requires fit_cells { (A.meaning app.now).is_fit_cells cells.items }
+    requires fit_tasks { AreFitStarts (A.meaning app.now) tasks }
+    requires few { length tasks < 2 ^ 32 }
+    requires budget { budget ≤ 1_000_000_000 }
+    ensures begun { IfOk result (λ engine. IsBegun (A.meaning app.now) cells.items tasks budget engine.progress) }
+    ensures app { IfOk result (λ engine. engine.app ≡ app.now) }
+    ensures fault { IfErr result (IsBeginFault tasks budget) }
+{
+    let mut steps = Steps::<L>::new(blank);
+    Engine::begin(alloc, app, cells, tasks, budget, &mut steps)
+}
+
+/// The print of a run that has ended: its log, the finals, the number of tasks, and that of rounds
+/// where it is told.
+fn finals_print<A: Runnable>(
+    app: &A,
+    finals: Finals<A::Val>,
+    rounds: Option<u64>,
+) -> Result<Text, NoRoom>
+    requires home { AreAllHome finals.store }
+    requires cells { (A.meaning app.now).is_fit_cells (values_of finals.store) }
+    ensures { IfOk result (λ bytes. bytes ≡ print_of_finals (problem_of (A.meaning app.now) (A.setting app.now)) rounds finals) }
+{
+    let Finals { store, log, count } = finals;
+    let mut text = log.all()?;
+    drop(log);
+    text.push_all(app.final_text(&store)?.bytes())?;
+    push_tasks_line(&mut text, count)?;
+    push_rounds(&mut text, rounds)?;
+    Ok(text)
+}
+
+/// Appends `tasks N`.
+fn push_tasks_line(text: &mut Text, count: u64) -> Result<(), NoRoom>
+    ensures { OnOk result (text.new ≡ text.old ++ tasks_line count) }
+{
+    text.push_all(b"tasks ")?;
+    push_u64(text, count)?;
+    text.push_all(b"\n")?;
+    Ok(())
+}
+
+/// Appends `rounds N`, where there is a number.
+fn push_rounds(text: &mut Text, rounds: Option<u64>) -> Result<(), NoRoom>
+    ensures { OnOk result (text.new ≡ text.old ++ rounds_text rounds) }
+{
+    if let Some(rounds) = rounds {
+        text.push_all(b"rounds ")?;
+        push_u64(text, rounds)?;
+        text.push_all(b"\n")?;
+    }
+    Ok(())
+}
