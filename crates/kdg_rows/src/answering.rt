@@ -4,8 +4,12 @@ ghost use Rattle.std.specs.Prelude.{◌≤◌};
 
 use kdg_prog::{Status, run};
 use kdg_text::NoRoom;
-use outer_edge::{CleanSink, CleanSource};
+use outer_edge::{CleanSink, CleanSource, Gate, Seeded};
 use std::alloc::{AllocError, Global};
+use std::thread::Threads;
+
+/// The ways to run.
+pub const MODES: [&str; 2] = ["serial", "rounds"];
 
 /// The words of a line.
 fn words_of(alloc: Global, line: &str) -> Result<Vec<String>, AllocError> {
@@ -17,8 +21,23 @@ fn words_of(alloc: Global, line: &str) -> Result<Vec<String>, AllocError> {
 }
 
 /// The status and what was printed, by reads and writes of at most `step` bytes.
-pub fn answer(
+pub fn answer<R: Threads + Sync>(
+    rt: &R,
     alloc: Global,
+    words: &str,
+    input: &str,
+    step: usize,
+) -> Result<(Status, CleanSink), NoRoom>
+    requires { 1 ≤ step }
+{
+    answer_at(rt, alloc, &Seeded, words, input, step)
+}
+
+/// The same at a gate.
+pub fn answer_at<R: Threads + Sync, G: Gate + Sync>(
+    rt: &R,
+    alloc: Global,
+    gate: &G,
     words: &str,
     input: &str,
     step: usize,
@@ -28,6 +47,29 @@ pub fn answer(
     let words = words_of(alloc, words)?;
     let mut source = CleanSource::new(input.as_bytes().to_vec(alloc)?, step);
     let mut sink = CleanSink::with_room(alloc, step, 4096)?;
-    let status = run(alloc, &words, &mut source, &mut sink);
+    let status = run(rt, alloc, &words, &mut source, &mut sink, gate);
     Ok((status, sink))
+}
+
+/// The same with the words for a mode behind the others.
+pub fn answer_in<R: Threads + Sync>(
+    rt: &R,
+    alloc: Global,
+    mode: &str,
+    words: &str,
+    input: &str,
+    step: usize,
+) -> Result<(Status, CleanSink), NoRoom>
+    requires { 1 ≤ step }
+{
+    let words = format!(in alloc; "{words} --mode {mode}")?;
+    answer(rt, alloc, &words, input, step)
+}
+
+/// Whether more tasks than this limit are told.
+pub fn tells_more_than(status: &Status, most: u64) -> bool {
+    match *status {
+        Status::Budget { created, limit } => limit == most && created > most,
+        _ => false,
+    }
 }

@@ -1,107 +1,127 @@
 //! What is answered and printed for words and an input, in whatever pieces they come and go.
 
-use crate::answering::answer;
+use crate::answering::{MODES, answer, answer_in, tells_more_than};
 use crate::decks::{
-    C17, C17_CUT, C17_PRINT, C17_SHORT_STIMULUS, C17_STIMULUS, C17_STIMULUS_PRINT, C17_WITH_HEADER,
-    RING,
+    C17, C17_CUT, C17_PRINT, C17_ROUNDS_PRINT, C17_SHORT_STIMULUS, C17_STIMULUS,
+    C17_STIMULUS_PRINT, C17_WITH_HEADER, RING,
 };
+use crate::matrices::DIAGONAL;
+use crate::meshes::SPRING;
 use kdg_prog::{Status, fault_line};
 use std::test::Fail;
 
 #[test]
 fn answers_and_prints(rt: HostRuntime) -> Result<(), Fail> {
-    for (words, input, status, print) in [
-        ("sim", C17, Status::Ok, C17_PRINT),
-        ("sim --budget 20 --until 2", C17, Status::Ok, C17_PRINT),
-        (
-            "sim --mode serial --seed 7 --workers 64 --stats on",
-            C17,
-            Status::Ok,
-            C17_PRINT,
-        ),
+    for (words, input, print) in [
+        ("sim", C17, C17_PRINT),
+        ("sim --budget 20 --until 2", C17, C17_PRINT),
+        ("sim --seed 7 --workers 64 --stats off", C17, C17_PRINT),
         (
             "sim --until 1",
             C17,
-            Status::Ok,
             "1 22 1\n1 23 1\nfinal 22 1\nfinal 23 1\ntasks 18\n",
         ),
-        (
-            "sim --until 0",
-            C17,
-            Status::Ok,
-            "final 22 0\nfinal 23 0\ntasks 6\n",
-        ),
-        (
-            "sim --mode serial --budget 19",
-            C17,
-            Status::Budget {
-                created: 20,
-                limit: 19,
-            },
-            "",
-        ),
-        (
-            "sim --budget 5",
-            C17,
-            Status::Budget {
-                created: 6,
-                limit: 5,
-            },
-            "",
-        ),
-        ("sim --budget 0", "", Status::Ok, "tasks 0\n"),
-        ("sim", C17_WITH_HEADER, Status::Ok, C17_PRINT),
+        ("sim --until 0", C17, "final 22 0\nfinal 23 0\ntasks 6\n"),
+        ("sim --budget 0", "", "tasks 0\n"),
+        ("sim", C17_WITH_HEADER, C17_PRINT),
         (
             "sim",
             "OUTPUT(x)\nx = NOT(a)\nINPUT(a)",
-            Status::Ok,
             "1 x 1\nfinal x 1\ntasks 2\n",
         ),
         (
             "sim --until 3",
             "q = NAND(q)\r\nOUTPUT(q)\r\n",
-            Status::Ok,
             "1 q 1\n2 q 0\n3 q 1\nfinal q 1\ntasks 7\n",
         ),
-        (
-            "sim --budget 10",
-            "q = NOT(q)\n",
-            Status::Budget {
-                created: 11,
-                limit: 10,
-            },
-            "",
-        ),
-        ("sim", "# c17\n", Status::Ok, "tasks 0\n"),
-        ("sim", C17_STIMULUS, Status::Ok, C17_STIMULUS_PRINT),
-        ("sim --until 9", C17_STIMULUS, Status::Ok, C17_PRINT),
+        ("sim", "# c17\n", "tasks 0\n"),
+        ("sim", C17_STIMULUS, C17_STIMULUS_PRINT),
+        ("sim --until 9", C17_STIMULUS, C17_PRINT),
         (
             "sim --until 5",
             RING,
-            Status::Ok,
             "1 q 1\n3 q 0\n4 q 1\n5 q 0\nfinal q 0\ntasks 11\n",
-        ),
-        (
-            "sim --until 1000000000 --budget 10",
-            RING,
-            Status::Budget {
-                created: 11,
-                limit: 10,
-            },
-            "",
         ),
         (
             "sim",
             "INPUT(a)\nINPUT(b)\nOUTPUT(s)\ns = xor(a, b)\n@ 1 11\n@ 4 01\n",
-            Status::Ok,
             "5 s 1\nfinal s 1\ntasks 9\n",
         ),
     ] {
-        for step in [1usize, 3, 4096] {
-            let (answered, sink) = answer(rt.alloc(), words, input, step)?;
-            assert_eq!(rt; answered, status, "{words} {input}");
-            assert_eq!(rt; sink.held(), print.as_bytes(), "{words} {input}");
+        for mode in MODES {
+            for step in [1usize, 3, 4096] {
+                let (answered, sink) = answer_in(&rt, rt.alloc(), mode, words, input, step)?;
+                assert_eq!(rt; answered, Status::Ok, "{words} {mode} {input}");
+                assert_eq!(rt; sink.held(), print.as_bytes(), "{words} {mode} {input}");
+            }
         }
+    }
+    Ok(())
+}
+
+#[test]
+fn runs_are_in_rounds_unless_another_mode_is_named(rt: HostRuntime) -> Result<(), Fail> {
+    for (words, input, print) in [
+        ("sim", C17, C17_PRINT),
+        ("sim --stats on", C17, C17_ROUNDS_PRINT),
+        ("sim --mode rounds --stats on", C17, C17_ROUNDS_PRINT),
+        ("sim --mode serial --stats on", C17, C17_PRINT),
+        ("sim --stats on", "", "tasks 0\nrounds 0\n"),
+        (
+            "sim --stats on",
+            "OUTPUT(x)\nx = NOT(a)\nINPUT(a)",
+            "1 x 1\nfinal x 1\ntasks 2\nrounds 2\n",
+        ),
+    ] {
+        let (answered, sink) = answer(&rt, rt.alloc(), words, input, 7)?;
+        assert_eq!(rt; answered, Status::Ok, "{words} {input}");
+        assert_eq!(rt; sink.held(), print.as_bytes(), "{words} {input}");
+    }
+    Ok(())
+}
+
+#[test]
+fn no_choice_shows_in_a_print(rt: HostRuntime) -> Result<(), Fail> {
+    for mode in MODES {
+        for workers in [1u32, 2, 7] {
+            for seed in 0u64..10 {
+                let words = format!(in rt.alloc(); "sim --workers {workers} --seed {seed}")?;
+                let (answered, sink) = answer_in(
+                    &rt,
+                    rt.alloc(),
+                    mode,
+                    &words,
+                    C17_STIMULUS,
+                    4096,
+                )?;
+                assert_eq!(rt; answered, Status::Ok, "{words} {mode}");
+                assert_eq!(rt;
+                    sink.held(),
+                    C17_STIMULUS_PRINT.as_bytes(),
+                    "{words} {mode}"
+                );
+            }
+        }
+    }
+    Ok(())
+}
+
+#[test]
+fn more_tasks_than_the_budget_are_told(rt: HostRuntime) -> Result<(), Fail> {
+    for (words, input, created, limit) in [
+        ("sim --budget 19", C17, 20u64, 19u64),
+        ("sim --budget 5", C17, 6, 5),
+        ("sim --budget 10", "q = NOT(q)\n", 11, 10),
+        ("sim --until 1000000000 --budget 10", RING, 11, 10),
+        ("rank --budget 1", DIAGONAL, 2, 1),
+        ("mesh --budget 1", SPRING, 2, 1),
+    ] {
+        let (told, sink) = answer_in(&rt, rt.alloc(), "serial", words, input, 3)?;
+        assert_eq!(rt; told, Status::Budget { created, limit }, "{words} {input}");
+        assert_eq!(rt; sink.held(), b"".as_slice(), "{words} {input}");
+        let (told, sink) = answer_in(&rt, rt.alloc(), "rounds", words, input, 3)?;
+        assert!(rt; tells_more_than(&told, limit), "{words} {input}");
+        assert_eq!(rt; sink.held(), b"".as_slice(), "{words} {input}");
     }
     Ok(())
 }
@@ -116,7 +136,7 @@ fn bad_decks_are_told_by_line_and_fault(rt: HostRuntime) -> Result<(), Fail> {
         ("INPUT(a)\nx = DFF(a)\n", 2, 3),
     ] {
         for step in [1usize, 3, 4096] {
-            let (answered, sink) = answer(rt.alloc(), "sim", input, step)?;
+            let (answered, sink) = answer(&rt, rt.alloc(), "sim", input, step)?;
             assert_eq!(rt; answered, Status::BadInput { line, kind }, "{input}");
             assert_eq!(rt; sink.held(), b"".as_slice(), "{input}");
         }
@@ -130,7 +150,7 @@ fn a_deck_has_at_most_4096_signals(rt: HostRuntime) -> Result<(), Fail> {
     for number in 0..4097 {
         deck.push_str(&format!(in rt.alloc(); "INPUT({number})\n")?)?;
     }
-    let (answered, sink) = answer(rt.alloc(), "sim", &deck, 4096)?;
+    let (answered, sink) = answer(&rt, rt.alloc(), "sim", &deck, 4096)?;
     let want = Status::TooLarge {
         line: 4097,
         bound: 4096,
@@ -151,12 +171,11 @@ fn bad_words_are_told_by_their_place(rt: HostRuntime) -> Result<(), Fail> {
         ("sim --workers 0", 3),
         ("sim --seed 1 --seed 2", 4),
         ("sim --budget", 3),
-        ("sim --mode rounds", 3),
         ("sim --mode free", 3),
         ("sim --clock 2", 2),
         ("sim --until 1000000001", 3),
     ] {
-        let (answered, sink) = answer(rt.alloc(), words, C17, 5)?;
+        let (answered, sink) = answer(&rt, rt.alloc(), words, C17, 5)?;
         assert_eq!(rt; answered, Status::Usage { word }, "{words}");
         assert_eq!(rt; sink.held(), b"".as_slice(), "{words}");
     }
@@ -171,7 +190,7 @@ fn faults_are_told_with_their_codes(rt: HostRuntime) -> Result<(), Fail> {
         ("sim", C17_CUT, 3, "bad input: line 7: fault 6"),
         ("sim --budget 19", C17, 5, "budget: more than 19 tasks"),
     ] {
-        let (status, _) = answer(rt.alloc(), words, input, 5)?;
+        let (status, _) = answer(&rt, rt.alloc(), words, input, 5)?;
         let mut line = [0; 64];
         let len = fault_line(&status, &mut line);
         assert_eq!(rt; status.code(), code);

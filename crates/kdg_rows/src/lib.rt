@@ -14,3 +14,5 @@ mod failures;
 mod matrices;
 #[cfg(test)]
 mod meshes;
+#[cfg(test)]
+mod recording;

@@ -1,8 +1,21 @@
 //! What is answered and printed for patterns of matrices.
 
-use crate::answering::answer;
+use crate::answering::{MODES, answer, answer_in};
 use kdg_prog::Status;
 use std::test::Fail;
+
+/// Columns 1 and 2 have no row in common; column 3 shares row 1 with column 1, and column 4 row 2
+/// with column 2 and row 3 with column 3.
+const THREE_BY_FOUR: &str =
+    "%%MatrixMarket matrix coordinate pattern general\n3 4 6\n1 1\n1 3\n2 2\n2 4\n3 3\n3 4\n";
+
+const THREE_BY_FOUR_PRINT: &str =
+    "col 1 row 1\ncol 2 row 2\ncol 3 row 3\ncol 4 free\nrow 1 1 4\nrow 2 2 4\nrow 3 3 4\nrank 3\ntasks 4\n";
+
+/// No two columns have a row in common.
+pub const DIAGONAL: &str = "%%MatrixMarket matrix coordinate pattern general\n2 2 2\n1 1\n2 2\n";
+
+const DIAGONAL_PRINT: &str = "col 1 row 1\ncol 2 row 2\nrow 1 1\nrow 2 2\nrank 2\ntasks 2\n";
 
 #[test]
 fn matrices_are_eliminated(rt: HostRuntime) -> Result<(), Fail> {
@@ -22,27 +35,46 @@ fn matrices_are_eliminated(rt: HostRuntime) -> Result<(), Fail> {
             "%%MatrixMarket matrix coordinate pattern symmetric\n% c\n3 3 2\n2 1\n3 2\n",
             "col 1 row 2\ncol 2 row 1\ncol 3 free\nrow 1 2\nrow 2 1 3\nrow 3\nrank 2\ntasks 3\n",
         ),
-        (
-            "rank --stats on --mode serial",
-            "%%MatrixMarket matrix coordinate pattern general\n3 4 6\n1 1\n1 3\n2 2\n2 4\n3 3\n3 4\n",
-            "col 1 row 1\ncol 2 row 2\ncol 3 row 3\ncol 4 free\nrow 1 1 4\nrow 2 2 4\nrow 3 3 4\nrank 3\ntasks 4\n",
-        ),
-        (
-            "rank --budget 2",
-            "%%MatrixMarket matrix coordinate pattern general\n2 2 2\n1 1\n2 2\n",
-            "col 1 row 1\ncol 2 row 2\nrow 1 1\nrow 2 2\nrank 2\ntasks 2\n",
-        ),
+        ("rank", THREE_BY_FOUR, THREE_BY_FOUR_PRINT),
+        ("rank --budget 2", DIAGONAL, DIAGONAL_PRINT),
         (
             "rank",
             "%%MatrixMarket matrix coordinate pattern general\n0 0 0\n",
             "rank 0\ntasks 0\n",
         ),
     ] {
-        for step in [1usize, 3, 4096] {
-            let (answered, sink) = answer(rt.alloc(), words, input, step)?;
-            assert_eq!(rt; answered, Status::Ok, "{words} {input}");
-            assert_eq!(rt; sink.held(), print.as_bytes(), "{words} {input}");
+        for mode in MODES {
+            for step in [1usize, 3, 4096] {
+                let (answered, sink) = answer_in(&rt, rt.alloc(), mode, words, input, step)?;
+                assert_eq!(rt; answered, Status::Ok, "{words} {mode} {input}");
+                assert_eq!(rt; sink.held(), print.as_bytes(), "{words} {mode} {input}");
+            }
         }
+    }
+    Ok(())
+}
+
+#[test]
+fn rounds_of_columns_are_counted(rt: HostRuntime) -> Result<(), Fail> {
+    for (words, input, print, rounds) in [
+        (
+            "rank --stats on",
+            THREE_BY_FOUR,
+            THREE_BY_FOUR_PRINT,
+            "rounds 3\n",
+        ),
+        ("rank --stats on", DIAGONAL, DIAGONAL_PRINT, "rounds 1\n"),
+        (
+            "rank --stats on --mode serial",
+            THREE_BY_FOUR,
+            THREE_BY_FOUR_PRINT,
+            "",
+        ),
+    ] {
+        let (answered, sink) = answer(&rt, rt.alloc(), words, input, 7)?;
+        let print = format!(in rt.alloc(); "{print}{rounds}")?;
+        assert_eq!(rt; answered, Status::Ok, "{words} {input}");
+        assert_eq!(rt; sink.held(), print.as_bytes(), "{words} {input}");
     }
     Ok(())
 }
@@ -64,17 +96,9 @@ fn bad_matrices_are_told(rt: HostRuntime) -> Result<(), Fail> {
             },
         ),
         ("rank", "", Status::BadInput { line: 1, kind: 1 }),
-        (
-            "rank --budget 1",
-            "%%MatrixMarket matrix coordinate pattern general\n2 2 2\n1 1\n2 2\n",
-            Status::Budget {
-                created: 2,
-                limit: 1,
-            },
-        ),
         ("rank --until 5", "", Status::Usage { word: 2 }),
     ] {
-        let (answered, sink) = answer(rt.alloc(), words, input, 5)?;
+        let (answered, sink) = answer(&rt, rt.alloc(), words, input, 5)?;
         assert_eq!(rt; answered, status, "{words} {input}");
         assert_eq!(rt; sink.held(), b"".as_slice(), "{words} {input}");
     }

@@ -1,15 +1,18 @@
 //! What is answered and printed for meshes of springs.
 
-use crate::answering::answer;
+use crate::answering::{MODES, answer, answer_in};
 use kdg_prog::Status;
 use std::test::Fail;
+
+/// One spring, which pulls twice.
+pub const SPRING: &str = "node 0 0 0 0 100\nnode 30 0 0 0 100\nspring 1 2 10 20 0 2\nend 4\n";
 
 #[test]
 fn meshes_move(rt: HostRuntime) -> Result<(), Fail> {
     for (words, input, print) in [
         (
             "mesh",
-            "node 0 0 0 0 100\nnode 30 0 0 0 100\nspring 1 2 10 20 0 2\nend 4\n",
+            SPRING,
             "node 1 4 0 2 0\nnode 2 26 0 -2 0\ntasks 2\n",
         ),
         (
@@ -29,10 +32,12 @@ fn meshes_move(rt: HostRuntime) -> Result<(), Fail> {
         ),
         ("mesh", "end 0\n", "tasks 0\n"),
     ] {
-        for step in [1usize, 3, 4096] {
-            let (answered, sink) = answer(rt.alloc(), words, input, step)?;
-            assert_eq!(rt; answered, Status::Ok, "{words} {input}");
-            assert_eq!(rt; sink.held(), print.as_bytes(), "{words} {input}");
+        for mode in MODES {
+            for step in [1usize, 3, 4096] {
+                let (answered, sink) = answer_in(&rt, rt.alloc(), mode, words, input, step)?;
+                assert_eq!(rt; answered, Status::Ok, "{words} {mode} {input}");
+                assert_eq!(rt; sink.held(), print.as_bytes(), "{words} {mode} {input}");
+            }
         }
     }
     Ok(())
@@ -46,17 +51,9 @@ fn bad_meshes_are_told(rt: HostRuntime) -> Result<(), Fail> {
             "node 0 0 0 0 1\n",
             Status::BadInput { line: 2, kind: 5 },
         ),
-        (
-            "mesh --budget 1",
-            "node 0 0 0 0 100\nnode 30 0 0 0 100\nspring 1 2 10 20 0 2\nend 4\n",
-            Status::Budget {
-                created: 2,
-                limit: 1,
-            },
-        ),
         ("mesh --until 5", "", Status::Usage { word: 2 }),
     ] {
-        let (answered, sink) = answer(rt.alloc(), words, input, 5)?;
+        let (answered, sink) = answer(&rt, rt.alloc(), words, input, 5)?;
         assert_eq!(rt; answered, status, "{words} {input}");
         assert_eq!(rt; sink.held(), b"".as_slice(), "{words} {input}");
     }
