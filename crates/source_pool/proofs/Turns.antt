@@ -1,8 +1,9 @@
 -- Jobs that are performed in turn, and what becomes of them in another order.
-use Rattle.std.proofs.Common.{◌≡◌, inl, inr, ℕ, zero, suc, List, [], ◌∷◌, ◌++◌, Option, Some, None, Result, Ok, Err, Vec, IfOk, map, length, refl, subst, arith, IsPermutation}
+use Rattle.std.proofs.Common.{◌≡◌, ◌∙◌, inl, inr, ℕ, zero, suc, List, [], ◌∷◌, ◌++◌, Option, Some, None, Result, Ok, Err, Vec, IfOk, map, length, refl, sym, ap, subst, arith, IsPermutation}
 use Rattle.std.specs.Prelude.{Contains, slice_get}
 use Rattle.std.specs.List.{All, AllByRecursion}
 use Rattle.std.specs.Option.{option_map}
+use Rattle.std.proofs.lemmas.List.{append-nil, append_assoc}
 use Rattle.std.proofs.lemmas.List.Sorted.{Contains-permutation, IsPermutation-map, IsPermutation-sym}
 use Rattle.task_order.specs.Laws.{DistinctInAnyOrder}
 use Rattle.task_order.specs.TaskList.{HasDistinctKeys}
@@ -38,6 +39,28 @@ module _ {V : Type 0} (app : Application V) where
   turns_joined [] others (done ∷ dones) more first rest = absurd first
   turns_joined (job ∷ jobs) others [] more first rest = absurd first
   turns_joined (job ∷ jobs) others (done ∷ dones) more first rest = (first.0, turns_joined jobs others dones more first.1 rest)
+
+  -- some of the jobs are performed: where those that are left are performed in turn, all are
+  pub record AreDoneBefore (all left : List (Job V)) (dones : List (Done V)) : Type 0 where
+    pub rest : (more : List (Done V)) → AreDoneInTurn app left more → AreDoneInTurn app all (dones ++ more)
+
+  pub none_done : (all left : List (Job V)) (dones : List (Done V)) → left ≡ all → dones ≡ [] → AreDoneBefore all left dones
+  none_done all left dones whole empty = record {
+    rest = λ more turn.
+        subst (λ (front : List (Done V)). AreDoneInTurn app all (front ++ more)) (sym empty) (subst (λ (jobs : List (Job V)). AreDoneInTurn app jobs more) whole turn);
+  }
+
+  pub more_done : (all left first rest : List (Job V)) (dones part now : List (Done V)) → AreDoneBefore all left dones → left ≡ first ++ rest → AreDoneInTurn app first part → now ≡ dones ++ part
+      → AreDoneBefore all rest now
+  more_done all left first rest dones part now before steps turn added = record {
+    rest = λ more later.
+        subst (AreDoneInTurn app all) (sym (append_assoc dones part more) ∙ ap (λ (front : List (Done V)). front ++ more) (sym added))
+        (before.rest (part ++ more) (subst (λ (jobs : List (Job V)). AreDoneInTurn app jobs (part ++ more)) (sym steps) (turns_joined first rest part more turn later)));
+  }
+
+  pub all_done : (all left : List (Job V)) (dones : List (Done V)) → AreDoneBefore all left dones → left ≡ [] → AreDoneInTurn app all dones
+  all_done all left dones before empty =
+      subst (AreDoneInTurn app all) (append-nil dones) (before.rest [] (subst (λ (jobs : List (Job V)). AreDoneInTurn app jobs []) (sym empty) tt))
 
   -- their tasks stand in one order
   pub turn_tasks : (jobs : List (Job V)) (dones : List (Done V)) → AreDoneInTurn app jobs dones → map (λ job. job.task) jobs ≡ done_tasks dones
