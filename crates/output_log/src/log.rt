@@ -1,5 +1,7 @@
-ghost use Rattle.std.specs.Prelude.{◌≡◌, ◌+◌, ◌<◌, ◌≤◌, [], ◌↔◌, length, take, drop, IsTrue, IfOk, OnOk, OnErr};
-ghost use Rattle.task_order.specs.Key.{at_key};
+ghost use Rattle.std.specs.Prelude.{◌≡◌, ◌+◌, ◌<◌, ◌≤◌, [], ◌∷◌, ◌++◌, ◌↔◌, length, take, drop, IsTrue, IfOk, OnOk, OnErr};
+ghost use Rattle.std.specs.List.{AllByRecursion};
+ghost use Rattle.std.specs.declared.cmp.Ordering.TheVariants.{Less};
+ghost use Rattle.task_order.specs.Key.{at_key, key_cmp};
 ghost use Rattle.output_log.specs.Entries.{IsInKeyOrder, IsNewEntry, entries_before, entries_from, with_entry, joined_texts};
 
 use crate::laws::put_laws;
@@ -80,6 +82,17 @@ impl Log {
             Ok(()) => {}
             Err(_) => unreachable!(),
         }
+    }
+
+    /// Puts an entry at the end, where all entries are earlier and `reserve` made a place. It takes no
+    /// memory, and compares no keys.
+    pub fn append(&mut self, key: Key, text: Text)
+        requires room { 0 < self.old.spare }
+        requires latest { AllByRecursion (λ entry. key_cmp entry.0 key ≡ Less) self.old.entries }
+        ensures entries { self.new.entries ≡ self.old.entries ++ (key, text) ∷ [] }
+        ensures spare { self.old.spare ≤ self.new.spare + 1 }
+    {
+        self.entries.push_back_reserved((key, text));
     }
 
     /// How many entries are earlier than the key.

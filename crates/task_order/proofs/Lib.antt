@@ -11,3 +11,4 @@ pub mod Counts
 pub mod Cuts
 pub mod Found
 pub mod Ends
+pub mod Priorities

@@ -84,7 +84,7 @@ partitioned_filled key (block ∷ blocks) filled up (suc i) zero d ordered insid
 partitioned_filled key (block ∷ blocks) filled up (suc i) (suc j) d ordered inside starts =
     partitioned_filled key blocks filled.1 (ascending_parts block (tasks_in blocks) up).second i j d (omega (arith, ordered)) (omega (arith, inside)) starts
 
-partitioned_short : {X : Type 0} (p : X → Bool) (xs : List X) → length xs ≤ 1 → IsPartitionedBy p xs
+pub partitioned_short : {X : Type 0} (p : X → Bool) (xs : List X) → length xs ≤ 1 → IsPartitionedBy p xs
 partitioned_short p xs short i j d ordered inside passes =
     let same : j ≡ i = omega (arith, short, ordered, inside) in
     subst (λ k. p (get_or xs k d) ≡ true) same passes

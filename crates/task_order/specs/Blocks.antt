@@ -1,5 +1,5 @@
 -- A list of tasks that is cut into blocks.
-use Rattle.std.specs.Prelude.{◌≡◌, ℕ, suc, ◌+◌, ◌<◌, ◌≤◌, ◌^◌, ◌⊎◌, Bool, false, List, [], ◌∷◌, ◌++◌, length, take, drop, slice_get, slice_index_or, Some}
+use Rattle.std.specs.Prelude.{◌≡◌, ℕ, suc, ◌+◌, ◌<◌, ◌≤◌, ◌^◌, ◌⊎◌, Bool, false, nat_le, List, [], ◌∷◌, ◌++◌, length, take, drop, slice_get, slice_index_or, Some}
 use Rattle.std.specs.List.{AllByRecursion}
 use Rattle.std.specs.declared.cmp.Ordering.TheVariants.{Less}
 use Rattle.std.specs.Ordering.{is_le}
@@ -22,6 +22,15 @@ starts_by key (task ∷ tasks) = is_le (key_cmp task.key key)
 abbrev pub IsFirstPriority : ℕ → List Task → Type 0
 IsFirstPriority prio [] = Unit {0}
 IsFirstPriority prio (task ∷ tasks) = prio ≡ task.key.prio
+
+-- whether a block has a first task of at most the priority
+abbrev pub starts_within : ℕ → List Task → Bool
+starts_within prio [] = false
+starts_within prio (task ∷ tasks) = nat_le task.key.prio prio
+
+-- the task at the place, if there is one, has a greater priority
+abbrev pub IsEndOfPriority : ℕ → List Task → ℕ → Type 0
+IsEndOfPriority prio tasks place = (place ≤ length tasks) × ((d : Task) → place < length tasks → prio < (slice_index_or tasks place d).key.prio)
 
 -- how many tasks a full block has
 abbrev pub full_length : ℕ

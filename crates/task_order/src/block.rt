@@ -5,7 +5,7 @@ ghost use Rattle.std.specs.Option.{option_map};
 ghost use Rattle.std.specs.VecDeque.Iter.{deque_iter_rest};
 ghost use Rattle.task_order.specs.Key.{key_cmp};
 ghost use Rattle.task_order.specs.TaskList.{IsAscending, tasks_before};
-ghost use Rattle.task_order.specs.Blocks.{starts_by, full_length, IsFirstPriority};
+ghost use Rattle.task_order.specs.Blocks.{starts_by, starts_within, full_length, IsEndOfPriority, IsFirstPriority};
 
 use crate::{Key, Task};
 use kdg_text::NoRoom;
@@ -48,6 +48,21 @@ fn prio_of_first(tasks: &VecDeque<Task>) -> u64
         Some(first) => first.key.prio,
         None => 0,
     }
+}
+
+/// Puts a task at a place, which usually is the end.
+fn put_at(tasks: &mut VecDeque<Task>, place: usize, task: Task) -> Result<(), Task>
+    requires { place ≤ length tasks.old.items }
+    ensures ok { OnOk result (tasks.new.items ≡ insert tasks.old.items place task) }
+    ensures returned { IfErr result (λ back. back ≡ task) }
+    ensures unchanged { OnErr result (tasks.new.items ≡ tasks.old.items) }
+{
+    let put = if place == tasks.len() {
+        tasks.push_back(task)
+    } else {
+        tasks.insert(place, task)
+    };
+    put.map_err(|failed| failed.value)
 }
 
 impl Block {
@@ -110,6 +125,31 @@ impl Block {
         place
     }
 
+    /// The place of a key behind all tasks of at most its priority, where it is later than those.
+    pub(crate) fn place_behind_prio(&self, key: &Key) -> Option<usize>
+        requires { IsAscending self.now }
+        ensures place { IfSome result (λ place. place ≡ length (tasks_before key.now self.now)) }
+        ensures some { IfSome result (λ place. 0 < place) }
+    {
+        let place = self.up_to(key.prio);
+        if self.is_earlier_at(place.checked_sub(1)?, key) {
+            Some(place)
+        } else {
+            None
+        }
+    }
+
+    /// How many of the tasks have at most this priority. Often these are all.
+    fn up_to(&self, prio: u64) -> usize
+        requires { IsAscending self.now }
+        ensures { IsEndOfPriority prio self.now result }
+    {
+        match self.tasks.back() {
+            Some(last) if last.key.prio <= prio => self.tasks.len(),
+            _ => self.tasks.partition_point(|task| task.key.prio <= prio),
+        }
+    }
+
     /// Whether there is a task at a place that is earlier than the key.
     fn is_earlier_at(&self, place: usize, key: &Key) -> bool
         requires { IsAscending self.now }
@@ -133,6 +173,13 @@ impl Block {
         }
     }
 
+    /// Whether the first task has at most this priority.
+    pub(crate) fn starts_within(&self, prio: u64) -> bool
+        ensures { result ≡ starts_within prio self.now }
+    {
+        self.first_prio <= prio && self.len() > 0
+    }
+
     /// The same, by the first task itself.
     fn first_is_by(&self, key: &Key) -> bool
         ensures { result ≡ starts_by key.now self.now }
@@ -151,9 +198,7 @@ impl Block {
         ensures unchanged { OnErr result (self.new ≡ self.old) }
     {
         let prio = task.key.prio;
-        self.tasks
-            .insert(place, task)
-            .map_err(|failed| failed.value)?;
+        put_at(&mut self.tasks, place, task)?;
         if place == 0 {
             self.first_prio = prio;
         }

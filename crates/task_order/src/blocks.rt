@@ -5,7 +5,7 @@ ghost use Rattle.std.specs.List.Sorted.{IsPartitionPoint};
 ghost use Rattle.std.specs.Iterator.{at_most};
 ghost use Rattle.std.specs.Map.Iter.{deref, TakesFirst};
 ghost use Rattle.std.specs.Option.{option_map};
-ghost use Rattle.task_order.specs.Blocks.{tasks_in, starts_by, block_at, IsFilled, IsGapless, IsPlace, IsFound, IsInFull, IsBehindFull};
+ghost use Rattle.task_order.specs.Blocks.{tasks_in, starts_by, starts_within, block_at, IsFilled, IsGapless, IsPlace, IsFound, IsInFull, IsBehindFull};
 ghost use Rattle.task_order.specs.TaskList.{IsAscending, IsNewKey, put_in, tasks_before, without};
 
 use crate::block::Block;
@@ -51,7 +51,10 @@ impl Blocks {
     {
         match self.end_for(key) {
             Some(end) => end,
-            None => self.search(key),
+            None => match self.end_of_prio(key) {
+                Some(end) => end,
+                None => self.search(key),
+            },
         }
     }
 
@@ -68,6 +71,29 @@ impl Blocks {
         } else {
             None
         }
+    }
+
+    /// The end of the tasks of at most the key's priority, where the last of these is earlier than
+    /// the key.
+    fn end_of_prio(&self, key: &Key) -> Option<(usize, usize)>
+        requires ascending { IsAscending (tasks_in self.now) }
+        requires gapless { IsGapless self.now }
+        ensures { IfSome result (λ end. IsPlace key.now self.now end.0 end.1) }
+    {
+        let at = self.started_within(key.prio).checked_sub(1)?;
+        let place = self.blocks[at].place_behind_prio(key)?;
+        Some((at, place))
+    }
+
+    /// How many blocks have a first task of at most this priority.
+    fn started_within(&self, prio: u64) -> usize
+        requires ascending { IsAscending (tasks_in self.now) }
+        requires gapless { IsGapless self.now }
+        ensures bound { result ≤ length self.now }
+        ensures point { IsPartitionPoint (λ block. starts_within prio block ≡ true) (λ block. starts_within prio block ≡ false) self.now result }
+    {
+        self.blocks
+            .partition_point(|block| block.starts_within(prio))
     }
 
     /// Where a key belongs, by a search.
