@@ -110,7 +110,7 @@ fn counted_run<A: App, L: Ledger>(
         let made = children.items();
         created = within(created + made.len() as u64, budget)?;
         put_children(&mut pending, &task.key, made)?;
-        log.put(task.key, text);
+        log.append(task.key, text);
         count += 1;
     }
     Ok(Finals { store, log, count })

@@ -1,17 +1,19 @@
-use Rattle.std.proofs.Common.{◌≡◌, ◌≤◌, ℕ, List, [], ◌+◌, Option, Some, None, length, refl, sym, ap, ◌∙◌, subst, arith}
+use Rattle.std.proofs.Common.{◌≡◌, ◌≤◌, ℕ, List, [], ◌∷◌, ◌++◌, ◌+◌, Option, Some, None, length, refl, sym, ap, ◌∙◌, subst, arith}
 use Rattle.std.specs.Prelude.{IfNone}
 use Rattle.std.specs.List.{AllByRecursion}
 use Rattle.std.proofs.lemmas.Result.{err_from_is_err_and}
 use Rattle.task_order.specs.declared.task.Task.{Task}
 use Rattle.task_order.specs.declared.start.Start.{Start}
 use Rattle.task_order.specs.TaskList.{IsNewKey, put_all}
-use Rattle.output_log.specs.Entries.{IsNewEntry, with_entry}
+use Rattle.std.specs.declared.cmp.Ordering.TheVariants.{Less}
+use Rattle.task_order.specs.Key.{key_cmp}
+use Rattle.output_log.specs.Entries.{Entry}
 use Rattle.cell_store.specs.Values.{homes, values_of}
 use Rattle.app_laws.specs.Applications.{AreFitStarts, IsLawful, starts_of}
 use Rattle.app_laws.specs.Execution.{children_from, first_from, start_of, after_steps}
 use Rattle.app_laws.specs.Lower.{LowerLaws}
 use Rattle.app_laws.proofs.Reached.{IsReached, reached_at_start, reached_next, log_next, count_below, over_budget, over_at_start, ends_here, counted}
-use Rattle.app_laws.proofs.Running.{IsRunning, keeps_fit, not_earlier, cells_fit, task_fit, none_earlier, children_new, log_earlier, log_new, starts_of_handed, length-handed, handed_not_earlier}
+use Rattle.app_laws.proofs.Running.{IsRunning, keeps_fit, not_earlier, cells_fit, task_fit, none_earlier, children_new, log_earlier, starts_of_handed, length-handed, handed_not_earlier}
 use Rattle.app_laws.proofs.Steps.{after_none}
 use Rattle.app_laws.proofs.serial_run.counted_run.Given.{Over}
 use Rattle.app_laws.proofs.serial_run.counted_run.Goals as goal
@@ -85,10 +87,10 @@ put_children-requires-clause-new g c =
     (sym (ap starts_of (c.items-made.ensures.all ∙ c.in_ok-children.ensures.children) ∙ starts_of_handed app outcome.cells outcome.children))
     (children_new (running g c.lower_laws.ensures c.args.app.now (c.lawful.ensures c.args.app.now) c.args.cells.items c.args.first c.requires.fit_cells c.requires.fit_first) c.loop-task.invariant.reached c.in-Some.ensures.first)
 
-pub put-requires-clause-new : goal.put-requires-clause-new
-put-requires-clause-new g c =
-    subst (IsNewEntry c.in-Some.task.key) (sym (c.reserve.ensures.entries ∙ c.loop-task.invariant.log))
-    (log_new (running g c.lower_laws.ensures c.args.app.now (c.lawful.ensures c.args.app.now) c.args.cells.items c.args.first c.requires.fit_cells c.requires.fit_first) c.loop-task.invariant.reached c.in-Some.ensures.first)
+pub append-requires-clause-latest : goal.append-requires-clause-latest
+append-requires-clause-latest g c =
+    subst (λ entries. AllByRecursion (λ (entry : Entry). key_cmp entry.0 c.in-Some.task.key ≡ Less) entries) (sym (c.reserve.ensures.entries ∙ c.loop-task.invariant.log))
+    (log_earlier (running g c.lower_laws.ensures c.args.app.now (c.lawful.ensures c.args.app.now) c.args.cells.items c.args.first c.requires.fit_cells c.requires.fit_first) c.loop-task.invariant.reached c.in-Some.ensures.first)
 
 pub overflow_add-count : goal.overflow_add-count
 overflow_add-count g c =
@@ -113,11 +115,9 @@ loop-task-preserved g c =
           (rw c.in_ok-created-2.ensures.ok.0 c.in_ok-created-2.ensures.ok.1);
       home = c.in_ok-children.ensures.store ∙ ap homes (sym values);
       log =
-          c.put.ensures.entries
-          ∙ ap (with_entry c.in-Some.task.key c.in_ok-children.text) (c.reserve.ensures.entries ∙ c.loop-task.invariant.log)
-          ∙ ap (λ text. with_entry c.in-Some.task.key text entries) c.in_ok-children.ensures.text
-          ∙ c.lower_laws.ensures.last_appends c.in-Some.task.key outcome.text entries
-          (log_earlier (running g c.lower_laws.ensures c.args.app.now (c.lawful.ensures c.args.app.now) c.args.cells.items c.args.first c.requires.fit_cells c.requires.fit_first) c.loop-task.invariant.reached c.in-Some.ensures.first)
+          c.append.ensures.entries
+          ∙ ap (λ log. log ++ (c.in-Some.task.key, c.in_ok-children.text) ∷ []) (c.reserve.ensures.entries ∙ c.loop-task.invariant.log)
+          ∙ ap (λ text. entries ++ (c.in-Some.task.key, text) ∷ []) c.in_ok-children.ensures.text
           ∙ sym (log_next c.loop-task.invariant.reached c.in-Some.task c.take_first.new.self c.in-Some.ensures.first);
     }
 
