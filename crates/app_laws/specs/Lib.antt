@@ -5,3 +5,4 @@ pub mod Laws
 pub mod Lower
 pub mod Order
 pub mod Serial
+pub mod Storage

@@ -1,9 +1,15 @@
 ghost use Rattle.std.specs.Prelude.{◌≡◌, ◌<◌, ◌^◌, ◌-◌, [], ◌∷◌, ◌++◌, length, IfErr, OnOk, OnErr};
+ghost use Rattle.app_laws.specs.Storage.{IsAdded};
 
 use rw_sets::RwSet;
 use std::alloc::Global;
 use std::marker::Model;
+use std::mem;
+use std::slice;
 use task_order::Body;
+
+/// How many children there is room for as soon as there are two.
+const FEW: usize = 4;
 
 /// A task that another one creates, before it has a key, with the set that it declares.
 #[derive(Drop)]
@@ -13,21 +19,31 @@ pub struct Child {
     pub set: RwSet,
 }
 
-/// The children of a task, in order, fewer than 2^32.
+/// The children of a task, in order, fewer than 2^32. An only child stands in place, so it takes no
+/// memory.
 #[derive(Drop)]
 pub struct ChildList {
-    children: Vec<Child>,
+    children: Children,
+    alloc: Global,
+}
+
+#[derive(Drop)]
+pub(crate) enum Children {
+    None,
+    One(Child),
+    Many(Vec<Child>),
 }
 
 impl Model for ChildList {
     ghost use Rattle.std.specs.Prelude.{List, ◌<◌, ◌^◌, length};
     ghost use Rattle.app_laws.specs.declared.child.Child.{Child};
+    ghost use Rattle.app_laws.specs.Storage.{children_in};
 
     ghost Value = { List Child };
 
-    ghost view = { λ l. l.children.items };
+    ghost view = { λ l. children_in l.children };
 
-    ghost invariant = { λ l. length l.children.items < 2 ^ 32 };
+    ghost invariant = { λ l. length (children_in l.children) < 2 ^ 32 };
 }
 
 impl ChildList {
@@ -36,7 +52,8 @@ impl ChildList {
         ensures { result ≡ [] }
     {
         ChildList {
-            children: Vec::new(alloc),
+            children: Children::None,
+            alloc,
         }
     }
 
@@ -48,9 +65,15 @@ impl ChildList {
         ensures returned { IfErr result (λ back. back ≡ child) }
         ensures unchanged { OnErr result (self.new ≡ self.old) }
     {
-        match self.children.push(child) {
-            Ok(()) => Ok(()),
-            Err(failed) => Err(failed.value),
+        let (children, refused) = match mem::replace(&mut self.children, Children::None) {
+            Children::None => (Children::One(child), None),
+            Children::One(first) => pair(self.alloc, first, child),
+            Children::Many(children) => longer(children, child),
+        };
+        self.children = children;
+        match refused {
+            None => Ok(()),
+            Some(child) => Err(child),
         }
     }
 
@@ -59,14 +82,32 @@ impl ChildList {
         ensures all { result.now ≡ self.now }
         ensures few { length self.now < 2 ^ 32 }
     {
-        &self.children
+        match &self.children {
+            Children::None => &[],
+            Children::One(child) => slice::from_ref(child),
+            Children::Many(children) => children,
+        }
     }
+}
 
-    /// The children in a vector, which takes no memory.
-    pub fn into_vec(self) -> Vec<Child>
-        ensures all { result.items ≡ self }
-        ensures few { length self < 2 ^ 32 }
-    {
-        self.children
+/// Two children, or the first alone and the second back where memory runs out.
+fn pair(alloc: Global, first: Child, second: Child) -> (Children, Option<Child>)
+    ensures { IsAdded (first ∷ []) second result.0 result.1 }
+{
+    let Ok(mut children) = Vec::with_capacity(alloc, FEW) else {
+        return (Children::One(first), Some(second));
+    };
+    children.push_reserved(first);
+    children.push_reserved(second);
+    (Children::Many(children), None)
+}
+
+/// The children and one more, or these alone and the one more back where memory runs out.
+fn longer(mut children: Vec<Child>, child: Child) -> (Children, Option<Child>)
+    ensures { IsAdded children.items child result.0 result.1 }
+{
+    match children.push(child) {
+        Ok(()) => (Children::Many(children), None),
+        Err(failed) => (Children::Many(children), Some(failed.value)),
     }
 }
