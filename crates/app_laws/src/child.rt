@@ -4,8 +4,7 @@ ghost use Rattle.app_laws.specs.Storage.{IsAdded};
 use rw_sets::RwSet;
 use std::alloc::Global;
 use std::marker::Model;
-use std::mem;
-use std::slice;
+use std::{mem, slice};
 use task_order::Body;
 
 /// How many children there is room for as soon as there are two.
@@ -74,6 +73,10 @@ impl ChildList {
         ensures returned { IfErr result (λ back. back ≡ child) }
         ensures unchanged { OnErr result (self.new ≡ self.old) }
     {
+        if let Children::None = self.children {
+            self.children = Children::One(child);
+            return Ok(());
+        }
         let (children, refused) = match mem::replace(&mut self.children, Children::None) {
             Children::None => (Children::One(child), None),
             Children::One(first) => pair(self.alloc, first, child),
