@@ -57,7 +57,8 @@ pub fn run<R: Threads + Sync, S: Source, K: Sink, G: Gate + Sync>(
     }
 }
 
-/// Does what `run` does behind its words.
+/// Does what `run` does behind its words, in mode serial or rounds. It waits for nobody but the
+/// workers that it starts, which wait for nobody.
 pub fn run_plain<R: Threads + Sync, S: Source, K: Sink, G: Gate + Sync>(
     rt: &R,
     alloc: Global,
