@@ -2,13 +2,13 @@ pub mod Claimed
 pub mod Dealing
 pub mod Drawing
 pub mod Drawn
-pub mod Played
-pub mod Finished
 pub mod Ending
 pub mod EngineAtRest
+pub mod Finished
 pub mod Jobs
 pub mod LatestFirst
 pub mod Lists
 pub mod Parts
-pub mod Turns
+pub mod Played
 pub mod RoundNumbers
+pub mod Turns

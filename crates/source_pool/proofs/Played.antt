@@ -2,6 +2,7 @@
 use Rattle.std.proofs.Common.{◌≡◌, ◌≢◌, ◌<◌, inl, inr, List, [], ◌∷◌, ◌++◌, length, reverse, refl, sym, ap, subst, ◌∙◌, arith}
 use Rattle.std.specs.Prelude.{Contains}
 use Rattle.std.proofs.lemmas.List.{reverse-append, reverse-reverse}
+use Rattle.std.proofs.lemmas.List.Elements.{Contains-append_left, Contains-push}
 use Rattle.app_laws.specs.Applications.{Application}
 use Rattle.commuting.specs.States.{State}
 use Rattle.kdg_graph.specs.Node.{Node}
@@ -10,28 +11,17 @@ use Rattle.graph_update.specs.declared.job.Done.{Done}
 use Rattle.graph_update.specs.declared.job.Job.{Job}
 use Rattle.graph_update.specs.Progress.{Progress}
 use Rattle.source_pool.specs.Course.{AreAllDone, IsAtRest}
-use Rattle.source_pool.proofs.Lists.{cases, here, none, there}
+use Rattle.source_pool.proofs.Lists.{cases, here, none}
 
 -- ---- lists from behind
-
-at_last : {X : Type 0} (xs : List X) (x : X) → Contains (xs ++ x ∷ []) x
-at_last [] x = here x []
-at_last (y ∷ xs) x = there y x (xs ++ x ∷ []) (at_last xs x)
-
-before_last : {X : Type 0} (xs : List X) (y x : X) → Contains xs x → Contains (xs ++ y ∷ []) x
-before_last [] y x has = absurd (none x has)
-before_last {X} (z ∷ xs) y x has = elim (cases z x xs has) [
-  | inl same ↦ subst (λ (first : X). Contains (first ∷ (xs ++ y ∷ [])) x) (sym same) (here x (xs ++ y ∷ []))
-  | inr later ↦ there z x (xs ++ y ∷ []) (before_last xs y x later)
-]
 
 pub from_behind : {X : Type 0} (xs : List X) (x : X) → Contains xs x → Contains (reverse xs) x
 from_behind [] x has = absurd (none x has)
 from_behind {X} (y ∷ xs) x has =
     subst (λ items. Contains items x) (sym (reverse-append (y ∷ []) xs))
     (elim (cases y x xs has) [
-      | inl same ↦ subst (λ (last : X). Contains (reverse xs ++ last ∷ []) x) (sym same) (at_last (reverse xs) x)
-      | inr later ↦ before_last (reverse xs) y x (from_behind xs x later)
+      | inl same ↦ subst (λ (last : X). Contains (reverse xs ++ last ∷ []) x) (sym same) (Contains-push (reverse xs) x)
+      | inr later ↦ Contains-append_left (reverse xs) (y ∷ []) x (from_behind xs x later)
     ])
 
 pub as_before : {X : Type 0} (xs : List X) (x : X) → Contains (reverse xs) x → Contains xs x

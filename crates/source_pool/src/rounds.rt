@@ -81,7 +81,7 @@ pub fn run_rounds<'a, R: Threads + Sync, A: App + Sync, G: Gate + Sync>(
 {
     drawing_laws::<A>();
     idle_laws::<A>();
-    // Where it begins the execution is sound, as every engine's is.
+    // Its contract tells what every engine keeps: the execution is sound.
     let _graph = engine.graph();
     let blank = Blank::new(1);
     counted_rounds::<R, A, G, Brand>(rt, alloc, engine, gate, seed, workers, blank)

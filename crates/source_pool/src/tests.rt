@@ -179,7 +179,11 @@ fn rounds_leave_what_meetings_in_turn_do(rt: HostRuntime) -> Result<(), Fail> {
         assert!(rt; 1 <= workers && workers <= 64);
         for seed in 0..4 {
             let (finals, again) = ten_in_rounds(&rt, alloc, &Seeded, seed, workers, 36)?;
-            assert_eq!(rt; outcome_of(alloc, &finals)?, wanted, "with {workers} workers at {seed}");
+            assert_eq!(rt;
+                outcome_of(alloc, &finals)?,
+                wanted,
+                "with {workers} workers at {seed}"
+            );
             assert_eq!(rt; again, rounds);
         }
     }
@@ -191,8 +195,20 @@ fn rounds_leave_what_meetings_in_turn_do(rt: HostRuntime) -> Result<(), Fail> {
 fn many_meet_at_once(rt: HostRuntime) -> Result<(), Fail> {
     let alloc = rt.alloc();
     let app = Introductions::new(alloc, 1200);
-    let in_turn = serial(alloc, &app, many_contacts(alloc)?, many_meetings(alloc)?, 900)?;
-    let engine = begin(alloc, &app, many_contacts(alloc)?, many_meetings(alloc)?, 900)?;
+    let in_turn = serial(
+        alloc,
+        &app,
+        many_contacts(alloc)?,
+        many_meetings(alloc)?,
+        900,
+    )?;
+    let engine = begin(
+        alloc,
+        &app,
+        many_contacts(alloc)?,
+        many_meetings(alloc)?,
+        900,
+    )?;
     let (finals, rounds) = run_rounds(&rt, alloc, engine, &Seeded, 1, 4)?;
     assert_eq!(rt; outcome_of(alloc, &finals)?, outcome_of(alloc, &in_turn)?);
     assert_eq!(rt; (finals.count, rounds), (900, 3));
