@@ -16,7 +16,7 @@ use Rattle.kdg_graph.specs.Nodes.{HasNode, least_of, node_at, set_at, started, t
 use Rattle.app_laws.specs.Applications.{Application, IsFitTask, set_in}
 use Rattle.graph_update.specs.Basis.{Basis}
 use Rattle.graph_update.specs.declared.job.Job.{Job}
-use Rattle.graph_update.specs.Engine.{IsKept, IsPick, IsPicked, MayRun, SomeRuns}
+use Rattle.graph_update.specs.Engine.{IsKept, MayRun, SomeRuns}
 use Rattle.graph_update.specs.Events.{IsClaimed, clear_nodes, is_clear}
 use Rattle.graph_update.specs.Jobs.{JobsMayRun}
 use Rattle.graph_update.specs.Progress.{Progress}
@@ -25,6 +25,7 @@ use Rattle.graph_update.proofs.Claims.{claims_keep_sound, found_is_there, is_hom
 use Rattle.graph_update.proofs.ClearNodes.{some_is_clear}
 use Rattle.graph_update.proofs.Ending.{no_jobs}
 use Rattle.graph_update.proofs.Members.{all_at, from_filter, here, in_map, none_passes, there as from_there}
+use Rattle.graph_update.proofs.Picked.{IsPick, IsPicked}
 
 Some-injective : {X : Type 0} (a b : X) → Some a ≡ Some b → a ≡ b
 Some-injective a b same = cc
@@ -38,6 +39,15 @@ any_one {X} p (x ∷ xs) some = by_test (p x) refl some (any_one p xs)
     by_test false is some rest =
         let found = rest some in
         (found.0, from_there x found.0 xs found.1, found.2)
+
+-- a graph that has a least node has nodes
+pub some_nodes : (nodes : List Node) (least : Option NodeId) → least ≡ least_of nodes → is_some least ≡ true → nodes ≢ []
+some_nodes nodes least is some empty = true≢false (sym some ∙ ap is_some (is ∙ ap least_of empty))
+
+-- where nothing is picked no node is clear
+pub none_clear : {V : Type 0} (app : Application V) (nodes : List Node) (pick : ℕ) (found : Option NodeId) → ((id : NodeId) → found ≡ Some id → ⊥) → IsPick app nodes pick found → clear_nodes app nodes ≡ []
+none_clear app nodes pick None never none = none
+none_clear app nodes pick (Some id) never is = absurd (never id refl)
 
 module _ {V : Type 0} {app : Application V} (basis : Basis app) where
   module _ (old : Progress V) (jobs : List (Job V)) (values : List V) (sound : IsSound app old jobs values) (pick : ℕ) (id : NodeId) (picked : IsPicked app old.nodes pick id) where
@@ -123,6 +133,5 @@ module _ {V : Type 0} {app : Application V} (basis : Basis app) where
   -- the same where nothing is picked of a graph that has a least node
   pub runs_where_none : (old : Progress V) (pick : ℕ) (found least : Option NodeId) → IsKept app old → least ≡ least_of old.nodes → is_some least ≡ true
       → ((id : NodeId) → found ≡ Some id → ⊥) → IsPick app old.nodes pick found → SomeRuns old.nodes
-  runs_where_none old pick (Some id) least kept is some never pick_is = absurd (never id refl)
-  runs_where_none old pick None least kept is some never none_clear =
-      some_runs old kept.jobs kept.values kept.sound (λ empty. true≢false (sym some ∙ ap is_some (is ∙ ap least_of empty))) none_clear
+  runs_where_none old pick found least kept is some never pick_is =
+      some_runs old kept.jobs kept.values kept.sound (some_nodes old.nodes least is some) (none_clear app old.nodes pick found never pick_is)

@@ -1,13 +1,13 @@
 -- What a drain takes, by the least node.
-use Rattle.std.proofs.Common.{◌≡◌, ◌==◌, Bool, true, cond, List, [], ◌∷◌, Option, Some, None, refl, sym, ap, subst, ◌∙◌, eq-eqb}
+use Rattle.std.proofs.Common.{◌≡◌, ◌==◌, cond, List, [], ◌∷◌, Some, None, refl, sym, ap, subst, ◌∙◌, eq-eqb}
 use Rattle.std.specs.Prelude.{Result, Ok, Err, OnOk, OnErr}
 use Rattle.std.specs.Option.{option_map}
 use Rattle.task_order.specs.declared.task.Task.{Task}
 use Rattle.task_order.specs.Key.{at_key}
-use Rattle.output_log.specs.Entries.{Entry, entries_before, entries_from}
+use Rattle.output_log.specs.Entries.{Entry, entries_from}
 use Rattle.kdg_graph.specs.declared.node_id.NodeId.{NodeId}
 use Rattle.kdg_graph.specs.Node.{Node}
-use Rattle.kdg_graph.specs.Nodes.{is_at, least_of, node_at, task_at}
+use Rattle.kdg_graph.specs.Nodes.{least_of, node_at, task_at}
 use Rattle.app_laws.specs.Applications.{Application}
 use Rattle.graph_update.specs.Engine.{IsKept}
 use Rattle.graph_update.specs.Events.{undrainable}

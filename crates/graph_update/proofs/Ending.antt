@@ -1,5 +1,5 @@
 -- How an execution is left when no task is pending.
-use Rattle.std.proofs.Common.{◌≡◌, ℕ, ◌<◌, false, true, List, [], ◌∷◌, Some, None, length, refl, sym, ap, subst, ◌∙◌}
+use Rattle.std.proofs.Common.{◌≡◌, true, List, [], ◌∷◌, refl, sym, subst}
 use Rattle.std.specs.Prelude.{Contains}
 use Rattle.std.specs.List.{AllByRecursion}
 use Rattle.std.proofs.lemmas.Bool.{true≢false}
@@ -9,7 +9,6 @@ use Rattle.cell_store.specs.Cells.{cell_at}
 use Rattle.cell_store.specs.Home.{IsHome}
 use Rattle.cell_store.specs.Values.{AreAllHome, homes}
 use Rattle.kdg_graph.specs.Node.{Node}
-use Rattle.kdg_graph.specs.Nodes.{node_with_key}
 use Rattle.app_laws.specs.Applications.{Application}
 use Rattle.graph_update.specs.Basis.{Basis}
 use Rattle.graph_update.specs.declared.job.Job.{Job}

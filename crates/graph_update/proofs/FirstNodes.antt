@@ -13,7 +13,7 @@ use Rattle.kdg_graph.specs.declared.node_id.NodeId.{NodeId}
 use Rattle.kdg_graph.specs.Laws.{PutsAddTasks}
 use Rattle.kdg_graph.specs.Node.{Node, new_node}
 use Rattle.kdg_graph.specs.Nodes.{IsGraph, put_node, tasks_of}
-use Rattle.app_laws.specs.Applications.{Application, AreFitStarts, IsFitTask, set_in}
+use Rattle.app_laws.specs.Applications.{Application, AreFitStarts, set_in}
 use Rattle.app_laws.specs.Execution.{first_from}
 use Rattle.graph_update.specs.Engine.{AreFirstNodes}
 use Rattle.graph_update.proofs.FinishTasks.{all-joined, all-put_in}

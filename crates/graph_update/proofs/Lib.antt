@@ -3,6 +3,7 @@ pub mod AtRest
 pub mod Beginnings
 pub mod Begun
 pub mod Behind
+pub mod ClaimedNodes
 pub mod Claims
 pub mod ClearClaims
 pub mod ClearIds

@@ -1,25 +1,54 @@
 -- What is picked is a clear node.
-use Rattle.std.proofs.Common.{◌≡◌, ◌≢◌, ℕ, zero, suc, ◌+◌, ◌<◌, ◌≤◌, ◌%◌, List, [], ◌∷◌, Some, length, get_or, slice_get, refl, sym, ap, subst, ◌∙◌, arith}
+use Rattle.std.proofs.Common.{◌≡◌, ℕ, zero, suc, ◌<◌, ◌%◌, List, [], ◌∷◌, Option, Some, None, length, slice_get, refl, sym, ap, ◌∙◌, arith}
+use Rattle.std.proofs.lemmas.Option.{slice_get-get_or}
 use lib.ListN.{length-map}
 use Rattle.kdg_graph.specs.declared.node_id.NodeId.{NodeId}
 use Rattle.kdg_graph.specs.Node.{Node}
 use Rattle.kdg_graph.specs.Nodes.{ids_of}
 use Rattle.app_laws.specs.Applications.{Application}
-use Rattle.graph_update.specs.Engine.{IsPicked}
 use Rattle.graph_update.specs.Events.{clear_nodes}
 
--- the node whose id stands at a place
-id_at : (nodes : List Node) (i : ℕ) (id : NodeId) → i < length nodes → id ≡ get_or (ids_of nodes) i id → (node : Node) × (slice_get nodes i ≡ Some node) × (node.id ≡ id)
-id_at [] i id within is = absurd (omega (arith, within))
-id_at (node ∷ nodes) zero id within is = (node, refl, sym is)
-id_at (node ∷ nodes) (suc i) id within is = id_at nodes i id (omega (arith, within)) is
+Some-injective : {X : Type 0} (a b : X) → Some a ≡ Some b → a ≡ b
+Some-injective a b same = cc
 
-pub picked_at : {V : Type 0} (app : Application V) (nodes : List Node) (pick : ℕ) (ids : List NodeId) (count : ℕ) (id : NodeId) → ids ≡ ids_of (clear_nodes app nodes)
-    → count ≡ length ids → 0 < count → id ≡ get_or ids (pick % count) id → IsPicked app nodes pick id
-picked_at app nodes pick ids count id are counted some is =
-    let many : count ≡ length (clear_nodes app nodes) = counted ∙ ap length are ∙ length-map (clear_nodes app nodes) (λ (n : Node). n.id) in
-    let within : pick % count < count = omega (arith, some) in
-    let inside : pick % length (clear_nodes app nodes) < length (clear_nodes app nodes) = subst (λ (m : ℕ). pick % m < m) many within in
-    let found = id_at (clear_nodes app nodes) (pick % length (clear_nodes app nodes)) id inside
-    (is ∙ ap (λ held. get_or held (pick % count) id) are ∙ ap (λ m. get_or (ids_of (clear_nodes app nodes)) (pick % m) id) many) in
-    record { node = found.0; chosen = found.1; id_is = found.2 }
+none_is_not_some : {X : Type 0} (x : X) → None ≡ Some x → ⊥
+none_is_not_some x same = cc
+
+-- the node whose id stands at a place
+id_at : (nodes : List Node) (i : ℕ) (id : NodeId) → Some id ≡ slice_get (ids_of nodes) i → (node : Node) × (slice_get nodes i ≡ Some node) × (node.id ≡ id)
+id_at [] i id is = absurd (none_is_not_some id (sym is))
+id_at (node ∷ nodes) zero id is = (node, refl, sym (Some-injective id node.id is))
+id_at (node ∷ nodes) (suc i) id is = id_at nodes i id is
+
+none_left : (nodes : List Node) (pick : ℕ) → None ≡ slice_get (ids_of nodes) (pick % length (ids_of nodes)) → nodes ≡ []
+none_left [] pick is = refl
+none_left (node ∷ nodes) pick is =
+    let ids = ids_of (node ∷ nodes) in
+    let within : pick % length ids < length ids = omega arith in
+    absurd (none_is_not_some _ (is ∙ slice_get-get_or ids (pick % length ids) node.id within))
+
+module _ {V : Type 0} (app : Application V) where
+  -- the id is that of the clear node at the remainder of a pick, in key order
+  pub record IsPicked (nodes : List Node) (pick : ℕ) (id : NodeId) : Type 0 where
+    pub node : Node
+    pub chosen : slice_get (clear_nodes app nodes) (pick % length (clear_nodes app nodes)) ≡ Some node
+    pub id_is : node.id ≡ id
+
+  -- none is found where no node is clear
+  abbrev pub IsPick : List Node → ℕ → Option NodeId → Type 0
+  IsPick nodes pick None = clear_nodes app nodes ≡ []
+  IsPick nodes pick (Some id) = IsPicked nodes pick id
+
+  pub pick_is : (nodes : List Node) (pick : ℕ) (ids : List NodeId) (found : Option NodeId) → ids ≡ ids_of (clear_nodes app nodes) → found ≡ slice_get ids (pick % length ids) → IsPick nodes pick found
+  pick_is nodes pick ids found are is =
+      by_case found (is ∙ ap (λ (held : List NodeId). slice_get held (pick % length held)) are)
+    where
+      clear : List Node
+      clear = clear_nodes app nodes
+
+      by_case : (found : Option NodeId) → found ≡ slice_get (ids_of clear) (pick % length (ids_of clear)) → IsPick nodes pick found
+      by_case None none = none_left clear pick none
+      by_case (Some id) some =
+          let many : length (ids_of clear) ≡ length clear = length-map clear (λ (n : Node). n.id) in
+          let at = id_at clear (pick % length clear) id (some ∙ ap (λ m. slice_get (ids_of clear) (pick % m)) many) in
+          record { node = at.0; chosen = at.1; id_is = at.2 }

@@ -1,14 +1,13 @@
 -- What is kept of every engine, and what its calls find.
-use Rattle.std.specs.Prelude.{◌≡◌, ◌+◌, ◌<◌, ◌≤◌, ℕ, Bool, true, false, List, Contains, [], ◌∷◌, ◌%◌, length, slice_get, Option, Some, None, unwrap_or}
+use Rattle.std.specs.Prelude.{◌≡◌, ◌+◌, ◌<◌, ◌≤◌, ℕ, Bool, true, false, List, Contains, [], ◌∷◌, length, Some, unwrap_or}
 use Rattle.std.specs.List.{AllByRecursion}
 use Rattle.std.specs.Option.{option_map}
 use Rattle.task_order.specs.declared.key.Key.{Key}
 use Rattle.task_order.specs.declared.start.Start.{Start}
 use Rattle.task_order.specs.TaskList.{put_all}
-use Rattle.kdg_graph.specs.declared.node_id.NodeId.{NodeId}
 use Rattle.kdg_graph.specs.Node.{Node}
 use Rattle.kdg_graph.specs.Edges.{laters_of}
-use Rattle.kdg_graph.specs.Nodes.{IsGraph, node_with_key, tasks_of}
+use Rattle.kdg_graph.specs.Nodes.{IsGraph, ids_of, node_with_key, tasks_of}
 use Rattle.app_laws.specs.Applications.{Application, IsFitTask, IsTaken, set_in}
 use Rattle.app_laws.specs.Execution.{first_from}
 use Rattle.graph_update.specs.declared.answers.BeginFault.{BeginFault}
@@ -17,6 +16,7 @@ use Rattle.graph_update.specs.declared.answers.Claim.{Claim}
 use Rattle.graph_update.specs.declared.answers.Claim.TheVariants as claim
 use Rattle.graph_update.specs.declared.job.Done.{Done}
 use Rattle.graph_update.specs.declared.job.Job.{Job}
+use Rattle.graph_update.specs.declared.ready.Ready.{Ready}
 use Rattle.graph_update.specs.Events.{clear_nodes}
 use Rattle.graph_update.specs.Laws.{IsPerformed}
 use Rattle.graph_update.specs.Progress.{Progress}
@@ -63,16 +63,9 @@ module _ {V : Type 0} (app : Application V) where
     pub sets : AllByRecursion (λ node. node.set ≡ set_in app cells node.task) nodes
     pub none_runs : AllByRecursion (λ node. node.running ≡ false) nodes
 
-  -- the id is that of the clear node at the remainder of a pick, in key order
-  pub record IsPicked (nodes : List Node) (pick : ℕ) (id : NodeId) : Type 0 where
-    pub node : Node
-    pub chosen : slice_get (clear_nodes app nodes) (pick % length (clear_nodes app nodes)) ≡ Some node
-    pub id_is : node.id ≡ id
-
-  -- none is found where no node is clear
-  abbrev pub IsPick : List Node → ℕ → Option NodeId → Type 0
-  IsPick nodes pick None = clear_nodes app nodes ≡ []
-  IsPick nodes pick (Some id) = IsPicked nodes pick id
+  -- where no task has ended since the last look, the ready nodes are just the clear ones, in key order
+  abbrev pub AreReady : List Node → Ready → Type 0
+  AreReady nodes ready = ready.is_current ≡ true → ready.ids.items ≡ ids_of (clear_nodes app nodes)
 
   -- an execution that is sound with some jobs and some whole cells, and within what may be allowed
   pub record IsKept (progress : Progress V) : Type 0 where

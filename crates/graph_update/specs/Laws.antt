@@ -2,6 +2,7 @@
 use Rattle.std.specs.Prelude.{◌≡◌, ◌≢◌, ◌≤◌, ℕ, true, List, Contains, [], ◌∷◌, ◌++◌, length, None}
 use Rattle.task_order.specs.declared.start.Start.{Start}
 use Rattle.kdg_graph.specs.Node.{Node}
+use Rattle.kdg_graph.specs.Rewrite.{without}
 use Rattle.commuting.specs.Clear.{IsClear}
 use Rattle.app_laws.specs.Applications.{Application, AreFitStarts, IsEffect}
 use Rattle.graph_update.specs.declared.answers.OverCause.{OverCause}
@@ -57,6 +58,11 @@ module _ {V : Type 0} (app : Application V) where
   abbrev pub ClaimsKeepSound : Type 0
   ClaimsKeepSound = (old now : Progress V) (pick : ℕ) (job : Job V) (jobs : List (Job V)) (values : List V) →
       IsSound app old jobs values → IsClaimed app old pick now job → IsSound app now (job ∷ jobs) values
+
+  -- a claim takes one of the clear nodes: the others stay clear, and no other becomes clear
+  abbrev pub ClaimsTakeOneClear : Type 0
+  ClaimsTakeOneClear = (old now : Progress V) (pick : ℕ) (job : Job V) → (claimed : IsClaimed app old pick now job) →
+      clear_nodes app now.nodes ≡ without claimed.node.id (clear_nodes app old.nodes)
 
   -- where a task ends, the whole cells are what it makes of them
   abbrev pub FinishesKeepSound : Type 0

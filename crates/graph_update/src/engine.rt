@@ -11,6 +11,7 @@ ghost use Rattle.graph_update.specs.Sound.{IsSound};
 use crate::beginning::{first_graph, home_store};
 use crate::counting::running_count;
 use crate::laws::{basis, begin_laws, drain_laws};
+use crate::ready::Ready;
 use crate::{BeginFault, Counts, OverCause};
 use app_laws::{App, Finals};
 use cell_store::{Store, value_laws};
@@ -38,10 +39,11 @@ pub struct Engine<'a, A: App> {
     pub(crate) ended: u64,
     pub(crate) limit: u64,
     pub(crate) over: Option<OverCause>,
+    pub(crate) ready: Ready,
 }
 
 impl<'a, A: App> Model for Engine<'a, A> {
-    ghost use Rattle.graph_update.specs.Engine.{IsKept};
+    ghost use Rattle.graph_update.specs.Engine.{AreReady, IsKept};
     ghost use Rattle.graph_update.specs.Progress.{EngineState};
 
     ghost Value = { EngineState A A.Val };
@@ -67,7 +69,7 @@ impl<'a, A: App> Model for Engine<'a, A> {
       ended = e.ended;
       limit = e.limit;
       over = e.over;
-    }) };
+    }) × AreReady (A.meaning e.app.now) e.graph e.ready };
 }
 
 impl<'a, A: App> Engine<'a, A> {
@@ -117,6 +119,7 @@ impl<'a, A: App> Engine<'a, A> {
             ended: 0,
             limit: budget,
             over: None,
+            ready: Ready::new(alloc),
         })
     }
 

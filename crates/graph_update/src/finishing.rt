@@ -101,6 +101,7 @@ impl<'a, A: App> Engine<'a, A> {
                 self.log.put(task.key, effect.text);
                 self.created = created;
                 self.ended += 1;
+                self.ready.forget();
                 Ok(())
             }
             Err(_) => {

@@ -1,6 +1,6 @@
 ghost use Rattle.graph_update.specs.Basis.{CellLaws, LowerLaws, Basis};
 ghost use Rattle.graph_update.specs.Jobs.{JobsMayRun};
-ghost use Rattle.graph_update.specs.Laws.{BeginningsAreSound, ClaimsKeepSound, EventsKeepSound, MarksAndDrainsKeepSound, RecordedSetsSuffice, SomeIsClear, WholeIsOne};
+ghost use Rattle.graph_update.specs.Laws.{BeginningsAreSound, ClaimsKeepSound, ClaimsTakeOneClear, EventsKeepSound, MarksAndDrainsKeepSound, RecordedSetsSuffice, SomeIsClear, WholeIsOne};
 
 use crate::finish_laws::sound_finish_laws;
 use app_laws::{App, lawful};
@@ -77,6 +77,13 @@ pub fn begin_laws<A: App>()
 /// same.
 pub fn claim_laws<A: App>()
     ensures sound { (app : A) → ClaimsKeepSound (A.meaning app) }
+{
+    basis::<A>();
+}
+
+/// A claim takes one of the clear nodes: the others stay clear, and no other becomes clear.
+pub fn clear_claim_laws<A: App>()
+    ensures one { (app : A) → ClaimsTakeOneClear (A.meaning app) }
 {
     basis::<A>();
 }

@@ -11,6 +11,7 @@ mod finishing;
 mod job;
 mod laws;
 mod performing;
+mod ready;
 mod rewriting;
 mod standing_laws;
 
@@ -21,7 +22,10 @@ pub use finish_laws::{
     finish_state_laws, sound_finish_laws,
 };
 pub use job::{Done, Job};
-pub use laws::{begin_laws, claim_laws, clear_laws, drain_laws, event_laws, job_laws, whole_laws};
+pub use laws::{
+    begin_laws, claim_laws, clear_claim_laws, clear_laws, drain_laws, event_laws, job_laws,
+    whole_laws,
+};
 pub use performing::perform;
 pub use standing_laws::{
     begin_standing_laws, claim_standing_laws, drain_standing_laws, end_laws, event_standing_laws,

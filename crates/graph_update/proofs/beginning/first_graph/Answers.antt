@@ -1,6 +1,6 @@
 use Rattle.std.proofs.Common.{arith}
 use Rattle.cell_store.specs.Values.{values_of}
-use Rattle.graph_update.proofs.FirstNodes.{all_left, next_is_fit, next_is_new, next_left, none_left}
+use Rattle.graph_update.proofs.FirstNodes.{next_left}
 use Rattle.graph_update.proofs.beginning.first_graph.Goals as goal
 
 pub loop-number-preserved : goal.loop-number-preserved

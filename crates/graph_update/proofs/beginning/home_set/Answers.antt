@@ -1,5 +1,5 @@
 use Rattle.std.proofs.Common.{sym, ◌∙◌}
-use Rattle.graph_update.proofs.AllHome.{never_out, known_is}
+use Rattle.graph_update.proofs.AllHome.{never_out}
 use Rattle.graph_update.proofs.beginning.home_set.Goals as goal
 
 pub unreachable-requires : goal.unreachable-requires

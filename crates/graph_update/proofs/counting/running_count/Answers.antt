@@ -1,5 +1,4 @@
-use Rattle.std.proofs.Common.{◌≡◌, ◌+◌, ◌≤◌, ◌∷◌, [], length, filter, sym, ap, ◌∙◌, arith, Fits, w64}
-use Rattle.kdg_graph.specs.Nodes.{tasks_of}
+use Rattle.std.proofs.Common.{◌≡◌, ◌∷◌, [], length, sym, ap, arith}
 use Rattle.graph_update.proofs.RunningNodes.{not_more, one_more, running_of, running_tasks}
 use Rattle.graph_update.proofs.counting.running_count.Goals as goal
 

@@ -1,4 +1,5 @@
-use Rattle.std.proofs.Common.{◌≡◌, ◌≤◌, List, length, sym, ap, subst, ◌∙◌}
+use Rattle.std.proofs.Common.{◌≤◌, List, length, sym, ap, subst, ◌∙◌}
+use Rattle.std.proofs.lemmas.Bool.{true≢false}
 use Rattle.task_order.specs.declared.start.Start.{Start}
 use Rattle.cell_store.specs.Values.{homes, values_of}
 use Rattle.graph_update.proofs.Begun.{begun, begun_kept, begun_sound}
@@ -19,9 +20,11 @@ invariant_of-result g c =
     let app = g.A.App.meaning c.args.app.now in
     let values = ap values_of c.in_ok-store.ensures ∙ c.value_laws.ensures.values.values_of_homes c.args.cells.items in
     let first = c.items-starts.ensures in
-    let few : length c.args.first ≤ c.args.budget = subst (λ (starts : List Start). length starts ≤ c.args.budget) first c.if-asked-budget.false in
-    begun_kept app c.args.cells.items _ c.args.first _ c.args.budget _ _ _ _ values first c.in_ok-store.ensures c.in_ok-graph.ensures.nodes c.new.ensures (ap length first)
-    (c.begin_laws.ensures.sound c.args.app.now) c.requires.fit_cells c.requires.fit_first few c.requires.budget
+    let few : length c.args.first ≤ c.args.budget = subst (λ (starts : List Start). length starts ≤ c.args.budget) first c.if-asked-budget.false in (
+      begun_kept app c.args.cells.items _ c.args.first _ c.args.budget _ _ _ _ values first c.in_ok-store.ensures c.in_ok-graph.ensures.nodes c.new.ensures (ap length first)
+          (c.begin_laws.ensures.sound c.args.app.now) c.requires.fit_cells c.requires.fit_first few c.requires.budget,
+      λ current. absurd (true≢false (sym current ∙ c.new-2.ensures)),
+    )
 
 pub returns-clause-begun : goal.returns-clause-begun
 returns-clause-begun g c =

@@ -8,4 +8,4 @@ use Rattle.graph_update.proofs.engine.Engine.end.Goals as goal
 pub returns-clause-whole : goal.returns-clause-whole
 returns-clause-whole g c =
     subst (λ (state : EngineState g.row.A.Denot g.row.A-Val.Denot). (own : List g.row.A-Val.Denot) × IsSound (g.A.App.meaning state.app) state.progress [] own × (c.self.inside.store ≡ homes own)) c.self.view_is
-    (ends_whole (c.basis.ensures c.self.inside.app.now) _ c.self.invariant.jobs c.self.invariant.values (ap (λ (state : EngineState g.row.A.Denot g.row.A-Val.Denot). state.progress.nodes) c.self.view_is ∙ c.requires) c.self.invariant.sound)
+    (ends_whole (c.basis.ensures c.self.inside.app.now) _ c.self.invariant.0.jobs c.self.invariant.0.values (ap (λ (state : EngineState g.row.A.Denot g.row.A-Val.Denot). state.progress.nodes) c.self.view_is ∙ c.requires) c.self.invariant.0.sound)

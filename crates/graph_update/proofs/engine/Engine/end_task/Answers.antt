@@ -1,10 +1,11 @@
 use Rattle.std.proofs.Common.{◌+◌, ◌≤◌, ◌∙◌, length, refl, sym, ap, subst}
 use Rattle.std.specs.List.{AllByRecursion}
+use Rattle.std.proofs.lemmas.Bool.{true≢false}
 use Rattle.cell_store.specs.Values.{AgreesWith}
 use Rattle.kdg_graph.specs.Nodes.{tasks_of}
 use Rattle.kdg_graph.specs.Rewrite.{HaveNewKeys}
 use Rattle.output_log.specs.Entries.{IsNewEntry, with_entry}
-use Rattle.graph_update.specs.Engine.{IsKept, IsOneStepEach}
+use Rattle.graph_update.specs.Engine.{AreReady, IsKept, IsOneStepEach}
 use Rattle.graph_update.specs.Events.{fresh_from}
 use Rattle.graph_update.specs.Progress.{EngineState, Progress}
 use Rattle.graph_update.proofs.Performed.{bundle_is_out, children_not_earlier, fresh_new}
@@ -45,20 +46,24 @@ put-requires-clause-new g c =
 
 pub invariant_of-self-in-Ok-end_node : goal.invariant_of-self-in-Ok-end_node
 invariant_of-self-in-Ok-end_node g c =
-    let is = inside_done g.A.App.meaning _ _ c.args.done c.self.view_is c.requires.done in
-    stays_kept (c.basis.ensures c.self.inside.app.now) _ c.args.done is c.in-Some.ended (sym c.find.ensures.found ∙ c.in-Some.is)
-    c.give-shell.new.self c.in-Ok-fresh_tasks.fresh.items c.end_node.new.graph c.put.new.self.entries c.args.created (c.self.inside.ended + 1)
-    c.give-shell.ensures.given (c.in-Ok-fresh_tasks.ensures ∙ ap (fresh_from c.args.done.task.key 0) c.items-children.ensures.all) c.in-Ok-end_node.ensures.graph c.in-Ok-end_node.ensures.ok
-    (c.put.ensures.entries ∙ ap (with_entry c.args.done.task.key c.args.done.effect.text) c.reserve.ensures.entries)
-    (c.requires.created ∙ ap (λ (engine : EngineState _ _). engine.progress.created + length c.args.done.effect.children) (sym c.self.view_is)) refl
-    (c.sound_finish_laws.ensures c.self.inside.app.now) (subst (λ (engine : EngineState _ _). c.args.created ≤ engine.progress.limit) (sym c.self.view_is) c.requires.within) c.self.invariant.limited
+    let is = inside_done g.A.App.meaning _ _ c.args.done c.self.view_is c.requires.done in (
+      stays_kept (c.basis.ensures c.self.inside.app.now) _ c.args.done is c.in-Some.ended (sym c.find.ensures.found ∙ c.in-Some.is)
+          c.give-shell.new.self c.in-Ok-fresh_tasks.fresh.items c.end_node.new.graph c.put.new.self.entries c.args.created (c.self.inside.ended + 1)
+          c.give-shell.ensures.given (c.in-Ok-fresh_tasks.ensures ∙ ap (fresh_from c.args.done.task.key 0) c.items-children.ensures.all) c.in-Ok-end_node.ensures.graph c.in-Ok-end_node.ensures.ok
+          (c.put.ensures.entries ∙ ap (with_entry c.args.done.task.key c.args.done.effect.text) c.reserve.ensures.entries)
+          (c.requires.created ∙ ap (λ (engine : EngineState _ _). engine.progress.created + length c.args.done.effect.children) (sym c.self.view_is)) refl
+          (c.sound_finish_laws.ensures c.self.inside.app.now) (subst (λ (engine : EngineState _ _). c.args.created ≤ engine.progress.limit) (sym c.self.view_is) c.requires.within) c.self.invariant.0.limited,
+      λ current. absurd (true≢false (sym current ∙ c.forget.ensures)),
+    )
 
 pub invariant_of-self-in-Err : goal.invariant_of-self-in-Err
 invariant_of-self-in-Err g c =
-    let is = inside_done g.A.App.meaning _ _ c.args.done c.self.view_is c.requires.done in
-    subst (IsKept (g.A.App.meaning c.self.inside.app.now)) (sym (progress_back _ c.regain-bundle.new.self c.end_node.new.graph c.reserve.new.self.entries
-    (cells_back c.self.inside.store c.give-shell.new.self c.args.done.effect.bundle c.give-shell.result (bundle_is_out (c.basis.ensures c.self.inside.app.now) is.sound is.performed) c.give-shell.ensures.given c.give-shell.ensures.shell (c.basis.ensures c.self.inside.app.now).takes_back c.regain-bundle.new.self c.regain-bundle.ensures.taken)
-    c.in-Err.ensures.unchanged c.reserve.ensures.entries)) c.self.invariant
+    let is = inside_done g.A.App.meaning _ _ c.args.done c.self.view_is c.requires.done in (
+      subst (IsKept (g.A.App.meaning c.self.inside.app.now)) (sym (progress_back _ c.regain-bundle.new.self c.end_node.new.graph c.reserve.new.self.entries
+          (cells_back c.self.inside.store c.give-shell.new.self c.args.done.effect.bundle c.give-shell.result (bundle_is_out (c.basis.ensures c.self.inside.app.now) is.sound is.performed) c.give-shell.ensures.given c.give-shell.ensures.shell (c.basis.ensures c.self.inside.app.now).takes_back c.regain-bundle.new.self c.regain-bundle.ensures.taken)
+          c.in-Err.ensures.unchanged c.reserve.ensures.entries)) c.self.invariant.0,
+      subst (λ nodes. AreReady (g.A.App.meaning c.self.inside.app.now) nodes c.self.inside.ready) (sym c.in-Err.ensures.unchanged) c.self.invariant.1,
+    )
 
 pub returns-in-Ok-end_node-clause-finished : goal.returns-in-Ok-end_node-clause-finished
 returns-in-Ok-end_node-clause-finished g c =
@@ -86,6 +91,12 @@ returns-in-Ok-end_node-clause-steps g c =
     let is = inside_done g.A.App.meaning _ _ c.args.done c.self.view_is c.requires.done in
     subst (λ (engine : EngineState _ _). IsOneStepEach engine.progress.nodes c.args.done.task.key c.args.steps.now c.end_node.new.steps) c.self.view_is
     (step_each (c.basis.ensures c.self.inside.app.now) _ c.args.done is c.in-Some.ended (sym c.find.ensures.found ∙ c.in-Some.is) c.args.steps.now c.end_node.new.steps c.in-Ok-end_node.ensures.steps)
+
+pub returns-in-Err-clause-steps : goal.returns-in-Err-clause-steps
+returns-in-Err-clause-steps g c =
+    let is = inside_done g.A.App.meaning _ _ c.args.done c.self.view_is c.requires.done in
+    subst (λ (engine : EngineState _ _). IsOneStepEach engine.progress.nodes c.args.done.task.key c.args.steps.now c.end_node.new.steps) c.self.view_is
+    (step_each (c.basis.ensures c.self.inside.app.now) _ c.args.done is c.in-Some.ended (sym c.find.ensures.found ∙ c.in-Some.is) c.args.steps.now c.end_node.new.steps c.in-Err.ensures.steps)
 
 pub returns-in-Err-clause-returned : goal.returns-in-Err-clause-returned
 returns-in-Err-clause-returned g c =

@@ -3,11 +3,11 @@ use Rattle.std.specs.List.{AllByRecursion}
 use Rattle.kdg_graph.specs.Edges.{sources_of}
 use Rattle.kdg_graph.specs.Nodes.{HasNode}
 use Rattle.graph_update.proofs.ClearIds.{safe_ids}
-use Rattle.graph_update.proofs.claiming.clear_ids.Given as goal
+use Rattle.graph_update.proofs.ready.list_clear.Given as goal
 
 -- the safe ones of the sources that were passed, and the sources that are left
 abbrev pub invariant-loop-node : goal.invariant-loop-node
 invariant-loop-node g l = record {
-  passed : l.clear.items ++ safe_ids (g.A.App.meaning l.app) l.graph l.node-iterator ≡ safe_ids (g.A.App.meaning l.app) l.graph (sources_of l.graph);
+  passed : l.ids.items ++ safe_ids (g.A.App.meaning l.app) l.graph l.node-iterator ≡ safe_ids (g.A.App.meaning l.app) l.graph (sources_of l.graph);
   there : AllByRecursion (HasNode l.graph) l.node-iterator;
 }
