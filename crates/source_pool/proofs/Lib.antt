@@ -1,4 +1,3 @@
-pub mod Claimed
 pub mod Dealing
 pub mod Drawing
 pub mod Drawn

@@ -4,7 +4,6 @@ use Rattle.task_order.specs.Key.{end}
 use Rattle.task_order.specs.TaskList.{IsAscending}
 use Rattle.cell_store.specs.Values.{homes, values_of}
 use Rattle.kdg_graph.specs.Nodes.{IsGraph}
-use Rattle.kdg_graph.specs.Rewrite.{without}
 use Rattle.output_log.specs.Entries.{joined_by_key}
 use Rattle.app_laws.specs.Applications.{Application}
 use Rattle.app_laws.specs.Execution.{Execution}
@@ -20,11 +19,6 @@ use Rattle.source_pool.specs.Course.{AreAllDone, HaveOwnKeys, IsAtRest, IsDrawin
 
 module _ {V : Type 0} (app : Application V) where
   -- ---- claims
-
-  -- a claim takes one of the clear nodes: the others stay clear, and no other becomes clear
-  abbrev pub ClaimsTakeOneClear : Type 0
-  ClaimsTakeOneClear = (old now : Progress V) (pick : ℕ) (job : Job V) → (claimed : IsClaimed app old pick now job) →
-      clear_nodes app now.nodes ≡ without claimed.node.id (clear_nodes app old.nodes)
 
   abbrev pub StartsAreAtRest : Type 0
   StartsAreAtRest = (start : Progress V) (cells : List V) → IsSound app start [] cells → start.over ≡ None → IsAtRest app start cells (whole_state start cells) start

@@ -1,5 +1,5 @@
 ghost use Rattle.source_pool.specs.Basis.{Basis};
-ghost use Rattle.source_pool.specs.Laws.{ClaimsGoOn, ClaimsStartOne, ClaimsTakeOneClear, DrawingsBegin, DrawnJobsAreTheRound, DrawnJobsDiffer, EndsComeToRest, EndsGoOn, FirstMayEnd, IdleIsSound, RestWithoutNodesIsTheEnd, RoundsAdd, RoundsAreTaken, RoundsHaveJobs, StartsAreAtRest, TooManyNeverEnd, WholeIsHome};
+ghost use Rattle.source_pool.specs.Laws.{ClaimsGoOn, ClaimsStartOne, DrawingsBegin, DrawnJobsAreTheRound, DrawnJobsDiffer, EndsComeToRest, EndsGoOn, FirstMayEnd, IdleIsSound, RestWithoutNodesIsTheEnd, RoundsAdd, RoundsAreTaken, RoundsHaveJobs, StartsAreAtRest, TooManyNeverEnd, WholeIsHome};
 
 use app_laws::{App, lawful};
 use cell_store::value_laws;
@@ -42,7 +42,6 @@ pub fn drawing_laws<A: App>()
     ensures round { (app : A) → DrawnJobsAreTheRound (A.meaning app) }
     ensures some { (app : A) → RoundsHaveJobs (A.meaning app) }
     ensures differ { (app : A) → DrawnJobsDiffer (A.meaning app) }
-    ensures one_clear { (app : A) → ClaimsTakeOneClear (A.meaning app) }
     ensures starts_one { (app : A) → ClaimsStartOne (A.meaning app) }
 {
     basis::<A>();

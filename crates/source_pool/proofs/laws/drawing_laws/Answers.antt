@@ -1,4 +1,3 @@
-use Rattle.source_pool.proofs.Claimed.{claims_take_one_clear}
 use Rattle.source_pool.proofs.Drawing.{claims_go_on, claims_start_one, drawings_begin, drawn_jobs_are_the_round, drawn_jobs_differ, rounds_have_jobs, starts_are_at_rest}
 use Rattle.source_pool.proofs.laws.drawing_laws.Goals as goal
 
@@ -22,6 +21,3 @@ returns-clause-differ g c = λ app. drawn_jobs_differ (c.basis.ensures app)
 
 pub returns-clause-starts_one : goal.returns-clause-starts_one
 returns-clause-starts_one g c = λ app. claims_start_one (c.basis.ensures app)
-
-pub returns-clause-one_clear : goal.returns-clause-one_clear
-returns-clause-one_clear g c = λ app. claims_take_one_clear (c.basis.ensures app)
