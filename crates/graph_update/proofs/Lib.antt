@@ -23,6 +23,7 @@ pub mod FinishMembers
 pub mod FinishTasks
 pub mod FirstNodes
 pub mod MakingFresh
+pub mod IdLists
 pub mod Marks
 pub mod Members
 pub mod Performed

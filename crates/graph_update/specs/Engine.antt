@@ -65,7 +65,7 @@ module _ {V : Type 0} (app : Application V) where
 
   -- where no task has ended since the last look, the ready nodes are just the clear ones, in key order
   abbrev pub AreReady : List Node → Ready → Type 0
-  AreReady nodes ready = ready.is_current ≡ true → ready.ids.items ≡ ids_of (clear_nodes app nodes)
+  AreReady nodes ready = ready.is_current ≡ true → ready.ids ≡ ids_of (clear_nodes app nodes)
 
   -- an execution that is sound with some jobs and some whole cells, and within what may be allowed
   pub record IsKept (progress : Progress V) : Type 0 where

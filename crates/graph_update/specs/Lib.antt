@@ -4,6 +4,7 @@ pub mod Engine
 pub mod Events
 pub mod FinishBasis
 pub mod Finishes
+pub mod IdChunks
 pub mod Jobs
 pub mod Laws
 pub mod Progress

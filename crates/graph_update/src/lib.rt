@@ -8,6 +8,7 @@ mod counting;
 mod engine;
 mod finish_laws;
 mod finishing;
+mod id_list;
 mod job;
 mod laws;
 mod performing;

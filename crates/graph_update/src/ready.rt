@@ -6,6 +6,7 @@ ghost use Rattle.app_laws.specs.Applications.{AreFitTasks};
 ghost use Rattle.graph_update.specs.Engine.{AreReady};
 ghost use Rattle.graph_update.specs.Events.{clear_nodes};
 
+use crate::id_list::IdList;
 use app_laws::App;
 use kdg_graph::{Graph, NodeId, node_laws, source_laws};
 use kdg_text::NoRoom;
@@ -15,7 +16,7 @@ use std::alloc::Global;
 #[derive(Drop)]
 pub(crate) struct Ready {
     /// Their ids, in key order.
-    ids: Vec<NodeId>,
+    ids: IdList,
     /// Whether these are all of them: no task has ended since that look.
     is_current: bool,
 }
@@ -26,7 +27,7 @@ impl Ready {
         ensures { result.is_current ≡ false }
     {
         Ready {
-            ids: Vec::new(alloc),
+            ids: IdList::new(alloc),
             is_current: false,
         }
     }
@@ -43,7 +44,7 @@ impl Ready {
     pub(crate) fn look<A: App>(&mut self, app: &A, graph: &Graph) -> Result<(), NoRoom>
         requires fit { AreFitTasks (A.meaning app.now) (tasks_of graph.now) }
         requires ready { AreReady (A.meaning app.now) graph.now self.old }
-        ensures all { OnOk result (self.new.ids.items ≡ ids_of (clear_nodes (A.meaning app.now) graph.now)) }
+        ensures all { OnOk result (self.new.ids ≡ ids_of (clear_nodes (A.meaning app.now) graph.now)) }
         ensures none { OnErr result (self.new.is_current ≡ false) }
     {
         if !self.is_current {
@@ -55,19 +56,16 @@ impl Ready {
 
     /// The id at the remainder of a pick, where there is one.
     pub(crate) fn picked(&self, pick: u64) -> Option<NodeId>
-        ensures { result ≡ slice_get self.now.ids.items (pick % length self.now.ids.items) }
+        ensures { result ≡ slice_get self.now.ids (pick % length self.now.ids) }
     {
-        if self.ids.is_empty() {
-            return None;
-        }
-        let place = pick % self.ids.len() as u64;
-        Some(self.ids[place as usize])
+        let place = pick.checked_rem(self.ids.len() as u64)?;
+        Some(self.ids.get(place as usize))
     }
 
     /// That id is there no more.
     pub(crate) fn take(&mut self, pick: u64)
-        requires { 0 < length self.old.ids.items }
-        ensures ids { self.new.ids.items ≡ remove self.old.ids.items (pick % length self.old.ids.items) }
+        requires { 0 < length self.old.ids }
+        ensures ids { self.new.ids ≡ remove self.old.ids (pick % length self.old.ids) }
         ensures current { self.new.is_current ≡ self.old.is_current }
     {
         let place = pick % self.ids.len() as u64;
@@ -75,10 +73,10 @@ impl Ready {
     }
 }
 
-/// Puts the ids of the clear nodes, in key order, in place of what a vector holds.
-fn list_clear<A: App>(ids: &mut Vec<NodeId>, app: &A, graph: &Graph) -> Result<(), NoRoom>
+/// Puts the ids of the clear nodes, in key order, in place of what a list holds.
+fn list_clear<A: App>(ids: &mut IdList, app: &A, graph: &Graph) -> Result<(), NoRoom>
     requires fit { AreFitTasks (A.meaning app.now) (tasks_of graph.now) }
-    ensures { OnOk result (ids.new.items ≡ ids_of (clear_nodes (A.meaning app.now) graph.now)) }
+    ensures { OnOk result (ids.new ≡ ids_of (clear_nodes (A.meaning app.now) graph.now)) }
 {
     node_laws();
     source_laws();

@@ -11,7 +11,7 @@ loop-node-init g c =
     let sources : c.into_iter-node-iterator.result ≡ sources_of c.args.graph.now = c.into_iter-node-iterator.ensures.into_iter_gives ∙ c.sources-node-items.ensures.sources in
     let app = g.A.App.meaning c.args.app.now in
     record {
-      passed = ap (λ ids. ids ++ safe_ids app c.args.graph.now c.into_iter-node-iterator.result) c.clear.ensures.items ∙ ap (safe_ids app c.args.graph.now) sources;
+      passed = ap (λ ids. ids ++ safe_ids app c.args.graph.now c.into_iter-node-iterator.result) c.clear.ensures ∙ ap (safe_ids app c.args.graph.now) sources;
       there = subst (AllByRecursion (HasNode c.args.graph.now)) (sym sources) (sources_are_there app c.args.graph.now c.source_laws.ensures.nodes c.sources-node-items.ensures.graph);
     }
 
@@ -23,5 +23,5 @@ pub returns : goal.returns
 returns g c =
     let app = g.A.App.meaning c.args.app.now in
     let none : c.loop-node.node-iterator ≡ [] = c.in-None.ensures.steps.0 in
-    sym (append-nil c.loop-node.ids.items) ∙ ap (λ ids. c.loop-node.ids.items ++ safe_ids app c.args.graph.now ids) (sym none)
+    sym (append-nil c.loop-node.ids) ∙ ap (λ ids. c.loop-node.ids ++ safe_ids app c.args.graph.now ids) (sym none)
     ∙ c.loop-node.invariant.passed ∙ clear_are_safe app c.args.graph.now c.node_laws.ensures.have_ids c.sources-node-items.ensures.graph

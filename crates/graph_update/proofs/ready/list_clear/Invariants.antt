@@ -8,6 +8,6 @@ use Rattle.graph_update.proofs.ready.list_clear.Given as goal
 -- the safe ones of the sources that were passed, and the sources that are left
 abbrev pub invariant-loop-node : goal.invariant-loop-node
 invariant-loop-node g l = record {
-  passed : l.ids.items ++ safe_ids (g.A.App.meaning l.app) l.graph l.node-iterator ≡ safe_ids (g.A.App.meaning l.app) l.graph (sources_of l.graph);
+  passed : l.ids ++ safe_ids (g.A.App.meaning l.app) l.graph l.node-iterator ≡ safe_ids (g.A.App.meaning l.app) l.graph (sources_of l.graph);
   there : AllByRecursion (HasNode l.graph) l.node-iterator;
 }

@@ -18,7 +18,7 @@ returns-in_default-picked-clause-some_runs g c =
     let app = g.A.App.meaning c.self.inside.app.now in
     subst (λ (state : EngineState g.row.A.Denot g.row.A-Val.Denot). SomeRuns state.progress.nodes) c.self.view_is
     (runs_where_none (c.basis.ensures c.self.inside.app.now) _ c.args.pick c.picked.result c.least.result c.self.invariant.0 c.least.ensures.least c.if-is_none.ensures c.in_default-picked.not-Some
-    (pick_is app c.self.inside.graph c.args.pick c.look.new.self.ids.items c.picked.result c.in_ok-look.ensures.all c.picked.ensures))
+    (pick_is app c.self.inside.graph c.args.pick c.look.new.self.ids c.picked.result c.in_ok-look.ensures.all c.picked.ensures))
 
 pub returns-in_default-picked-clause-answer : goal.returns-in_default-picked-clause-answer
 returns-in_default-picked-clause-answer g c =
@@ -28,28 +28,28 @@ returns-in_default-picked-clause-answer g c =
     subst (λ (state : EngineState g.row.A.Denot g.row.A-Val.Denot). (state.progress.over ≡ None) × (state.progress.nodes ≢ []) × (clear_nodes (g.A.App.meaning state.app) state.progress.nodes ≡ []) × (inside ≡ state.progress)) c.self.view_is (
       none_where_not c.self.inside.over c.in_default.not-Some,
       some_nodes c.self.inside.graph c.least.result c.least.ensures.least c.if-is_none.ensures,
-      none_clear app c.self.inside.graph c.args.pick c.picked.result c.in_default-picked.not-Some (pick_is app c.self.inside.graph c.args.pick c.look.new.self.ids.items c.picked.result c.in_ok-look.ensures.all c.picked.ensures),
+      none_clear app c.self.inside.graph c.args.pick c.picked.result c.in_default-picked.not-Some (pick_is app c.self.inside.graph c.args.pick c.look.new.self.ids c.picked.result c.in_ok-look.ensures.all c.picked.ensures),
       refl,
     )
 
 pub task-requires : goal.task-requires
 task-requires g c =
-    has_node (c.basis.ensures c.self.inside.app.now) _ c.self.invariant.0.jobs c.self.invariant.0.values c.self.invariant.0.sound c.args.pick c.in-Some-picked.node (pick_is (g.A.App.meaning c.self.inside.app.now) c.self.inside.graph c.args.pick c.look.new.self.ids.items (Some c.in-Some-picked.node) c.in_ok-look.ensures.all (sym c.in-Some-picked.is ∙ c.picked.ensures))
+    has_node (c.basis.ensures c.self.inside.app.now) _ c.self.invariant.0.jobs c.self.invariant.0.values c.self.invariant.0.sound c.args.pick c.in-Some-picked.node (pick_is (g.A.App.meaning c.self.inside.app.now) c.self.inside.graph c.args.pick c.look.new.self.ids (Some c.in-Some-picked.node) c.in_ok-look.ensures.all (sym c.in-Some-picked.is ∙ c.picked.ensures))
 
 pub take-requires-after_bounds : goal.take-requires-after_bounds
 take-requires-after_bounds g c κs within =
-    picked_home (c.basis.ensures c.self.inside.app.now) _ c.self.invariant.0.jobs c.self.invariant.0.values c.self.invariant.0.sound c.args.pick c.in-Some-picked.node (pick_is (g.A.App.meaning c.self.inside.app.now) c.self.inside.graph c.args.pick c.look.new.self.ids.items (Some c.in-Some-picked.node) c.in_ok-look.ensures.all (sym c.in-Some-picked.is ∙ c.picked.ensures))
+    picked_home (c.basis.ensures c.self.inside.app.now) _ c.self.invariant.0.jobs c.self.invariant.0.values c.self.invariant.0.sound c.args.pick c.in-Some-picked.node (pick_is (g.A.App.meaning c.self.inside.app.now) c.self.inside.graph c.args.pick c.look.new.self.ids (Some c.in-Some-picked.node) c.in_ok-look.ensures.all (sym c.in-Some-picked.is ∙ c.picked.ensures))
     c.set.result.now c.set.ensures
 
 pub invariant_of-self-2 : goal.invariant_of-self-2
 invariant_of-self-2 g c = (
-  kept_after (c.basis.ensures c.self.inside.app.now) _ c.self.invariant.0 c.args.pick c.in-Some-picked.node (pick_is (g.A.App.meaning c.self.inside.app.now) c.self.inside.graph c.args.pick c.look.new.self.ids.items (Some c.in-Some-picked.node) c.in_ok-look.ensures.all (sym c.in-Some-picked.is ∙ c.picked.ensures))
+  kept_after (c.basis.ensures c.self.inside.app.now) _ c.self.invariant.0 c.args.pick c.in-Some-picked.node (pick_is (g.A.App.meaning c.self.inside.app.now) c.self.inside.graph c.args.pick c.look.new.self.ids (Some c.in-Some-picked.node) c.in_ok-look.ensures.all (sym c.in-Some-picked.is ∙ c.picked.ensures))
       c.task.result.now c.in_ok-task.task c.set.result.now c.in_ok-bundle.bundle c.take.new.self c.mark_running.new.self
       c.task.ensures c.in_ok-task.ensures c.set.ensures c.in_ok-bundle.ensures.bundle c.in_ok-bundle.ensures.ok c.mark_running.ensures.marked,
   λ current.
       ids_after (g.A.App.meaning c.self.inside.app.now) (c.basis.ensures c.self.inside.app.now).lower c.self.inside.graph c.self.invariant.0.sound.keys_and_counts.graph c.args.pick c.in-Some-picked.node
-      (pick_is (g.A.App.meaning c.self.inside.app.now) c.self.inside.graph c.args.pick c.look.new.self.ids.items (Some c.in-Some-picked.node) c.in_ok-look.ensures.all (sym c.in-Some-picked.is ∙ c.picked.ensures))
-      c.look.new.self.ids.items c.take-2.new.self.ids.items c.in_ok-look.ensures.all c.take-2.ensures.ids c.mark_running.new.self c.mark_running.ensures.marked,
+      (pick_is (g.A.App.meaning c.self.inside.app.now) c.self.inside.graph c.args.pick c.look.new.self.ids (Some c.in-Some-picked.node) c.in_ok-look.ensures.all (sym c.in-Some-picked.is ∙ c.picked.ensures))
+      c.look.new.self.ids c.take-2.new.self.ids c.in_ok-look.ensures.all c.take-2.ensures.ids c.mark_running.new.self c.mark_running.ensures.marked,
 )
 
 pub returns-clause-answer : goal.returns-clause-answer
@@ -57,7 +57,7 @@ returns-clause-answer g c =
     subst (λ (state : EngineState g.row.A.Denot g.row.A-Val.Denot). (state.progress.over ≡ None) × IsClaimed (g.A.App.meaning state.app) state.progress c.args.pick
     (record { cells = c.take.new.self; nodes = c.mark_running.new.self; log = c.self.inside.log.entries; created = c.self.inside.created; ended = c.self.inside.ended; limit = c.self.inside.limit; over = c.self.inside.over }) (record { task = c.in_ok-task.task; bundle = c.in_ok-bundle.bundle })) c.self.view_is (
       none_where_not c.self.inside.over c.in_default.not-Some,
-      claimed (c.basis.ensures c.self.inside.app.now) _ c.self.invariant.0 c.args.pick c.in-Some-picked.node (pick_is (g.A.App.meaning c.self.inside.app.now) c.self.inside.graph c.args.pick c.look.new.self.ids.items (Some c.in-Some-picked.node) c.in_ok-look.ensures.all (sym c.in-Some-picked.is ∙ c.picked.ensures))
+      claimed (c.basis.ensures c.self.inside.app.now) _ c.self.invariant.0 c.args.pick c.in-Some-picked.node (pick_is (g.A.App.meaning c.self.inside.app.now) c.self.inside.graph c.args.pick c.look.new.self.ids (Some c.in-Some-picked.node) c.in_ok-look.ensures.all (sym c.in-Some-picked.is ∙ c.picked.ensures))
           c.task.result.now c.in_ok-task.task c.set.result.now c.in_ok-bundle.bundle c.take.new.self c.mark_running.new.self
           c.task.ensures c.in_ok-task.ensures c.set.ensures c.in_ok-bundle.ensures.bundle c.in_ok-bundle.ensures.ok c.mark_running.ensures.marked,
     )
@@ -66,13 +66,13 @@ pub returns-clause-sound : goal.returns-clause-sound
 returns-clause-sound g c =
     subst (λ (state : EngineState g.row.A.Denot g.row.A-Val.Denot). (jobs : List (Job g.row.A-Val.Denot)) (values : List g.row.A-Val.Denot) → IsSound (g.A.App.meaning state.app) state.progress jobs values
     → IsSound (g.A.App.meaning state.app) (record { cells = c.take.new.self; nodes = c.mark_running.new.self; log = c.self.inside.log.entries; created = c.self.inside.created; ended = c.self.inside.ended; limit = c.self.inside.limit; over = c.self.inside.over }) ((record { task = c.in_ok-task.task; bundle = c.in_ok-bundle.bundle }) ∷ jobs) values) c.self.view_is
-    (sound_after (c.basis.ensures c.self.inside.app.now) _ c.self.invariant.0 c.args.pick c.in-Some-picked.node (pick_is (g.A.App.meaning c.self.inside.app.now) c.self.inside.graph c.args.pick c.look.new.self.ids.items (Some c.in-Some-picked.node) c.in_ok-look.ensures.all (sym c.in-Some-picked.is ∙ c.picked.ensures))
+    (sound_after (c.basis.ensures c.self.inside.app.now) _ c.self.invariant.0 c.args.pick c.in-Some-picked.node (pick_is (g.A.App.meaning c.self.inside.app.now) c.self.inside.graph c.args.pick c.look.new.self.ids (Some c.in-Some-picked.node) c.in_ok-look.ensures.all (sym c.in-Some-picked.is ∙ c.picked.ensures))
     c.task.result.now c.in_ok-task.task c.set.result.now c.in_ok-bundle.bundle c.take.new.self c.mark_running.new.self
     c.task.ensures c.in_ok-task.ensures c.set.ensures c.in_ok-bundle.ensures.bundle c.in_ok-bundle.ensures.ok c.mark_running.ensures.marked)
 
 pub returns-clause-may_run : goal.returns-clause-may_run
 returns-clause-may_run g c =
     subst (λ (state : EngineState g.row.A.Denot g.row.A-Val.Denot). MayRun (g.A.App.meaning state.app) (record { task = c.in_ok-task.task; bundle = c.in_ok-bundle.bundle })) c.self.view_is
-    (may_run (c.basis.ensures c.self.inside.app.now) _ c.self.invariant.0 c.args.pick c.in-Some-picked.node (pick_is (g.A.App.meaning c.self.inside.app.now) c.self.inside.graph c.args.pick c.look.new.self.ids.items (Some c.in-Some-picked.node) c.in_ok-look.ensures.all (sym c.in-Some-picked.is ∙ c.picked.ensures))
+    (may_run (c.basis.ensures c.self.inside.app.now) _ c.self.invariant.0 c.args.pick c.in-Some-picked.node (pick_is (g.A.App.meaning c.self.inside.app.now) c.self.inside.graph c.args.pick c.look.new.self.ids (Some c.in-Some-picked.node) c.in_ok-look.ensures.all (sym c.in-Some-picked.is ∙ c.picked.ensures))
     c.task.result.now c.in_ok-task.task c.set.result.now c.in_ok-bundle.bundle c.take.new.self c.mark_running.new.self
     c.task.ensures c.in_ok-task.ensures c.set.ensures c.in_ok-bundle.ensures.bundle c.in_ok-bundle.ensures.ok c.mark_running.ensures.marked)
