@@ -105,6 +105,19 @@ module _ (chunks held : List (List NodeId)) (place at offset : ℕ) (chunk : Lis
   pub taken : (left : List NodeId) → left ≡ remove chunk offset → ids_in (set chunks at left) ≡ remove (ids_in chunks) place
   taken left is = ap (λ ids. ids_in (set chunks at ids)) (is ∙ ap (λ ids. remove ids offset) chunk_of) ∙ id_removed chunks place at offset is_of
 
+-- an empty chunk that is left out
+without_chunk : (chunks : List (List NodeId)) (at : ℕ) → at < length chunks → chunk_at chunks at ≡ [] → ids_in (remove chunks at) ≡ ids_in chunks
+without_chunk [] at inside none = absurd (omega (arith, inside))
+without_chunk (chunk ∷ chunks) zero inside none = ap (λ ids. ids ++ ids_in chunks) (sym none)
+without_chunk (chunk ∷ chunks) (suc at) inside none = ap (λ ids. chunk ++ ids) (without_chunk chunks at (omega (arith, inside)) none)
+
+no_ids : (chunk : List NodeId) → length chunk ≡ 0 → chunk ≡ []
+no_ids [] none = refl
+no_ids (id ∷ chunk) none = absurd (omega (arith, none))
+
+pub without_empty : (chunks : List (List NodeId)) (at : ℕ) (chunk : List NodeId) → at < length chunks → chunk ≡ get_or chunks at chunk → length chunk ≡ 0 → ids_in (remove chunks at) ≡ ids_in chunks
+without_empty chunks at chunk inside read none = without_chunk chunks at inside (sym (chunk_is chunks at chunk inside read) ∙ no_ids chunk none)
+
 pub one_less : (ids : List NodeId) (place len : ℕ) → place < length ids → len ≡ length ids → len - 1 ≡ length (remove ids place)
 one_less ids place len within is = omega (arith, length-remove ids place within, is)
 

@@ -141,6 +141,7 @@ impl IdList {
     {
         let (at, offset) = find(&self.chunks, place);
         self.chunks[at].remove(offset);
+        drop_empty(&mut self.chunks, at);
         self.len -= 1;
     }
 }
@@ -175,6 +176,16 @@ fn push_new(alloc: Global, chunks: &mut Vec<Chunk>, id: NodeId) -> Result<(), No
 {
     chunks.push(Chunk::of(alloc, id)?)?;
     Ok(())
+}
+
+/// Drops a chunk that is empty, so that no search goes over it.
+fn drop_empty(chunks: &mut Vec<Chunk>, at: usize)
+    requires { at < length chunks.old.items }
+    ensures { ids_in chunks.new.items ≡ ids_in chunks.old.items }
+{
+    if chunks[at].len() == 0 {
+        chunks.remove(at);
+    }
 }
 
 /// The chunk of a place, and the place in it.
