@@ -1,5 +1,5 @@
 -- The counts of the earlier sets in conflict, when a set comes, goes or changes.
-use Rattle.std.proofs.Common.{◌≡◌, ℕ, zero, suc, ◌+◌, ◌-◌, ◌<◌, ◌≤◌, Bool, true, false, not, ◌==◌, ◌||◌, cond, List, [], ◌∷◌, length, take, get_or, set, map, refl, sym, ◌∙◌, ap, subst, arith, add-one}
+use Rattle.std.proofs.Common.{◌≡◌, ℕ, zero, suc, ◌+◌, ◌-◌, ◌<◌, ◌≤◌, Bool, true, false, not, ◌==◌, ◌||◌, cond, List, [], ◌∷◌, length, take, get_or, set, refl, sym, ◌∙◌, ap, subst, arith, add-one}
 use Rattle.std.specs.List.{AllByRecursion, insert, list_any, remove}
 use Rattle.std.proofs.lemmas.List.Sums.{count_by-le-length, sum_by-cons}
 use Rattle.rw_sets.specs.Accesses.{Accesses, conflicts_with}
@@ -243,3 +243,11 @@ unblocked_at nodes counts at count d node inside kept here is =
     let seen : count ≡ get_or (blockers_behind [] (sets_of nodes)) at d = is ∙ ap (λ l. get_or l at d) kept in
     let whole : count ≡ clashes (take at (sets_of nodes)) (get_or (sets_of nodes) at node.set) = omega (arith, seen, own) in
     ap (λ n. n == 0) (whole ∙ (λ i. clashes (sym (sets-take at nodes) i) (set_there nodes at node here i))) ∙ none_clash (take at nodes) node.set
+
+-- one node more before a set
+pub clashes_more : (nodes : List Node) (i : ℕ) (set : Accesses) (node : Node) → i < length nodes → node ≡ get_or nodes i node → clashes (sets_of (take (suc i) nodes)) set ≡ clashes (sets_of (take i nodes)) set + cond (conflicts_with node.set set) 1 0
+clashes_more [] i set node inside here = absurd (omega (arith, inside))
+clashes_more (first ∷ nodes) zero set node inside here =
+    omega (arith, sum_by-cons (λ s. cond (conflicts_with s set) 1 0) first.set [], ap (λ (n : Node). let k : ℕ = cond (conflicts_with n.set set) 1 0 in k) here)
+clashes_more (first ∷ nodes) (suc i) set node inside here =
+    omega (arith, clashes_more nodes i set node (omega (arith, inside)) here, sum_by-cons (λ s. cond (conflicts_with s set) 1 0) first.set (sets_of (take i nodes)), sum_by-cons (λ s. cond (conflicts_with s set) 1 0) first.set (sets_of (take (suc i) nodes)))

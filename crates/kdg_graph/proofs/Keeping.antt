@@ -1,11 +1,9 @@
 -- What a list of nodes keeps, whatever is done to it.
-use Rattle.std.proofs.Common.{◌≡◌, ℕ, zero, suc, ◌+◌, ◌<◌, ◌≤◌, Bool, true, false, cond, unwrap_or, Option, Some, None, List, [], ◌∷◌, ◌++◌, length, map, get_or, set, refl, sym, ◌∙◌, ap, subst, arith}
-use Rattle.std.specs.Prelude.{MatchOption}
-use Rattle.std.specs.List.{AllByRecursion, remove}
-use Rattle.std.specs.Option.{option_map, option_to_list}
+use Rattle.std.proofs.Common.{◌≡◌, ◌≢◌, ℕ, zero, suc, Bool, true, false, cond, unwrap_or, Some, None, List, [], ◌∷◌, map, get_or, set, refl, sym, ◌∙◌, ap, subst}
+use Rattle.std.specs.List.{AllByRecursion, insert, remove}
+use Rattle.std.specs.Option.{option_map}
 use Rattle.std.specs.Ordering.{is_lt}
 use Rattle.std.proofs.lemmas.Bool.{cond_both}
-use Rattle.std.proofs.lemmas.List.{length-append, length-map}
 use Rattle.task_order.specs.declared.task.Task.{Task}
 use Rattle.task_order.specs.TaskList.{IsAscending, IsNewKey}
 use Rattle.task_order.specs.Laws.{PutsKeepAscending}
@@ -15,15 +13,11 @@ use Rattle.rw_sets.specs.Accesses.{Accesses, IsAscending as IsAscendingSet}
 use Rattle.kdg_graph.specs.declared.node_id.NodeId.{NodeId}
 use Rattle.kdg_graph.specs.declared.change.SetChange.{SetChange}
 use Rattle.kdg_graph.specs.Node.{Node}
-use Rattle.kdg_graph.specs.Nodes.{IsGraph, HaveOwnIds, HaveSets, is_at, put_node, started, tasks_of}
-use Rattle.kdg_graph.specs.NodeStock.{AreDealt, IsKept, IsPlaceOf, numbers_of}
+use Rattle.kdg_graph.specs.Nodes.{IsGraph, HaveOwnIds, HaveSets, ids_of, is_at, put_node, started, tasks_of}
+use Rattle.kdg_graph.specs.NodeStock.{IsPlaceOf}
 use Rattle.kdg_graph.specs.Rewrite.{set_after, with_sets}
 use Rattle.kdg_graph.proofs.Places.{is_at-same, id_at-place, map-place}
-use Rattle.kdg_graph.proofs.Dealing.{own_ids, dealt_again, dealt_anew, dealt_back, length-put_node, length-remove}
 use Rattle.kdg_graph.proofs.Ordering.{tasks-put_node}
-
-pub graph_from_kept : (nodes : List Node) (free : List ℕ) (capacity : ℕ) → IsKept nodes free capacity → IsGraph nodes
-graph_from_kept nodes free capacity kept = record { ascending = kept.ascending; own_ids = own_ids nodes free kept.dealt; sets = kept.sets }
 
 -- ---- a change that keeps each node's id and task
 
@@ -31,57 +25,56 @@ pub tasks-map : (f : Node → Node) → ((node : Node) → (f node).task ≡ nod
 tasks-map f keeps [] = refl
 tasks-map f keeps (node ∷ nodes) = λ i. keeps node i ∷ tasks-map f keeps nodes i
 
-pub numbers-map : (f : Node → Node) → ((node : Node) → (f node).id ≡ node.id) → (nodes : List Node) → numbers_of (map f nodes) ≡ numbers_of nodes
-numbers-map f keeps [] = refl
-numbers-map f keeps (node ∷ nodes) = λ i. (keeps node i).at ∷ numbers-map f keeps nodes i
+others_map : (f : Node → Node) → ((node : Node) → (f node).id ≡ node.id) → (first : Node) (nodes : List Node) → AllByRecursion (λ other. other.id ≢ first.id) nodes → AllByRecursion (λ other. other.id ≢ (f first).id) (map f nodes)
+others_map f keeps first [] all = tt
+others_map f keeps first (node ∷ nodes) all = ((λ same. all.0 (sym (keeps node) ∙ same ∙ keeps first)), others_map f keeps first nodes all.1)
+
+own_ids-map : (f : Node → Node) → ((node : Node) → (f node).id ≡ node.id) → (nodes : List Node) → HaveOwnIds nodes → HaveOwnIds (map f nodes)
+own_ids-map f keeps [] own = tt
+own_ids-map f keeps (node ∷ nodes) own = (others_map f keeps node nodes own.0, own_ids-map f keeps nodes own.1)
+
+pub ids-map : (f : Node → Node) → ((node : Node) → (f node).id ≡ node.id) → (nodes : List Node) → ids_of (map f nodes) ≡ ids_of nodes
+ids-map f keeps [] = refl
+ids-map f keeps (node ∷ nodes) = λ i. keeps node i ∷ ids-map f keeps nodes i
 
 sets-map : (f : Node → Node) → ((node : Node) → IsAscendingSet node.set → IsAscendingSet (f node).set) → (nodes : List Node) → HaveSets nodes → HaveSets (map f nodes)
 sets-map f keeps [] sets = tt
 sets-map f keeps (node ∷ nodes) sets = (keeps node sets.0, sets-map f keeps nodes sets.1)
 
-kept_map : (f : Node → Node) → ((node : Node) → (f node).task ≡ node.task) → ((node : Node) → (f node).id ≡ node.id) → ((node : Node) → IsAscendingSet node.set → IsAscendingSet (f node).set) → (nodes : List Node) (free : List ℕ) (capacity : ℕ) → IsKept nodes free capacity → IsKept (map f nodes) free capacity
-kept_map f keeps_task keeps_id keeps_set nodes free capacity kept = record {
-  sets = sets-map f keeps_set nodes kept.sets;
-  ascending = subst IsAscending (sym (tasks-map f keeps_task nodes)) kept.ascending;
-  dealt = subst (λ (numbers : List ℕ). AreDealt (numbers ++ free)) (sym (numbers-map f keeps_id nodes)) kept.dealt;
-  returnable = simp length-map kept.returnable;
+graph_map : (f : Node → Node) → ((node : Node) → (f node).task ≡ node.task) → ((node : Node) → (f node).id ≡ node.id) → ((node : Node) → IsAscendingSet node.set → IsAscendingSet (f node).set) → (nodes : List Node) → IsGraph nodes → IsGraph (map f nodes)
+graph_map f keeps_task keeps_id keeps_set nodes graph = record {
+  sets = sets-map f keeps_set nodes graph.sets;
+  ascending = subst IsAscending (sym (tasks-map f keeps_task nodes)) graph.ascending;
+  own_ids = own_ids-map f keeps_id nodes graph.own_ids;
 }
 
 -- ---- a node is started
 
-abbrev start : NodeId → Node → Node
+abbrev pub start : NodeId → Node → Node
 start id node = cond (is_at id node) (record node { running = true }) node
 
 start_keeps_task : (id : NodeId) (node : Node) → (start id node).task ≡ node.task
 start_keeps_task id node = elim (is_at id node) as (λ test. (let n : Node = cond test (record node { running = true }) node in n.task) ≡ node.task) [ true ↦ refl | false ↦ refl ]
 
-start_keeps_id : (id : NodeId) (node : Node) → (start id node).id ≡ node.id
+pub start_keeps_id : (id : NodeId) (node : Node) → (start id node).id ≡ node.id
 start_keeps_id id node = elim (is_at id node) as (λ test. (let n : Node = cond test (record node { running = true }) node in n.id) ≡ node.id) [ true ↦ refl | false ↦ refl ]
 
 start_keeps_set : (id : NodeId) (node : Node) → IsAscendingSet node.set → IsAscendingSet (start id node).set
 start_keeps_set id node set = elim (is_at id node) as (λ test. IsAscendingSet (let n : Node = cond test (record node { running = true }) node in n.set)) [ true ↦ set | false ↦ set ]
 
-pub kept_started : (id : NodeId) (nodes : List Node) (free : List ℕ) (capacity : ℕ) → IsKept nodes free capacity → IsKept (started id nodes) free capacity
-kept_started id = kept_map (start id) (start_keeps_task id) (start_keeps_id id) (start_keeps_set id)
+pub graph_started : (id : NodeId) (nodes : List Node) → IsGraph nodes → IsGraph (started id nodes)
+graph_started id = graph_map (start id) (start_keeps_task id) (start_keeps_id id) (start_keeps_set id)
 
 pub tasks-started : (id : NodeId) (nodes : List Node) → tasks_of (started id nodes) ≡ tasks_of nodes
 tasks-started id = tasks-map (start id) (start_keeps_task id)
 
--- the node at its place is the one that starts
-pub started-place : (id : NodeId) (nodes : List Node) (place : ℕ) (node : Node) → HaveOwnIds nodes → IsPlaceOf id nodes place → get_or nodes place node ≡ node
-    → set nodes place (record node { running = true }) ≡ started id nodes
-started-place id nodes place node own at here =
-    let is : is_at id node ≡ true = is_at-same id node (ap (λ (n : Node). n.id) (sym here) ∙ id_at-place id nodes place node at) in
-    let starts : start id (get_or nodes place node) ≡ record node { running = true } = ap (start id) here ∙ ap (λ test. cond test (record node { running = true }) node) is in
-    sym (map-place (start id) id nodes place node (λ other differs. ap (λ test. cond test (record other { running = true }) other) differs) own at ∙ ap (λ n. set nodes place n) starts)
-
 -- ---- a set is replaced
 
-abbrev changed : List SetChange → Node → Node
+abbrev pub changed : List SetChange → Node → Node
 changed changes node = record node { set = set_after changes node }
 
 -- the node with the set of a change, where it is the one that is named
-abbrev with_set_if : NodeId → Accesses → Bool → Node → Node
+abbrev pub with_set_if : NodeId → Accesses → Bool → Node → Node
 with_set_if id new test node =
     let change : SetChange = record { node = id; set = new } in
     record node { set = unwrap_or (option_map (λ (c : SetChange). c.set) (cond test (Some change) None)) node.set }
@@ -89,8 +82,8 @@ with_set_if id new test node =
 change_keeps_set : (id : NodeId) (new : Accesses) → IsAscendingSet new → (node : Node) → IsAscendingSet node.set → IsAscendingSet (changed (record { node = id; set = new } ∷ []) node).set
 change_keeps_set id new up node set = elim (is_at id node) as (λ test. IsAscendingSet (with_set_if id new test node).set) [ true ↦ up | false ↦ set ]
 
-pub kept_with_set : (id : NodeId) (new : Accesses) → IsAscendingSet new → (nodes : List Node) (free : List ℕ) (capacity : ℕ) → IsKept nodes free capacity → IsKept (with_sets (record { node = id; set = new } ∷ []) nodes) free capacity
-kept_with_set id new up = kept_map (changed (record { node = id; set = new } ∷ [])) (λ node. refl) (λ node. refl) (change_keeps_set id new up)
+pub graph_with_set : (id : NodeId) (new : Accesses) → IsAscendingSet new → (nodes : List Node) → IsGraph nodes → IsGraph (with_sets (record { node = id; set = new } ∷ []) nodes)
+graph_with_set id new up = graph_map (changed (record { node = id; set = new } ∷ [])) (λ node. refl) (λ node. refl) (change_keeps_set id new up)
 
 pub with_sets-place : (id : NodeId) (new : Accesses) (nodes : List Node) (place : ℕ) (node : Node) → HaveOwnIds nodes → IsPlaceOf id nodes place → get_or nodes place node ≡ node
     → set nodes place (record node { set = new }) ≡ with_sets (record { node = id; set = new } ∷ []) nodes
@@ -117,13 +110,27 @@ sets_left [] place sets = elim place as (λ n. HaveSets (remove [] n)) [ zero �
 sets_left (node ∷ nodes) zero sets = sets.1
 sets_left (node ∷ nodes) (suc place) sets = (sets.0, sets_left nodes place sets.1)
 
-pub kept_removed : (id : NodeId) (nodes : List Node) (place : ℕ) (free : List ℕ) (capacity more : ℕ) → IsPlaceOf id nodes place → capacity ≤ more → IsKept nodes free capacity → IsKept (remove nodes place) (free ++ id.at ∷ []) more
-kept_removed id nodes place free capacity more at grows kept = record {
-  sets = sets_left nodes place kept.sets;
-  ascending = ascending_left nodes place kept.ascending;
-  dealt = dealt_back id nodes place free at kept.dealt;
-  returnable = omega (arith, kept.returnable, length-remove id nodes place at, length-append free (id.at ∷ []));
+others_left : (first : Node) (nodes : List Node) (place : ℕ) → AllByRecursion (λ other. other.id ≢ first.id) nodes → AllByRecursion (λ other. other.id ≢ first.id) (remove nodes place)
+others_left first [] place all = elim place as (λ n. AllByRecursion (λ (other : Node). other.id ≢ first.id) (remove [] n)) [ zero ↦ tt | suc n ↦ tt ]
+others_left first (node ∷ nodes) zero all = all.1
+others_left first (node ∷ nodes) (suc place) all = (all.0, others_left first nodes place all.1)
+
+own_ids_left : (nodes : List Node) (place : ℕ) → HaveOwnIds nodes → HaveOwnIds (remove nodes place)
+own_ids_left [] place own = elim place as (λ n. HaveOwnIds (remove [] n)) [ zero ↦ tt | suc n ↦ tt ]
+own_ids_left (node ∷ nodes) zero own = own.1
+own_ids_left (node ∷ nodes) (suc place) own = (others_left node nodes place own.0, own_ids_left nodes place own.1)
+
+pub graph_removed : (nodes : List Node) (place : ℕ) → IsGraph nodes → IsGraph (remove nodes place)
+graph_removed nodes place graph = record {
+  sets = sets_left nodes place graph.sets;
+  ascending = ascending_left nodes place graph.ascending;
+  own_ids = own_ids_left nodes place graph.own_ids;
 }
+
+pub ids-remove : (nodes : List Node) (place : ℕ) → ids_of (remove nodes place) ≡ remove (ids_of nodes) place
+ids-remove [] place = elim place as (λ n. ids_of (remove [] n) ≡ remove [] n) [ zero ↦ refl | suc n ↦ refl ]
+ids-remove (node ∷ nodes) zero = refl
+ids-remove (node ∷ nodes) (suc place) = ap (λ rest. node.id ∷ rest) (ids-remove nodes place)
 
 -- ---- a node is put in
 
@@ -135,19 +142,27 @@ sets_put node [] set sets = (set, tt)
 sets_put node (other ∷ nodes) set sets =
     cond_both (is_lt (key_cmp other.task.key node.task.key)) (other ∷ put_node node nodes) (node ∷ other ∷ nodes) HaveSets (λ _. (sets.0, sets_put node nodes set sets.1)) (λ _. (set, sets))
 
--- its id has the number that was free last, or else the next number
-pub kept_put : PutsKeepAscending → (node : Node) (nodes : List Node) (free : List ℕ) (last : Option ℕ) (capacity : ℕ) → IsNewKey node.task.key (tasks_of nodes) → IsAscendingSet node.set → node.id.at ≡ unwrap_or last (length nodes)
-    → MatchOption last (free ≡ []) (λ _. Unit {0}) → length nodes + length (free ++ option_to_list last) < capacity → IsKept nodes (free ++ option_to_list last) capacity → IsKept (put_node node nodes) free capacity
-kept_put keeps node nodes free None capacity new set is none room kept =
-    subst (λ (l : List ℕ). IsKept (put_node node nodes) l capacity) (sym none) (record {
-      ascending = ascending_put keeps node nodes new kept.ascending;
-      sets = sets_put node nodes set kept.sets;
-      dealt = dealt_anew node nodes is (subst (λ (l : List ℕ). AreDealt (numbers_of nodes ++ (l ++ []))) none kept.dealt);
-      returnable = omega (arith, room, length-put_node node nodes, length-append free []);
-    })
-kept_put keeps node nodes free (Some number) capacity new set is none room kept = record {
-  ascending = ascending_put keeps node nodes new kept.ascending;
-  sets = sets_put node nodes set kept.sets;
-  dealt = dealt_again node nodes free (subst (λ n. AreDealt (numbers_of nodes ++ (free ++ n ∷ []))) (sym is) kept.dealt);
-  returnable = omega (arith, kept.returnable, length-put_node node nodes, length-append free (number ∷ []));
+others_put : (first node : Node) (nodes : List Node) → node.id ≢ first.id → AllByRecursion (λ other. other.id ≢ first.id) nodes → AllByRecursion (λ other. other.id ≢ first.id) (put_node node nodes)
+others_put first node [] differs all = (differs, tt)
+others_put first node (other ∷ nodes) differs all =
+    cond_both (is_lt (key_cmp other.task.key node.task.key)) (other ∷ put_node node nodes) (node ∷ other ∷ nodes) (AllByRecursion (λ (n : Node). n.id ≢ first.id))
+    (λ _. (all.0, others_put first node nodes differs all.1)) (λ _. (differs, all))
+
+own_ids_put : (node : Node) (nodes : List Node) → AllByRecursion (λ other. other.id ≢ node.id) nodes → HaveOwnIds nodes → HaveOwnIds (put_node node nodes)
+own_ids_put node [] differ own = (tt, tt)
+own_ids_put node (other ∷ nodes) differ own =
+    cond_both (is_lt (key_cmp other.task.key node.task.key)) (other ∷ put_node node nodes) (node ∷ other ∷ nodes) HaveOwnIds
+    (λ _. (others_put other node nodes (λ same. differ.0 (sym same)) own.0, own_ids_put node nodes differ.1 own.1)) (λ _. (differ, own))
+
+-- its id is no other node's
+pub graph_put : PutsKeepAscending → (node : Node) (nodes : List Node) → IsNewKey node.task.key (tasks_of nodes) → IsAscendingSet node.set → AllByRecursion (λ other. other.id ≢ node.id) nodes → IsGraph nodes → IsGraph (put_node node nodes)
+graph_put keeps node nodes new set differ graph = record {
+  ascending = ascending_put keeps node nodes new graph.ascending;
+  sets = sets_put node nodes set graph.sets;
+  own_ids = own_ids_put node nodes differ graph.own_ids;
 }
+
+pub ids-insert : (nodes : List Node) (place : ℕ) (node : Node) → ids_of (insert nodes place node) ≡ insert (ids_of nodes) place node.id
+ids-insert [] place node = elim place as (λ n. ids_of (insert [] n node) ≡ insert [] n node.id) [ zero ↦ refl | suc n ↦ refl ]
+ids-insert (other ∷ nodes) zero node = refl
+ids-insert (other ∷ nodes) (suc place) node = ap (λ rest. other.id ∷ rest) (ids-insert nodes place node)

@@ -1,6 +1,6 @@
 pub mod Places
-pub mod Dealing
 pub mod Ordering
+pub mod Lanes
 pub mod Keeping
 pub mod FreshTasks
 pub mod Rewriting
@@ -10,3 +10,4 @@ pub mod LookUps
 pub mod Neighbours
 pub mod Rewritten
 pub mod Counting
+pub mod Storing

@@ -1,9 +1,8 @@
 -- Nodes in key order.
-use Rattle.std.proofs.Common.{◌≡◌, ℕ, zero, suc, ◌+◌, ◌<◌, ◌≤◌, Bool, true, false, cond, List, [], ◌∷◌, length, take, drop, get_or, Option, Some, None, refl, sym, ◌∙◌, ap, subst, arith, add-one, add-zero, ◌-◌, not, ◌&&◌, ◌==◌}
+use Rattle.std.proofs.Common.{◌≡◌, ℕ, zero, suc, ◌+◌, ◌<◌, ◌≤◌, Bool, true, false, cond, List, [], ◌∷◌, length, take, drop, get_or, Option, Some, None, refl, sym, ◌∙◌, ap, subst, arith, add-one, not, ◌&&◌, ◌==◌}
 use Rattle.std.specs.List.{AllByRecursion, filter, insert, list_any}
 use Rattle.std.specs.Cmp.{tied_itself}
 use Rattle.std.proofs.Math.Seq.{drop-cons}
-use Rattle.std.proofs.lemmas.List.{get_or-drop, length-drop, take_all}
 use Rattle.std.specs.List.Sorted.{IsPartitionedBy, IsPartitionPoint}
 use Rattle.std.specs.declared.cmp.Ordering.{Ordering}
 use Rattle.std.specs.declared.cmp.Ordering.TheVariants.{Less, Equal, Greater}
@@ -18,6 +17,7 @@ use Rattle.rw_sets.specs.Accesses.{conflicts_with}
 use Rattle.kdg_graph.specs.Edges.{is_source, laters_of}
 use Rattle.kdg_graph.specs.Blockers.{IsCounted}
 use Rattle.kdg_graph.proofs.Counting.{unblocked_at}
+use Rattle.kdg_graph.proofs.Places.{get_or-there}
 
 -- the tasks of the nodes with one more
 pub tasks-put_node : (node : Node) (nodes : List Node) → tasks_of (put_node node nodes) ≡ put_in node.task (tasks_of nodes)
@@ -113,7 +113,7 @@ no_key_past_all key (node ∷ nodes) (suc place) beyond point =
 turned : (a b : Key) → key_cmp a b ≡ Less → is_lt (key_cmp b a) ≡ false
 turned a b earlier = ap is_lt (key_cmp_total.antisymm b a ∙ ap ordering_reverse earlier)
 
-not_itself : (key : Key) → is_lt (key_cmp key key) ≡ false
+pub not_itself : (key : Key) → is_lt (key_cmp key key) ≡ false
 not_itself key = ap is_lt (tied_itself key_cmp_total key)
 
 filter-none : (p : Node → Bool) (nodes : List Node) → AllByRecursion (λ node. p node ≡ false) nodes → filter p nodes ≡ []
@@ -170,19 +170,15 @@ source_at nodes at node inside up here =
     let before : earlier_than node.task.key nodes ≡ take at nodes = ap (λ (n : Node). earlier_than n.task.key nodes) here ∙ earlier_than-place nodes at node inside up in
     ap (λ earlier. not node.running && not (list_any (λ other. conflicts_with other.set node.set) earlier)) before
 
--- the sources from a place on begin with the node there, where it is one
-pub sources_step : (nodes : List Node) (at : ℕ) (node : Node) (test : Bool) → at < length nodes → node ≡ get_or nodes at node → is_source nodes node ≡ test
-    → ids_of (filter (is_source nodes) (drop at nodes)) ≡ cond test (node.id ∷ ids_of (filter (is_source nodes) (drop (at + 1) nodes))) (ids_of (filter (is_source nodes) (drop (at + 1) nodes)))
-sources_step nodes at node test inside here is =
+-- the nodes from a place on that pass a test begin with the node there, where it does
+pub passing_step : (p : Node → Bool) (nodes : List Node) (at : ℕ) (node : Node) (test : Bool) → at < length nodes → node ≡ get_or nodes at node → p node ≡ test
+    → ids_of (filter p (drop at nodes)) ≡ cond test (node.id ∷ ids_of (filter p (drop (at + 1) nodes))) (ids_of (filter p (drop (at + 1) nodes)))
+passing_step p nodes at node test inside here is =
     let rest = drop (at + 1) nodes in
     let cut : drop at nodes ≡ get_or nodes at node ∷ rest = rw add-one (drop-cons nodes at node inside) in
-    ap (λ l. ids_of (filter (is_source nodes) l)) (cut ∙ ap (λ n. n ∷ rest) (sym here))
-    ∙ ap (λ b. ids_of (cond b (node ∷ filter (is_source nodes) rest) (filter (is_source nodes) rest))) is
-    ∙ elim test as (λ b. ids_of (cond b (node ∷ filter (is_source nodes) rest) (filter (is_source nodes) rest)) ≡ cond b (node.id ∷ ids_of (filter (is_source nodes) rest)) (ids_of (filter (is_source nodes) rest))) [ true ↦ refl | false ↦ refl ]
-
--- the first node from a place on is the one there
-pub node_from : (nodes from : List Node) (at : ℕ) (node : Node) → from ≡ drop at nodes → node ≡ get_or from 0 node → node ≡ get_or nodes at node
-node_from nodes from at node back here = here ∙ ap (λ (l : List Node). get_or l 0 node) back ∙ get_or-drop at nodes 0 node ∙ ap (λ n. get_or nodes n node) (add-zero at)
+    ap (λ l. ids_of (filter p l)) (cut ∙ ap (λ n. n ∷ rest) (sym here))
+    ∙ ap (λ b. ids_of (cond b (node ∷ filter p rest) (filter p rest))) is
+    ∙ elim test as (λ b. ids_of (cond b (node ∷ filter p rest) (filter p rest)) ≡ cond b (node.id ∷ ids_of (filter p rest)) (ids_of (filter p rest))) [ true ↦ refl | false ↦ refl ]
 
 -- one step of that walk
 pub next_source : (nodes current : List Node) (all counts : List ℕ) (at count d : ℕ) (node : Node) (test : Bool) → current ≡ nodes → counts ≡ all → node ≡ get_or current at node → count ≡ get_or counts at d → at < length current
@@ -194,18 +190,14 @@ next_source nodes current all counts at count d node test same same_counts here 
     let none = unblocked_at nodes counts at count d node in_nodes (same_counts ∙ is_counted.counted) found seen in
     let source : is_source nodes node ≡ test =
     source_at nodes at node in_nodes is_counted.ascending found ∙ sym (is ∙ ap (λ b. not node.running && b) none) in
-    sources_step nodes at node test in_nodes found source
+    passing_step (is_source nodes) nodes at node test in_nodes found source
 
 -- ---- the later nodes in conflict
 
--- all but the first
-pub rest_whole : (nodes : List Node) → take (length nodes - 1) (drop 1 nodes) ≡ drop 1 nodes
-rest_whole nodes = take_all (length nodes - 1) (drop 1 nodes) (omega (arith, length-drop 1 nodes))
-
-pub laters_at : (nodes from later : List Node) (at : ℕ) (node : Node) → IsAscending (tasks_of nodes) → at < length nodes → from ≡ drop at nodes → later ≡ drop 1 from → node ≡ get_or from 0 node
-    → ids_of (filter (λ other. conflicts_with node.set other.set) later) ≡ laters_of nodes node
-laters_at nodes from later at node up inside back rest here =
-    let found : node ≡ get_or nodes at node = node_from nodes from at node back here in
-    let behind : later ≡ later_than node.task.key nodes =
-    rest ∙ ap (drop 1) (back ∙ drop-cons nodes at node inside) ∙ sym (ap (λ (n : Node). later_than n.task.key nodes) found ∙ later_than-place nodes at node inside up) in
-    ap (λ l. ids_of (filter (λ other. conflicts_with node.set other.set) l)) behind
+-- they are behind the node's place
+pub laters_behind : (nodes : List Node) (place : ℕ) (node other : Node) → IsAscending (tasks_of nodes) → place < length nodes → node ≡ get_or nodes place node → other ≡ get_or nodes place other
+    → ids_of (filter (λ later. conflicts_with other.set later.set) (drop (place + 1) nodes)) ≡ laters_of nodes node
+laters_behind nodes place node other up inside here is =
+    let same : other ≡ node = is ∙ get_or-there nodes place other node inside ∙ sym here in
+    let behind : drop (suc place) nodes ≡ later_than node.task.key nodes = sym (ap (λ (n : Node). later_than n.task.key nodes) here ∙ later_than-place nodes place node inside up) in
+    rw add-one (λ i. ids_of (filter (λ (later : Node). conflicts_with (same i).set later.set) (behind i)))

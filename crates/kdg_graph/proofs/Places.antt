@@ -1,12 +1,9 @@
 -- The place of a node by its id, and what a change there does.
-use Rattle.std.proofs.Common.{◌≡◌, ◌≢◌, ℕ, zero, suc, ◌+◌, ◌<◌, Bool, true, false, not, cond, List, [], ◌∷◌, length, map, get_or, set, Some, None, refl, sym, ◌∙◌, ap, arith, eqb-true, eq-eqb}
-use Rattle.std.specs.Prelude.{IsSome, position}
-use Rattle.std.specs.List.{AllByRecursion, remove, prefix_len}
-use Rattle.std.proofs.lemmas.Bool.{cond_both}
-use Rattle.std.proofs.lemmas.List.Quantifiers.{position-Some}
+use Rattle.std.proofs.Common.{◌≡◌, ◌≢◌, ℕ, zero, suc, ◌<◌, Bool, true, false, not, cond, List, [], ◌∷◌, length, map, get_or, set, Some, refl, sym, ◌∙◌, ap, arith, eqb-true, eq-eqb}
+use Rattle.std.specs.List.{AllByRecursion, remove}
 use Rattle.kdg_graph.specs.declared.node_id.NodeId.{NodeId}
 use Rattle.kdg_graph.specs.Node.{Node}
-use Rattle.kdg_graph.specs.Nodes.{HasNode, HaveOwnIds, is_at, node_at}
+use Rattle.kdg_graph.specs.Nodes.{HaveOwnIds, is_at, node_at}
 use Rattle.kdg_graph.specs.NodeStock.{IsPlaceOf}
 use Rattle.kdg_graph.specs.Rewrite.{without}
 
@@ -24,34 +21,6 @@ not_at_by id node false is differ = refl
 
 pub not_at : (id : NodeId) (node : Node) → node.id ≢ id → is_at id node ≡ false
 not_at id node differ = not_at_by id node _ refl differ
-
--- ---- finding the place
-
-place_from : (id : NodeId) (nodes : List Node) (place : ℕ) (d : Node) → place < length nodes → is_at id (get_or nodes place d) ≡ true → ((k : ℕ) → k < place → is_at id (get_or nodes k d) ≡ false) → IsPlaceOf id nodes place
-place_from id [] place d inside here before = absurd (omega (arith, inside))
-place_from id (node ∷ nodes) zero d inside here before = here
-place_from id (node ∷ nodes) (suc place) d inside here before =
-    (before 0 (omega arith), place_from id nodes place d (omega (arith, inside)) here (λ k below. before (suc k) (omega (arith, below))))
-
-pub place_from_position : (id : NodeId) (nodes : List Node) (place : ℕ) → position (is_at id) nodes ≡ Some place → IsPlaceOf id nodes place
-place_from_position id [] place is = cc
-place_from_position id (node ∷ nodes) place is =
-    let first = position-Some (is_at id) (node ∷ nodes) place node is in
-    place_from id (node ∷ nodes) place node first.0 first.1 first.2
-
-prefix_below : (id : NodeId) (nodes : List Node) → HasNode nodes id → prefix_len (λ node. not (is_at id node)) nodes < length nodes
-prefix_below id [] has = cc
-prefix_below id (node ∷ nodes) has =
-    let by_case : (test : Bool) → IsSome (cond test (Some node) (node_at nodes id)) → cond (not test) (1 + prefix_len (λ other. not (is_at id other)) nodes) 0 < length (node ∷ nodes) = elim [
-      | true ↦ λ _. omega arith
-      | false ↦ λ rest. omega (arith, prefix_below id nodes rest)
-    ] in
-    by_case (is_at id node) has
-
-pub has_position : (id : NodeId) (nodes : List Node) → HasNode nodes id → IsSome (position (is_at id) nodes)
-has_position id nodes has =
-    let place = prefix_len (λ node. not (is_at id node)) nodes in
-    cond_both _ (Some place) None IsSome (λ _. refl) (λ beyond. absurd (grind (arith, prefix_below id nodes has, beyond)))
 
 pub place_inside : (id : NodeId) (nodes : List Node) (place : ℕ) → IsPlaceOf id nodes place → place < length nodes
 place_inside id [] place at = absurd at
@@ -97,3 +66,9 @@ pub map-place : (f : Node → Node) (id : NodeId) (nodes : List Node) (place : �
 map-place f id [] place d keeps own at = absurd at
 map-place f id (node ∷ nodes) zero d keeps own at = ap (λ rest. f node ∷ rest) (map_none f id nodes keeps (none_at node.id id nodes (same_id id node at) own.0))
 map-place f id (node ∷ nodes) (suc place) d keeps own at = λ i. keeps node at.0 i ∷ map-place f id nodes place d keeps own.1 at.1 i
+
+-- a place of the list has one node
+pub get_or-there : (nodes : List Node) (place : ℕ) (d e : Node) → place < length nodes → get_or nodes place d ≡ get_or nodes place e
+get_or-there [] place d e inside = absurd (omega (arith, inside))
+get_or-there (node ∷ nodes) zero d e inside = refl
+get_or-there (node ∷ nodes) (suc place) d e inside = get_or-there nodes place d e (omega (arith, inside))

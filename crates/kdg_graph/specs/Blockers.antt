@@ -3,7 +3,7 @@ use Rattle.std.specs.Prelude.{◌≡◌, ℕ, zero, suc, ◌+◌, ◌-◌, if◌
 use Rattle.rw_sets.specs.Accesses.{Accesses, conflicts_with}
 use Rattle.task_order.specs.TaskList.{IsAscending}
 use Rattle.kdg_graph.specs.Node.{Node}
-use Rattle.kdg_graph.specs.Nodes.{tasks_of}
+use Rattle.kdg_graph.specs.Nodes.{IsGraph, tasks_of}
 
 -- the recorded sets of the nodes
 abbrev pub sets_of : List Node → List Accesses
@@ -37,4 +37,9 @@ lowered = adjusted (λ count. count - 1)
 -- the nodes ascend, and the earlier ones in conflict with each are counted
 pub record IsCounted (nodes : List Node) (counts : List ℕ) : Type 0 where
   pub ascending : IsAscending (tasks_of nodes)
+  pub counted : counts ≡ blockers_of (sets_of nodes)
+
+-- what holds of every graph's nodes, and the same count
+pub record IsWatched (nodes : List Node) (counts : List ℕ) : Type 0 where
+  pub graph : IsGraph nodes
   pub counted : counts ≡ blockers_of (sets_of nodes)

@@ -4,5 +4,6 @@ pub mod Edges
 pub mod Rewrite
 pub mod Listing
 pub mod Laws
+pub mod Lanes
 pub mod Blockers
 pub mod NodeStock

@@ -8,7 +8,7 @@ ghost use Rattle.kdg_graph.specs.Rewrite.{AreChangesOf, HaveNewKeys, IsRewritten
 
 use crate::entry::Entry;
 use crate::listing::list_all;
-use crate::node_list::{NodeList, id_with_key, place_of};
+use crate::node_list::NodeList;
 use crate::{Fresh, Laters, NodeId, SetChange, Sources};
 use rw_sets::RwSet;
 use std::alloc::Global;
@@ -18,9 +18,9 @@ use task_order::{Key, Task, TaskList, key_order, put_in_laws, without_laws};
 /// Pending tasks in the order of their keys. Each is a node, with an id, a recorded set, and a mark
 /// where the task is running.
 ///
-/// For each node the graph counts the earlier nodes in conflict with it, so that the sources are
-/// kept and not searched: a node that comes, goes or changes its set is compared with each other
-/// node once.
+/// A node is found by its id at once, and by its key in the logarithm of their number. For each node
+/// the graph counts the earlier nodes in conflict with it, so that the sources are kept and not
+/// searched: a node that comes, goes or changes its set is compared with each other node once.
 #[derive(Drop)]
 pub struct Graph {
     nodes: NodeList,
@@ -118,7 +118,7 @@ impl Graph {
         ensures sources { result ≡ sources_of self.now }
         ensures graph { IsGraph self.now }
     {
-        Sources::of(self.nodes.entries(), self.nodes.counts())
+        Sources::of(self.nodes.nodes(), self.nodes.counts())
     }
 
     /// The later nodes whose recorded sets conflict with that of a node.
@@ -127,9 +127,8 @@ impl Graph {
         ensures laters { IfSome (node_at self.now node) (λ of. result ≡ laters_of self.now of) }
         ensures graph { IsGraph self.now }
     {
-        let entries = self.nodes.entries();
-        let (_, from) = entries.split_at(place_of(entries, node));
-        Laters::of(&from[0], &from[1..])
+        let nodes = self.nodes.nodes();
+        Laters::of(nodes, nodes.place_of(node))
     }
 
     /// The earliest node.
@@ -139,7 +138,7 @@ impl Graph {
         ensures empty { IfNone result (self.now ≡ []) }
         ensures graph { IsGraph self.now }
     {
-        self.nodes.entries().first().map(|entry| entry.id)
+        self.nodes.nodes().least()
     }
 
     /// The node whose task has the key.
@@ -150,7 +149,7 @@ impl Graph {
         ensures graph { IsGraph self.now }
     {
         key_order();
-        id_with_key(self.nodes.entries(), key)
+        self.nodes.nodes().find(key)
     }
 
     /// The task of a node.
@@ -193,7 +192,6 @@ impl Graph {
         requires { HasNode self.now node }
         ensures { node_at self.now node ≡ Some result.now }
     {
-        let entries = self.nodes.entries();
-        &entries[place_of(entries, node)]
+        self.nodes.nodes().entry(node)
     }
 }

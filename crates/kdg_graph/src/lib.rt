@@ -6,10 +6,12 @@ mod blockers;
 mod change;
 mod entry;
 mod graph;
+mod lane;
 mod laws;
 mod listing;
 mod node_id;
 mod node_list;
+mod ordered_nodes;
 mod walk;
 
 pub use change::{Fresh, SetChange};

@@ -1,40 +1,37 @@
-ghost use Rattle.std.specs.Prelude.{◌≡◌, ◌+◌, ◌<◌, ◌≤◌, [], ◌∷◌, Some, OnOk, length, position};
+ghost use Rattle.std.specs.Prelude.{◌≡◌, ◌+◌, ◌<◌, ◌≤◌, [], ◌∷◌, Some, OnOk, length};
 ghost use Rattle.std.specs.List.{AllByRecursion};
-ghost use Rattle.std.specs.Option.{option_map};
-ghost use Rattle.task_order.specs.TaskList.{IsAscending, IsNewKey};
+ghost use Rattle.task_order.specs.TaskList.{IsNewKey};
 ghost use Rattle.kdg_graph.specs.Node.{new_node};
-ghost use Rattle.kdg_graph.specs.Nodes.{IsGraph, HasNode, is_at, node_with_key, put_node, started, task_at, tasks_of};
-ghost use Rattle.kdg_graph.specs.NodeStock.{IsPlaceOf};
+ghost use Rattle.kdg_graph.specs.Nodes.{IsGraph, HasNode, put_node, started, task_at, tasks_of};
 ghost use Rattle.kdg_graph.specs.Blockers.{IsCounted};
 ghost use Rattle.kdg_graph.specs.Rewrite.{AreAdded, AreOfOwnNodes, HaveNewKeys, without, with_sets};
 
 use crate::blockers::Blockers;
-use crate::entry::Entry;
+use crate::ordered_nodes::OrderedNodes;
 use crate::{Fresh, NodeId, SetChange};
 use kdg_text::NoRoom;
 use rw_sets::RwSet;
 use std::alloc::Global;
 use std::marker::Model;
-use task_order::{Key, Task, put_in_laws};
+use task_order::Task;
 
-/// The nodes of a graph in key order, the numbers of ids that are free again, and how many earlier
-/// nodes each is in conflict with.
+/// The nodes of a graph, and how many earlier nodes each is in conflict with.
 #[derive(Drop)]
 pub(crate) struct NodeList {
-    entries: Vec<Entry>,
-    free: Vec<usize>,
+    nodes: OrderedNodes,
     blockers: Blockers,
 }
 
 impl Model for NodeList {
-    ghost use Rattle.std.specs.Prelude.{◌+◌, ◌-◌, vec_len, vec_capacity};
-    ghost use Rattle.kdg_graph.specs.NodeStock.{NodeStock, IsWatched};
+    ghost use Rattle.std.specs.Prelude.{◌-◌, vec_len, vec_capacity};
+    ghost use Rattle.kdg_graph.specs.NodeStock.{NodeStock};
+    ghost use Rattle.kdg_graph.specs.Blockers.{IsWatched};
 
     ghost Value = { NodeStock };
 
-    ghost view = { λ l. record { nodes = l.entries.items; places = vec_capacity l.entries - vec_len l.entries; numbers = vec_capacity l.free - (vec_len l.entries + vec_len l.free); counters = vec_capacity l.blockers.counts - vec_len l.blockers.counts } };
+    ghost view = { λ l. record { nodes = l.nodes.nodes; places = l.nodes.places; numbers = l.nodes.numbers; counters = vec_capacity l.blockers.counts - vec_len l.blockers.counts } };
 
-    ghost invariant = { λ l. IsWatched l.entries.items l.free.items (vec_capacity l.free) l.blockers.counts.items };
+    ghost invariant = { λ l. IsWatched l.nodes.nodes l.blockers.counts.items };
 }
 
 impl NodeList {
@@ -43,18 +40,17 @@ impl NodeList {
         ensures { result.nodes ≡ [] }
     {
         NodeList {
-            entries: Vec::new(alloc),
-            free: Vec::new(alloc),
+            nodes: OrderedNodes::new(alloc),
             blockers: Blockers::new(alloc),
         }
     }
 
-    /// The nodes, in key order.
-    pub(crate) fn entries(&self) -> &[Entry]
-        ensures all { result.now ≡ self.now.nodes }
+    /// The nodes.
+    pub(crate) fn nodes(&self) -> &OrderedNodes
+        ensures all { result.now.nodes ≡ self.now.nodes }
         ensures graph { IsGraph self.now.nodes }
     {
-        &self.entries
+        &self.nodes
     }
 
     /// How many earlier nodes each node is in conflict with, in key order.
@@ -71,11 +67,8 @@ impl NodeList {
         ensures counters { OnOk result (additional ≤ self.new.counters) }
         ensures nodes { self.new.nodes ≡ self.old.nodes }
     {
-        let numbers = additional.checked_add(self.entries.len()).ok_or(NoRoom)?;
-        self.free.reserve(numbers)?;
-        self.entries.reserve(additional)?;
-        self.blockers.reserve(additional)?;
-        Ok(())
+        self.nodes.reserve(additional)?;
+        self.blockers.reserve(additional)
     }
 
     /// Puts a node at its place, where `reserve` made room. It takes no memory.
@@ -91,24 +84,9 @@ impl NodeList {
         ensures counters { self.old.counters ≤ self.new.counters + 1 }
         ensures graph { IsGraph self.new.nodes }
     {
-        put_in_laws();
-        let _ascending = set.items();
-        let at = self.free.pop().unwrap_or(self.entries.len());
-        let id = NodeId { at };
-        let place = self
-            .entries
-            .partition_point(|entry| entry.task.key.compare(&task.key).is_lt());
-        self.blockers.enter(&self.entries, place, &set);
-        let entry = Entry {
-            id,
-            task,
-            set,
-            running: false,
-        };
-        match self.entries.insert(place, entry) {
-            Ok(()) => id,
-            Err(_) => unreachable!(),
-        }
+        let place = self.nodes.rank(&task.key);
+        self.blockers.enter(&self.nodes, place, &set);
+        self.nodes.put(place, task, set)
     }
 
     /// Takes a node out and gives its task. It takes no memory.
@@ -121,13 +99,10 @@ impl NodeList {
         ensures counters { self.old.counters ≤ self.new.counters }
         ensures graph { IsGraph self.new.nodes }
     {
-        let place = place_of(&self.entries, id);
-        self.blockers.leave(&self.entries, place);
-        let entry = self.entries.remove(place);
-        match self.free.push(id.at) {
-            Ok(()) => entry.task,
-            Err(_) => unreachable!(),
-        }
+        let place = self.nodes.place_of(id);
+        self.blockers.leave(&self.nodes, place);
+        let node = self.nodes.remove(place);
+        node.task
     }
 
     /// Replaces the set of a node.
@@ -139,11 +114,9 @@ impl NodeList {
         ensures counters { self.old.counters ≤ self.new.counters }
         ensures graph { IsGraph self.new.nodes }
     {
-        let _ascending = set.items();
-        let place = place_of(&self.entries, id);
-        self.blockers.exchange(&self.entries, place, &set);
-        let named = &mut self.entries[place];
-        named.set = set;
+        let place = self.nodes.place_of(id);
+        self.blockers.exchange(&self.nodes, place, &set);
+        self.nodes.set_set(id, set);
     }
 
     /// Replaces the sets that are named.
@@ -183,41 +156,6 @@ impl NodeList {
         ensures nodes { self.new.nodes ≡ started id self.old.nodes }
         ensures graph { IsGraph self.new.nodes }
     {
-        let place = place_of(&self.entries, id);
-        let entry = &mut self.entries[place];
-        entry.running = true;
+        self.nodes.mark_running(id);
     }
-}
-
-/// The place of a node in the list.
-pub(crate) fn place_of(entries: &[Entry], id: NodeId) -> usize
-    requires { HasNode entries.now id }
-    ensures place { IsPlaceOf id entries.now result }
-    ensures inside { result < length entries.now }
-{
-    position_of(entries, id).unwrap()
-}
-
-/// The id of the node whose task has the key, found by halving.
-pub(crate) fn id_with_key(entries: &[Entry], key: &Key) -> Option<NodeId>
-    requires { IsAscending (tasks_of entries.now) }
-    ensures { result ≡ option_map (λ node. node.id) (node_with_key entries.now key.now) }
-{
-    let place = entries.partition_point(|entry| entry.task.key.compare(key).is_lt());
-    if place == entries.len() {
-        return None;
-    }
-    let entry = &entries[place];
-    if entry.task.key.compare(key).is_eq() {
-        Some(entry.id)
-    } else {
-        None
-    }
-}
-
-/// The place of the first node with an id.
-fn position_of(entries: &[Entry], id: NodeId) -> Option<usize>
-    ensures { result ≡ position (is_at id) entries.now }
-{
-    entries.iter().position(|entry| entry.id.at == id.at)
 }

@@ -1,20 +1,19 @@
-ghost use Rattle.std.specs.Prelude.{◌≡◌, ◌==◌, not, ◌&&◌};
-ghost use Rattle.std.specs.List.{filter};
+ghost use Rattle.std.specs.Prelude.{◌≡◌, ◌==◌, ◌<◌, not, ◌&&◌, length, slice_index_or};
 ghost use Rattle.std.specs.Iterator.{YieldsFirst, item_count};
-ghost use Rattle.kdg_graph.specs.Nodes.{ids_of};
+ghost use Rattle.kdg_graph.specs.Node.{Node};
 ghost use Rattle.kdg_graph.specs.Blockers.{IsCounted};
-ghost use Rattle.kdg_graph.specs.Edges.{sources_of};
-ghost use Rattle.rw_sets.specs.Accesses.{conflicts_with};
+ghost use Rattle.kdg_graph.specs.Edges.{laters_of, sources_of};
 
 use crate::NodeId;
 use crate::entry::Entry;
+use crate::ordered_nodes::OrderedNodes;
 use rw_sets::RwSet;
 use std::marker::Model;
 
 /// The ids of the sources of a graph, in key order, seen as the list of those that are left.
 #[derive(Drop)]
 pub struct Sources<'g> {
-    nodes: &'g [Entry],
+    nodes: &'g OrderedNodes,
     counts: &'g [usize],
     at: usize,
 }
@@ -28,17 +27,17 @@ impl<'g> Model for Sources<'g> {
 
     ghost Value = { List NodeId };
 
-    ghost view = { λ s. ids_of (filter (is_source s.nodes.now) (drop s.at s.nodes.now)) };
+    ghost view = { λ s. ids_of (filter (is_source s.nodes.now.nodes) (drop s.at s.nodes.now.nodes)) };
 
-    ghost invariant = { λ s. IsCounted s.nodes.now s.counts.now };
+    ghost invariant = { λ s. IsCounted s.nodes.now.nodes s.counts.now };
 }
 
 impl<'g> Sources<'g> {
     /// The sources among the nodes of a graph, where the earlier ones in conflict with each are
     /// counted.
-    pub(crate) fn of(nodes: &'g [Entry], counts: &'g [usize]) -> Sources<'g>
-        requires { IsCounted nodes.now counts.now }
-        ensures { result ≡ sources_of nodes.now }
+    pub(crate) fn of(nodes: &'g OrderedNodes, counts: &'g [usize]) -> Sources<'g>
+        requires { IsCounted nodes.now.nodes counts.now }
+        ensures { result ≡ sources_of nodes.now.nodes }
     {
         Sources {
             nodes,
@@ -57,7 +56,7 @@ impl<'g> Iterator for Sources<'g> {
 
     fn next(&mut self) -> Option<NodeId> {
         while self.at < self.nodes.len() {
-            let node = &self.nodes[self.at];
+            let node = self.nodes.at(self.at);
             let blockers = self.counts[self.at];
             self.at += 1;
             if can_start(node, blockers) {
@@ -79,29 +78,34 @@ fn can_start(node: &Entry, blockers: usize) -> bool
 /// seen as the list of those that are left.
 #[derive(Drop)]
 pub struct Laters<'g> {
+    nodes: &'g OrderedNodes,
     set: &'g RwSet,
-    later: &'g [Entry],
+    at: usize,
 }
 
 impl<'g> Model for Laters<'g> {
-    ghost use Rattle.std.specs.Prelude.{List, filter};
+    ghost use Rattle.std.specs.Prelude.{List, drop, filter};
     ghost use Rattle.kdg_graph.specs.declared.node_id.NodeId.{NodeId};
     ghost use Rattle.rw_sets.specs.Accesses.{conflicts_with};
     ghost use Rattle.kdg_graph.specs.Nodes.{ids_of};
 
     ghost Value = { List NodeId };
 
-    ghost view = { λ l. ids_of (filter (λ other. conflicts_with l.set.now other.set) l.later.now) };
+    ghost view = { λ l. ids_of (filter (λ other. conflicts_with l.set.now other.set) (drop l.at l.nodes.now.nodes)) };
 }
 
 impl<'g> Laters<'g> {
-    /// Those of a node, among the nodes behind it.
-    pub(crate) fn of(node: &'g Entry, later: &'g [Entry]) -> Laters<'g>
-        ensures { result ≡ ids_of (filter (λ other. conflicts_with node.now.set other.set) later.now) }
+    /// Those of the node at a place.
+    pub(crate) fn of(nodes: &'g OrderedNodes, place: usize) -> Laters<'g>
+        requires { place < length nodes.now.nodes }
+        ensures { (node : Node) → node ≡ slice_index_or nodes.now.nodes place node → result ≡ laters_of nodes.now.nodes node }
     {
+        let _fits = nodes.len();
+        let node = nodes.at(place);
         Laters {
+            nodes,
             set: &node.set,
-            later,
+            at: place + 1,
         }
     }
 }
@@ -114,8 +118,9 @@ impl<'g> Iterator for Laters<'g> {
     ghost remaining = { item_count (λ ids. ids) };
 
     fn next(&mut self) -> Option<NodeId> {
-        while let [node, later @ ..] = self.later {
-            self.later = later;
+        while self.at < self.nodes.len() {
+            let node = self.nodes.at(self.at);
+            self.at += 1;
             if self.set.conflicts(&node.set) {
                 return Some(node.id);
             }

@@ -1,4 +1,4 @@
-use Rattle.std.proofs.Common.{rules, ◌≡◌, ◌+◌, ◌-◌, ◌<◌, ◌≤◌, List, ℕ, get_or, refl, subst, sym, arith}
+use Rattle.std.proofs.Common.{rules, ◌≡◌, ◌+◌, List, ℕ, get_or, refl, subst, sym, arith}
 use Rattle.kdg_graph.specs.Node.{Node}
 use Rattle.kdg_graph.proofs.Counting.{none_yet, seen_first, small_at, step_passed, step_taken}
 use Rattle.kdg_graph.proofs.blockers.Blockers.raise.Goals.{else-conflicts, then-conflicts}
@@ -6,16 +6,16 @@ use Rattle.kdg_graph.proofs.blockers.Blockers.raise.Goals as goal
 
 pub loop-i-init : goal.loop-i-init
 loop-i-init c = record {
-  counts = none_yet (λ count. count + 1) c.args.from c.args.set.now c.args.nodes.now c.args.self.now.counts.items c.requires.each;
+  counts = none_yet (λ count. count + 1) c.args.from c.args.set.now c.args.nodes.now.nodes c.args.self.now.counts.items c.requires.each;
   room = omega arith;
 }
 
 pub loop-i-preserved : goal.loop-i-preserved
 loop-i-preserved c =
-    let nodes : List Node = c.args.nodes.now in
+    let nodes : List Node = c.args.nodes.now.nodes in
     let i : ℕ = c.loop-i.i in
     let node : Node = record { id = c.node.inside.id; task = c.node.inside.task; set = c.node.inside.set; running = c.node.inside.running } in
-    let here : node ≡ get_or nodes i node = subst (λ (n : Node). n ≡ get_or nodes i n) (sym c.node.view_is) c.index-nodes-i.is in
+    let here : node ≡ get_or nodes i node = subst (λ (n : Node). n ≡ get_or nodes i n) (sym c.node.view_is) c.at-node.ensures in
     record {
       counts = elim c.if-conflicts.branch [
         | then-conflicts w ↦ rw w.self-is (step_taken (λ count. count + 1) c.args.from c.args.set.now nodes c.args.self.now.counts.items c.loop-i.self.counts.items i w.index_mut.result.now (w.index_mut.result.now + 1) node (search rules) (search rules) c.requires.each c.loop-i.invariant.counts here (sym w.if-conflicts.ensures.tested) w.index_mut.ensures.value refl)
@@ -30,6 +30,6 @@ loop-i-preserved c =
 pub overflow_add-index_mut : goal.overflow_add-index_mut
 overflow_add-index_mut c =
     let seen : ℕ = c.index_mut.result.now in
-    let was : seen ≡ get_or c.args.self.now.counts.items c.loop-i.i seen = seen_first (λ count. count + 1) c.args.from c.args.set.now c.args.nodes.now c.args.self.now.counts.items c.loop-i.self.counts.items c.loop-i.i seen c.requires.each c.loop-i.invariant.counts c.index_mut.ensures.value in
+    let was : seen ≡ get_or c.args.self.now.counts.items c.loop-i.i seen = seen_first (λ count. count + 1) c.args.from c.args.set.now c.args.nodes.now.nodes c.args.self.now.counts.items c.loop-i.self.counts.items c.loop-i.i seen c.requires.each c.loop-i.invariant.counts c.index_mut.ensures.value in
     let small = small_at c.args.self.now.counts.items _ c.loop-i.i seen (search rules) c.requires.small in
     search (rules, was, small)
