@@ -1,11 +1,11 @@
 use Rattle.std.proofs.Common.{◌≡◌, ℕ, ◌+◌, ◌*◌, ◌-◌, ◌<◌, List, [], ◌∷◌, ◌++◌, Bool, true, cond, Option, Some, None, length, take, drop, get_or, refl, ap, inl, inr, ◌∙◌, arith, sym, append_assoc, length-drop}
 use Rattle.std.proofs.lemmas.Bool.{cond-true, cond-false, cases_Bool}
-use Rattle.std.proofs.lemmas.List.{take_more, length-take-le}
+use Rattle.std.proofs.lemmas.List.{take_more, length-take-le, drop-append-le}
 use Rattle.std.proofs.lemmas.Slice.Eq.{bytes_eq-Decides}
 use Rattle.std.specs.List.{find}
 use Rattle.std.specs.Option.{option_or, option_and_then}
 use Rattle.std.specs.Str.{bytes_eq}
-use Rattle.kdg_prog.specs.Words.{Word, pairs_of, settings_of, given_value, name_of, option_named, option_names, option_for, takes}
+use Rattle.kdg_prog.specs.Words.{Word, pairs_of, settings_before, heading_len, given_value, name_of, option_named, option_names, option_for, takes}
 use Rattle.kdg_prog.specs.declared.words.Command.{Command}
 use Rattle.kdg_prog.specs.declared.words.OptionName.{OptionName}
 
@@ -46,19 +46,16 @@ take_two words index within =
     let e : index + 2 ≡ (index + 1) + 1 = omega arith in
     rw (e, take_more words (index + 1) [] within, one_more) (append_assoc (take index words) _ _)
 
-drop_one-append : (front more : List Word) → 0 < length front → drop 1 (front ++ more) ≡ drop 1 front ++ more
-drop_one-append [] more some = absurd (omega arith)
-drop_one-append (word ∷ front) more some = refl
-
 -- one more option with its value
-pub settings_of_more : (words : List Word) (index k : ℕ) → index ≡ 1 + 2 * k → index + 1 < length words → settings_of (take (index + 2) words) ≡ settings_of (take index words) ++ (get_or words index [], get_or words (index + 1) []) ∷ []
-settings_of_more words index k turn within =
+pub settings_more : (words : List Word) (index k : ℕ) → index ≡ heading_len words + 2 * k → index + 1 < length words → settings_before words (index + 2) ≡ settings_before words index ++ (get_or words index [], get_or words (index + 1) []) ∷ []
+settings_more words index k turn within =
     let front = take index words in
+    let len = heading_len words in
     let long : length front ≡ index = length-take-le index words (omega arith) in
-    let even : length (drop 1 front) ≡ 2 * k = omega (arith, length-drop 1 front) in
-    ap (λ taken. pairs_of (drop 1 taken)) (take_two words index within)
-    ∙ ap pairs_of (drop_one-append front _ (omega arith))
-    ∙ pairs_of-append (drop 1 front) _ k even
+    let even : length (drop len front) ≡ 2 * k = omega (arith, length-drop len front, turn, long) in
+    ap (λ taken. pairs_of (drop len taken)) (take_two words index within)
+    ∙ ap pairs_of (drop-append-le len front _ (omega (arith, turn, long)))
+    ∙ pairs_of-append (drop len front) _ k even
 
 pub given_value_more : (name : OptionName) (settings : List (Word × Word)) (word value : Word) → given_value name (settings ++ (word, value) ∷ []) ≡ option_or (given_value name settings) (cond (bytes_eq word (name_of name)) (Some value) None)
 given_value_more name [] word value =

@@ -1,5 +1,5 @@
 -- Runs over a source and a sink in memory that never fail.
-use Rattle.std.proofs.Common.{◌≡◌, ◌≢◌, ℕ, ◌+◌, ◌<◌, List, ◌++◌, length, take, Some, sym, ◌∙◌, ap, arith, inl, inr, ◌⊎◌, refl, length-append, length-take}
+use Rattle.std.proofs.Common.{◌≡◌, ◌≢◌, ℕ, zero, suc, ◌+◌, ◌<◌, List, ◌++◌, length, take, Some, sym, ◌∙◌, ap, arith, inl, inr, ◌⊎◌, refl, length-append, length-take}
 use Rattle.std.proofs.lemmas.Bool.{cond-true, lt-ltb}
 use Rattle.outer_edge.specs.Faults.{HasRisen}
 use Rattle.outer_edge.specs.Memory.{CleanWriter, clean_faults}
@@ -8,9 +8,9 @@ use Rattle.kdg_prog.specs.declared.status.Status.{Status}
 use Rattle.kdg_prog.specs.declared.status.Status.TheVariants as status
 use Rattle.kdg_prog.specs.declared.words.Options.{Options}
 use Rattle.kdg_prog.specs.Answer.{Answer, input_fault, over_budget, whole_print, answer_of}
-use Rattle.kdg_prog.specs.Bounds.{input_bound}
+use Rattle.kdg_prog.specs.Inputs.{Offers, read_of}
 use Rattle.kdg_prog.specs.Headline.{IsAnswered, IsAnsweredInMemory, CompletesInMemory, Promises}
-use Rattle.kdg_prog.proofs.Promising.{known_input}
+use Rattle.kdg_prog.proofs.Promising.{same_input}
 
 never_rises : ¬ HasRisen 0 0
 never_rises (inl above) = omega (arith, above)
@@ -24,19 +24,19 @@ no_fault_with_room : (writer : CleanWriter) → length writer.held < writer.room
 no_fault_with_room writer room = cond-true _ _ _ (lt-ltb (length writer.held) writer.room room)
 
 module _ (options : Options) (source : Transfer) (input : List ℕ) (before after : CleanWriter) (answer : Status) (promises : Promises options source (sink_transfer before after) answer)
-    (told : source.before ≡ Some input) (same_room : after.room ≡ before.room) where
+    (told : Offers options.big source input) (same_room : after.room ≡ before.room) where
   -- where the print fits, it is written
   writes_bytes : (bytes : List ℕ) → answer_of options input ≡ whole_print bytes → (answer ≡ status.Ok) ⊎ ((answer ≡ status.WriteFault) × HasFailed (sink_transfer before after))
       → length before.held + length bytes < before.room → (answer ≡ status.Ok) × (after.held ≡ before.held ++ bytes)
   writes_bytes bytes is (inl ok) fits =
       let written = promises.print ok in
-      let same : written.1.0 ≡ input = known_input input_bound source.before written.1.0 input written.1.1.bytes told in
+      let same : written.1.0 ≡ input = same_input options.big source written.1.0 input written.1.1 told in
       let prints : whole_print written.0 ≡ whole_print bytes = sym written.1.2 ∙ ap (answer_of options) same ∙ is in
       let whole : written.0 ≡ bytes = cc in
       (ok, written.2 ∙ ap (λ l. before.held ++ l) whole)
   writes_bytes bytes is (inr fault) fits =
       let cut = promises.written fault.0 in
-      let same : cut.1.0 ≡ input = known_input input_bound source.before cut.1.0 input cut.1.1.bytes told in
+      let same : cut.1.0 ≡ input = same_input options.big source cut.1.0 input cut.1.1 told in
       let prints : whole_print cut.0 ≡ whole_print bytes = sym cut.1.2 ∙ ap (answer_of options) same ∙ is in
       let whole : cut.0 ≡ bytes = cc in
       let longer = ap length cut.2.2 in
@@ -57,3 +57,8 @@ module _ (options : Options) (source : Transfer) (input : List ℕ) (before afte
         large = complete.0;
         small = λ small. by_answer (answer_of options input) refl (complete.1 small);
       }
+
+-- a source that tells its bytes offers those of them that are read
+pub offers_read : (big : ℕ) (source : Transfer) (bytes : List ℕ) → source.before ≡ Some bytes → Offers big source (read_of big bytes)
+offers_read zero source bytes told = told
+offers_read (suc big) source bytes told = refl

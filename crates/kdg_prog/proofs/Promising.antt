@@ -1,19 +1,30 @@
 -- What a run promises, by the way that it ended.
-use Rattle.std.proofs.Common.{◌≡◌, ℕ, ◌≤◌, List, length, None, Some, Option, Ok, Err, nat_eq, refl, sym, ◌∙◌, ap, subst, arith, inl, inr, ◌⊎◌, length-append}
-use Rattle.std.specs.Prelude.{IfSome}
+use Rattle.std.proofs.Common.{◌≡◌, ℕ, zero, suc, ◌<◌, ◌≤◌, List, [], cond, false, length, None, Some, Option, Ok, Err, nat_eq, refl, sym, ◌∙◌, ap, subst, arith, inl, inr, ◌⊎◌, length-append}
+use Rattle.std.specs.Prelude.{IfSome, Result}
 use Rattle.std.specs.Io.KnownBytes.{Appends, Consumes}
-use Rattle.std.proofs.lemmas.Bool.{cases_Bool, cond-true, cond-false}
+use Rattle.std.proofs.lemmas.Bool.{cases_Bool, cond-true, cond-false, ne_eqb}
 use Rattle.kdg_text.specs.declared.fault.Fault.{Fault}
 use Rattle.outer_edge.specs.Writing.{AppendsFront}
-use Rattle.outer_edge.specs.Transfers.{Transfer, HasFailed, IsReadWhole, ReadsAll}
+use Rattle.outer_edge.specs.Transfers.{Transfer, HasFailed, ReadsAll}
 use Rattle.outer_edge.specs.declared.whole_input.ReadAllFault.{ReadAllFault}
 use Rattle.outer_edge.specs.declared.whole_input.ReadAllFault.TheVariants as faults
 use Rattle.kdg_prog.specs.declared.status.Status.{Status}
 use Rattle.kdg_prog.specs.declared.status.Status.TheVariants as status
 use Rattle.kdg_prog.specs.declared.words.Options.{Options}
-use Rattle.kdg_prog.specs.Answer.{whole_print, answer_of, FirstPassesBudget}
+use Rattle.bench_reader.specs.Grammar.{deck_of}
+use Rattle.logic_sim.specs.Chain as chains
+use Rattle.mtx_reader.specs.Grammar.{pattern_of}
+use Rattle.gf2_eliminate.specs.Blocks as blocks
+use Rattle.spring_mesh.specs.Grammar.{mesh_of}
+use Rattle.spring_mesh.specs.Pairs as pairs
+use Rattle.app_laws.specs.Execution.{Execution}
+use Rattle.kdg_prog.specs.declared.words.Command.{Command}
+use Rattle.kdg_prog.specs.declared.words.Command.TheVariants.{Sim, Rank, Mesh}
+use Rattle.kdg_prog.specs.Answer.{input_fault, whole_print, answer_for, answer_of, deck_problem, pattern_problem, mesh_problem, FirstPassesBudget}
+use Rattle.kdg_prog.specs.Inputs.{Offers, TakesAll, TakesInput}
+use Rattle.kdg_prog.specs.Problem.{Problem, answer_by, answer_by_end, answer_read, end_of, rounds_told}
 use Rattle.kdg_prog.specs.Bounds.{input_bound}
-use Rattle.kdg_prog.specs.Headline.{IsAnswered, Completes, Promises}
+use Rattle.kdg_prog.specs.Headline.{IsAnswered, Completes, Promises, TellsOfReading}
 use Rattle.kdg_prog.specs.Refusals.{IsRefusal, AnswersRead}
 use Rattle.kdg_prog.specs.Status.{status_of_fault}
 
@@ -21,11 +32,20 @@ use Rattle.kdg_prog.specs.Status.{status_of_fault}
 pub known_input : (limit : ℕ) (before : Option (List ℕ)) (text input : List ℕ) → IfSome before (λ bytes. text ≡ bytes) → before ≡ Some input → text ≡ input
 known_input limit before text input bytes told = subst (λ b. IfSome b (λ bytes. text ≡ bytes)) told bytes
 
--- a run that answers what a whole input is answered
-completes : (options : Options) (source sink : Transfer) (text : List ℕ) (answer : Status) → IsReadWhole input_bound source text → IsAnswered options sink (answer_of options text) answer → Completes options source sink answer
-completes options source sink text answer whole answered no_fault room input told =
-    let same : text ≡ input = known_input input_bound source.before text input whole.bytes told in (
-      (λ large. absurd (omega (arith, whole.within, ap length same, large))),
+-- the input that was taken is the one that was there
+pub same_input : (big : ℕ) (source : Transfer) (text input : List ℕ) → TakesInput big source text → Offers big source input → text ≡ input
+same_input zero source text input whole told = known_input input_bound source.before text input whole.bytes told
+same_input (suc big) source text input none told = none.1 ∙ sym told
+
+input_within : (big : ℕ) (source : Transfer) (text : List ℕ) → TakesInput big source text → length text ≤ input_bound
+input_within zero source text whole = whole.within
+input_within (suc big) source text none = omega (arith, ap length none.1)
+
+-- a run that answers what its input is answered
+completes : (options : Options) (source sink : Transfer) (text : List ℕ) (answer : Status) → TakesInput options.big source text → IsAnswered options sink (answer_of options text) answer → Completes options source sink answer
+completes options source sink text answer taken answered no_fault room input told =
+    let same : text ≡ input = same_input options.big source text input taken told in (
+      (λ large. absurd (omega (arith, input_within options.big source text taken, ap length same, large))),
       (λ small. subst (λ t. IsAnswered options sink (answer_of options t) answer) same answered),
     )
 
@@ -41,14 +61,52 @@ no_failed_read source text reads = elim reads.no_fault [
   | inr same ↦ same
 ]
 
-module _ (options : Options) (source sink : Transfer) (text : List ℕ) (reads : ReadsAll input_bound source (Ok text)) where
+-- an input that was taken, without a failed read
+taken_from_all : (big : ℕ) (source : Transfer) (text : List ℕ) → TakesAll big source (Ok text) → TakesInput big source text × (source.faults_after ≡ source.faults_before)
+taken_from_all zero source text reads = (reads.ok, no_failed_read source text reads)
+taken_from_all (suc big) source text takes = let none : Ok text ≡ Ok [] = takes.1 in ((takes.0, cc), takes.0.faults)
+
+-- what is refused was read
+read_from_all : (big : ℕ) (source : Transfer) (fault : ReadAllFault) → TakesAll big source (Err fault) → ReadsAll input_bound source (Err fault) × (big ≡ 0)
+read_from_all zero source fault reads = (reads, refl)
+read_from_all (suc big) source fault takes = absurd (let never : Err fault ≡ Ok [] = takes.1 in cc)
+
+-- where the input is made from a number, the answer is no fault of it
+no_fault_by : {V : Type 0} (options : Options) (problem : Problem V) (fault : Fault) → answer_by options problem ≡ input_fault fault → ⊥
+no_fault_by {V} options problem fault is = by_end (end_of options problem) is
+  where
+    by_end : (end : Option (Execution V)) → answer_by_end problem options (rounds_told options problem) end ≡ input_fault fault → ⊥
+    by_end None is = cc
+    by_end (Some end) is = cc
+
+no_fault_when_made : {D V : Type 0} (problem : D → Problem V) (options : Options) (read : Result D Fault) (made : D) (fault : Fault) → 0 < options.big → answer_read problem options (cond (nat_eq options.big 0) read (Ok made)) ≡ input_fault fault → ⊥
+no_fault_when_made problem options read made fault some is =
+    let not_read : nat_eq options.big 0 ≡ false = ne_eqb options.big 0 (λ e. omega (arith, some, e)) in
+    no_fault_by options (problem made) fault (sym (ap (answer_read problem options) (cond-false (nat_eq options.big 0) read (Ok made) not_read)) ∙ is)
+
+no_input_fault : (options : Options) (text : List ℕ) (fault : Fault) → 0 < options.big → answer_of options text ≡ input_fault fault → ⊥
+no_input_fault options text fault some is = by_command options.command is
+  where
+    by_command : (command : Command) → answer_for command options text ≡ input_fault fault → ⊥
+    by_command Sim is = no_fault_when_made (deck_problem options) options (deck_of text) (chains.generated_input options.big) fault some is
+    by_command Rank is = no_fault_when_made pattern_problem options (pattern_of text) (blocks.generated_input options.big) fault some is
+    by_command Mesh is = no_fault_when_made mesh_problem options (mesh_of text) (pairs.generated_input options.big) fault some is
+
+-- the other answers tell of no reading
+tells_else : (answer is : Status) → answer ≡ is → ¬ TellsOfReading is → ¬ TellsOfReading answer
+tells_else answer is same none tells = none (subst TellsOfReading same tells)
+
+module _ (options : Options) (source sink : Transfer) (text : List ℕ) (takes : TakesAll options.big source (Ok text)) where
+  taken : TakesInput options.big source text
+  taken = (taken_from_all options.big source text takes).0
+
   read : source.faults_after ≡ source.faults_before
-  read = no_failed_read source text reads
+  read = (taken_from_all options.big source text takes).1
 
   -- the print is written whole
   pub when_printed : (bytes : List ℕ) → answer_of options text ≡ whole_print bytes → Appends sink.before sink.after bytes → sink.faults_after ≡ sink.faults_before → Promises options source sink status.Ok
   when_printed bytes is appends same_sink = record {
-    print = λ e. (bytes, (text, reads.ok, is), appends);
+    print = λ e. (bytes, (text, taken, is), appends);
     budget = λ created limit e. absurd cc;
     causes = record {
       good_words = λ word e. cc;
@@ -56,11 +114,12 @@ module _ (options : Options) (source sink : Transfer) (text : List ℕ) (reads :
       too_large = λ line bound e. absurd cc;
       read_fault = λ e. absurd cc;
       write_fault = λ e. absurd cc;
+      made = λ some tells. tells;
       reads_told = λ e. read;
       writes_told = λ e. same_sink;
     };
     written = λ e. absurd cc;
-    complete = completes options source sink text status.Ok reads.ok (subst (λ a. IsAnswered options sink a status.Ok) (sym is) (inl refl));
+    complete = completes options source sink text status.Ok taken (subst (λ a. IsAnswered options sink a status.Ok) (sym is) (inl refl));
   }
 
   -- a write of the print failed
@@ -74,11 +133,12 @@ module _ (options : Options) (source sink : Transfer) (text : List ℕ) (reads :
       too_large = λ line bound e. absurd cc;
       read_fault = λ e. absurd cc;
       write_fault = λ e. failed;
+      made = λ some tells. tells;
       reads_told = λ e. read;
       writes_told = λ e. absurd (e refl);
     };
-    written = λ e. (bytes, (text, reads.ok, is), front);
-    complete = completes options source sink text status.WriteFault reads.ok (subst (λ a. IsAnswered options sink a status.WriteFault) (sym is) (inr (refl, failed)));
+    written = λ e. (bytes, (text, taken, is), front);
+    complete = completes options source sink text status.WriteFault taken (subst (λ a. IsAnswered options sink a status.WriteFault) (sym is) (inr (refl, failed)));
   }
 
   -- no print for the input
@@ -90,15 +150,16 @@ module _ (options : Options) (source sink : Transfer) (text : List ℕ) (reads :
           budget = λ created limit e. absurd cc;
           causes = record {
             good_words = λ word e. cc;
-            bad_input = λ line kind e. (fault, (text, reads.ok, is), told);
+            bad_input = λ line kind e. (fault, (text, taken, is), told);
             too_large = λ line bound e. absurd cc;
             read_fault = λ e. absurd cc;
             write_fault = λ e. absurd cc;
-            reads_told = λ e. no_failed_read source text reads;
+            made = λ some tells. no_input_fault options text fault some is;
+            reads_told = λ e. read;
             writes_told = λ e. same_sink;
           };
           written = λ e. absurd cc;
-          complete = completes options source sink text answer reads.ok (subst (λ a. IsAnswered options sink a answer) (sym is) told);
+          complete = completes options source sink text answer taken (subst (λ a. IsAnswered options sink a answer) (sym is) told);
         }
     | inr kind ↦
         let large : answer ≡ status.TooLarge fault.line fault.bound = told ∙ kind in record {
@@ -107,14 +168,15 @@ module _ (options : Options) (source sink : Transfer) (text : List ℕ) (reads :
           causes = record {
             good_words = λ word e. cc;
             bad_input = λ line kind e. absurd cc;
-            too_large = λ line bound e. inr (fault, (text, reads.ok, is), told);
+            too_large = λ line bound e. inr (fault, (text, taken, is), told);
             read_fault = λ e. absurd cc;
             write_fault = λ e. absurd cc;
-            reads_told = λ e. no_failed_read source text reads;
+            made = λ some tells. no_input_fault options text fault some is;
+            reads_told = λ e. read;
             writes_told = λ e. same_sink;
           };
           written = λ e. absurd cc;
-          complete = completes options source sink text answer reads.ok (subst (λ a. IsAnswered options sink a answer) (sym is) told);
+          complete = completes options source sink text answer taken (subst (λ a. IsAnswered options sink a answer) (sym is) told);
         }
   ]
   when_refused answer (inr (inl exceeded)) same_sink =
@@ -127,7 +189,7 @@ module _ (options : Options) (source sink : Transfer) (text : List ℕ) (reads :
               limit_is = bound;
               above = omega (arith, exceeded.above, number, bound);
               input = text;
-              read = reads.ok;
+              read = taken;
               over = exceeded.over;
               first = λ serial. subst (λ n. FirstPassesBudget options text n) number (exceeded.first serial);
             };
@@ -137,11 +199,12 @@ module _ (options : Options) (source sink : Transfer) (text : List ℕ) (reads :
           too_large = λ line bound e. absurd cc;
           read_fault = λ e. absurd cc;
           write_fault = λ e. absurd cc;
-          reads_told = λ e. no_failed_read source text reads;
+          made = λ some tells. tells_else answer (status.Budget exceeded.created options.budget) told (λ t. t) tells;
+          reads_told = λ e. read;
           writes_told = λ e. same_sink;
         };
         written = λ e. absurd cc;
-        complete = completes options source sink text answer reads.ok (subst (λ a. IsAnswered options sink a answer) (sym exceeded.over) (exceeded.created, told));
+        complete = completes options source sink text answer taken (subst (λ a. IsAnswered options sink a answer) (sym exceeded.over) (exceeded.created, told));
       }
   when_refused answer (inr (inr told)) same_sink = record {
     print = λ e. absurd cc;
@@ -152,7 +215,8 @@ module _ (options : Options) (source sink : Transfer) (text : List ℕ) (reads :
       too_large = λ line bound e. absurd cc;
       read_fault = λ e. absurd cc;
       write_fault = λ e. absurd cc;
-      reads_told = λ e. no_failed_read source text reads;
+      made = λ some tells. tells_else answer status.NoMemory told (λ t. t) tells;
+      reads_told = λ e. read;
       writes_told = λ e. same_sink;
     };
     written = λ e. absurd cc;
@@ -169,9 +233,9 @@ came_within before after came input told consumed =
     by_after after (subst (λ b. Consumes b after came) told consumed)
 
 -- the reads that end a run without a text
-pub when_unread : (options : Options) (source sink : Transfer) (fault : ReadAllFault) (answer : Status) → ReadsAll input_bound source (Err fault) → AnswersRead fault answer → sink.faults_after ≡ sink.faults_before
+when_not_read : (options : Options) (source sink : Transfer) (fault : ReadAllFault) (answer : Status) → options.big ≡ 0 → ReadsAll input_bound source (Err fault) → AnswersRead fault answer → sink.faults_after ≡ sink.faults_before
     → Promises options source sink answer
-when_unread options source sink faults.ReadFault answer reads told same_sink = record {
+when_not_read options source sink faults.ReadFault answer reading reads told same_sink = record {
   print = λ e. absurd cc;
   budget = λ created limit e. absurd cc;
   causes = record {
@@ -180,13 +244,14 @@ when_unread options source sink faults.ReadFault answer reads told same_sink = r
     too_large = λ line bound e. absurd cc;
     read_fault = λ e. (reads.read_fault refl, reads.before refl);
     write_fault = λ e. absurd cc;
+    made = λ some tells. absurd (omega (arith, some, reading));
     reads_told = λ e. absurd (e told);
     writes_told = λ e. same_sink;
   };
   written = λ e. absurd cc;
   complete = λ no_fault room. absurd (no_fault (reads.read_fault refl));
 }
-when_unread options source sink faults.TooLarge answer reads told same_sink =
+when_not_read options source sink faults.TooLarge answer reading reads told same_sink =
     let read : source.faults_after ≡ source.faults_before = elim reads.no_fault [
       | inl e ↦ absurd cc
       | inr same ↦ same
@@ -199,6 +264,7 @@ when_unread options source sink faults.TooLarge answer reads told same_sink =
         too_large = λ line bound e. inl (reads.too_large refl, told);
         read_fault = λ e. absurd cc;
         write_fault = λ e. absurd cc;
+        made = λ some tells. absurd (omega (arith, some, reading));
         reads_told = λ e. read;
         writes_told = λ e. same_sink;
       };
@@ -206,10 +272,10 @@ when_unread options source sink faults.TooLarge answer reads told same_sink =
       complete = λ no_fault room input known.
           let more = reads.too_large refl in (
             (λ large. told),
-            (λ small. absurd (omega (arith, small, more.1, came_within source.before source.after more.0 input known more.2))),
+            (λ small. absurd (omega (arith, small, more.1, came_within source.before source.after more.0 input (subst (λ big. Offers big source input) reading known) more.2))),
           );
     }
-when_unread options source sink faults.NoRoom answer reads told same_sink =
+when_not_read options source sink faults.NoRoom answer reading reads told same_sink =
     let read : source.faults_after ≡ source.faults_before = elim reads.no_fault [
       | inl e ↦ absurd cc
       | inr same ↦ same
@@ -222,9 +288,16 @@ when_unread options source sink faults.NoRoom answer reads told same_sink =
         too_large = λ line bound e. absurd cc;
         read_fault = λ e. absurd cc;
         write_fault = λ e. absurd cc;
+        made = λ some tells. absurd (omega (arith, some, reading));
         reads_told = λ e. read;
         writes_told = λ e. same_sink;
       };
       written = λ e. absurd cc;
       complete = λ no_fault room. absurd (room told);
     }
+
+pub when_unread : (options : Options) (source sink : Transfer) (fault : ReadAllFault) (answer : Status) → TakesAll options.big source (Err fault) → AnswersRead fault answer → sink.faults_after ≡ sink.faults_before
+    → Promises options source sink answer
+when_unread options source sink fault answer takes told same_sink =
+    let reads = read_from_all options.big source fault takes in
+    when_not_read options source sink fault answer reads.1 reads.0 told same_sink

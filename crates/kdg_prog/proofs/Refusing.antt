@@ -16,7 +16,7 @@ use Rattle.kdg_prog.specs.declared.status.Status.{Status}
 use Rattle.kdg_prog.specs.declared.status.Status.TheVariants as status
 use Rattle.kdg_prog.specs.declared.words.Mode.TheVariants.{Serial, Rounds}
 use Rattle.kdg_prog.specs.declared.words.Options.{Options}
-use Rattle.kdg_prog.specs.Problem.{Problem, whole_print, start_for, print_of, print_of_finals, answer_by, answer_by_end, answer_read, end_of, is_in_rounds, rounds_of, rounds_text, rounds_told, FirstPassesRead, tasks_line}
+use Rattle.kdg_prog.specs.Problem.{Problem, whole_print, start_for, print_of, print_of_finals, answer_by, answer_by_end, answer_read, end_of, is_in_rounds, rounds_of, rounds_text, rounds_told, FirstPassesRead, text_shown}
 use Rattle.kdg_prog.specs.Refusals.{AnswersSerial, IsRefusalBy, IsRunRefusal}
 
 -- cells of a run that has ended are home
@@ -34,7 +34,7 @@ module _ {V : Type 0} (options : Options) (problem : Problem V) where
         created = created;
         told = refl;
         above = over.first_passes.passes;
-        over = ap (answer_by_end problem (rounds_told options problem)) over.too_long;
+        over = ap (answer_by_end problem options (rounds_told options problem)) over.too_long;
         first = λ serial. over.first_passes;
       }))
 
@@ -44,18 +44,18 @@ module _ {V : Type 0} (options : Options) (problem : Problem V) where
         created = created;
         told = told ∙ ap (status.Budget created) over.limit_is;
         above = over.first_passes.passes;
-        over = ap (answer_by_end problem (rounds_told options problem)) over.too_long;
+        over = ap (answer_by_end problem options (rounds_told options problem)) over.too_long;
         first = λ serial. over.first_passes;
       }))
   refusal_from_fault NoRoom answer over told = inr (inr told)
 
   pub print_from_run : (finals : Finals V) (told : Option ℕ) (bytes : List ℕ) → HomesAreValues V → rounds_told options problem ≡ told → IsRun problem.app.act options.budget (start_for problem) finals →
-      bytes ≡ print_of_finals problem told finals → answer_by options problem ≡ whole_print bytes
+      bytes ≡ print_of_finals problem options told finals → answer_by options problem ≡ whole_print bytes
   print_from_run finals told bytes laws tells run is-bytes =
       let cells : values_of finals.store ≡ run.end.cells = ap values_of run.store ∙ laws.values_of_homes run.end.cells in
-      let printed : bytes ≡ print_of problem told run.end =
-      is-bytes ∙ (λ i. joined_texts (run.log i) ++ problem.finals (cells i) ++ tasks_line (run.count i) ++ rounds_text told) in
-      (λ i. answer_by_end problem (tells i) (run.ends i)) ∙ ap whole_print (sym printed)
+      let printed : bytes ≡ print_of problem options told run.end =
+      is-bytes ∙ (λ i. text_shown options (joined_texts (run.log i)) (problem.finals (cells i)) (run.count i) ++ rounds_text told) in
+      (λ i. answer_by_end problem options (tells i) (run.ends i)) ∙ ap whole_print (sym printed)
 
   -- in mode serial no rounds are told
   pub none_told_in_serial : options.mode ≡ Serial → rounds_told options problem ≡ None
@@ -81,7 +81,7 @@ module _ {V : Type 0} (options : Options) (problem : Problem V) where
         created = created;
         told = told ∙ ap (status.Budget created) bound;
         above = omega (arith, above, bound);
-        over = ap (answer_by_end problem (rounds_told options problem)) endless;
+        over = ap (answer_by_end problem options (rounds_told options problem)) endless;
         first = λ serial. absurd (let both : Serial ≡ Rounds = sym serial ∙ in_rounds in cc);
       }))
 
@@ -94,7 +94,7 @@ module _ {V : Type 0} (options : Options) (problem : Problem V) where
         told
 
     -- the print of a serial run
-    pub print_from_serial : (finals : Finals V) (bytes : List ℕ) → HomesAreValues V → rounds_told options problem ≡ None → IsRun problem.app.act options.budget (start_of cells tasks) finals → bytes ≡ print_of_finals problem None finals → answer_by options problem ≡ whole_print bytes
+    pub print_from_serial : (finals : Finals V) (bytes : List ℕ) → HomesAreValues V → rounds_told options problem ≡ None → IsRun problem.app.act options.budget (start_of cells tasks) finals → bytes ≡ print_of_finals problem options None finals → answer_by options problem ≡ whole_print bytes
     print_from_serial finals bytes laws tells ran is-bytes = print_from_run finals None bytes laws tells (rw (← is-cells, ← is-tasks) ran) is-bytes
 
 -- a run of what an input describes is answered what the input is

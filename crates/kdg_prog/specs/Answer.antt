@@ -1,22 +1,20 @@
 -- What an input is answered: a function of the options and of the input's bytes.
 use Rattle.std.specs.Prelude.{ℕ, List}
 use Rattle.bench_reader.specs.declared.deck.Deck.{Deck}
-use Rattle.bench_reader.specs.Grammar.{deck_of}
 use Rattle.logic_sim.specs.Circuit.{start_cells, start_tasks, finals_of}
 use Rattle.logic_sim.specs.Event.{Simulation}
 use Rattle.logic_sim.specs.Meaning.{simulation}
 use Rattle.spring_mesh.specs.declared.file.MeshFile.{MeshFile}
 use Rattle.spring_mesh.specs.declared.file.MeshNode.{MeshNode}
-use Rattle.spring_mesh.specs.Grammar.{mesh_of}
 use Rattle.spring_mesh.specs.Meaning as meshes
 use Rattle.mtx_reader.specs.declared.pattern.Pattern.{Pattern}
-use Rattle.mtx_reader.specs.Grammar.{pattern_of}
 use Rattle.gf2_eliminate.specs.declared.line.Line2.{Line2}
 use Rattle.gf2_eliminate.specs.Elimination.{elimination}
 use Rattle.gf2_eliminate.specs.Start as matrices
 use Rattle.kdg_prog.specs.declared.words.Command.{Command}
 use Rattle.kdg_prog.specs.declared.words.Command.TheVariants.{Sim, Rank, Mesh}
 use Rattle.kdg_prog.specs.declared.words.Options.{Options}
+use Rattle.kdg_prog.specs.Inputs.{deck_for, pattern_for, mesh_for}
 use Rattle.kdg_prog.specs.Problem.{Problem, Setting, answer_read, problem_of, FirstPassesRead}
 pub use Rattle.kdg_prog.specs.Problem.{Answer, input_fault, over_budget, whole_print}
 
@@ -70,14 +68,14 @@ mesh_problem file = problem_of (meshes.mesh_steps file) (mesh_setting file)
 
 -- what an input of a command is answered
 abbrev pub answer_for : Command → Options → List ℕ → Answer
-answer_for Rank options input = answer_read pattern_problem options (pattern_of input)
-answer_for Mesh options input = answer_read mesh_problem options (mesh_of input)
-answer_for Sim options input = answer_read (deck_problem options) options (deck_of input)
+answer_for Rank options input = answer_read pattern_problem options (pattern_for options.big input)
+answer_for Mesh options input = answer_read mesh_problem options (mesh_for options.big input)
+answer_for Sim options input = answer_read (deck_problem options) options (deck_for options.big input)
 
 abbrev pub FirstPassesFor : Command → Options → List ℕ → ℕ → Type 0
-FirstPassesFor Rank options input = FirstPassesRead pattern_problem options (pattern_of input)
-FirstPassesFor Mesh options input = FirstPassesRead mesh_problem options (mesh_of input)
-FirstPassesFor Sim options input = FirstPassesRead (deck_problem options) options (deck_of input)
+FirstPassesFor Rank options input = FirstPassesRead pattern_problem options (pattern_for options.big input)
+FirstPassesFor Mesh options input = FirstPassesRead mesh_problem options (mesh_for options.big input)
+FirstPassesFor Sim options input = FirstPassesRead (deck_problem options) options (deck_for options.big input)
 
 -- what an input is answered
 abbrev pub answer_of : Options → List ℕ → Answer

@@ -1,4 +1,4 @@
-use Rattle.std.specs.Prelude.{Bool, false, is_some, unwrap_or}
+use Rattle.std.specs.Prelude.{ℕ, Bool, false, is_some, unwrap_or}
 use Rattle.kdg_prog.specs.Words.{Word, workers_value, mode_value, seed_value, until_value, budget_value, switch_value}
 use Rattle.kdg_prog.specs.declared.words.Command.{Command}
 use Rattle.kdg_prog.specs.declared.words.Draft.{Draft}
@@ -26,9 +26,10 @@ with_value draft name.Budget word = record draft { budget = budget_value word }
 with_value draft name.Stats word = record draft { stats = switch_value word }
 
 -- the values that were given, and the defaults of the other options
-abbrev pub options_of_draft : Command → Draft → Options
-options_of_draft command draft = record {
+abbrev pub options_of_draft : Command → ℕ → Draft → Options
+options_of_draft command big draft = record {
   command = command;
+  big = big;
   workers = unwrap_or draft.workers 4;
   mode = unwrap_or draft.mode Rounds;
   seed = unwrap_or draft.seed 0;

@@ -1,8 +1,8 @@
 -- What a run promises of its answer, for the words and the input that it is given.
-use Rattle.std.specs.Prelude.{ℕ, ◌≡◌, ◌≢◌, ◌+◌, ◌<◌, ◌≤◌, ◌⊎◌, ◌↔◌, List, ◌++◌, length, Some, Result, Err}
+use Rattle.std.specs.Prelude.{ℕ, ◌≡◌, ◌≢◌, ◌+◌, ◌<◌, ◌≤◌, ◌⊎◌, ◌↔◌, List, ◌++◌, length, Result, Err}
 use Rattle.std.specs.Io.KnownBytes.{Appends}
 use Rattle.kdg_text.specs.declared.fault.Fault.{Fault}
-use Rattle.outer_edge.specs.Transfers.{Transfer, HasFailed, BringsMore, BringsAtMost, IsReadWhole}
+use Rattle.outer_edge.specs.Transfers.{Transfer, HasFailed, BringsMore, BringsAtMost}
 use Rattle.outer_edge.specs.Memory.{CleanWriter}
 use Rattle.outer_edge.specs.Writing.{AppendsFront}
 use Rattle.kdg_prog.specs.declared.status.Status.{Status}
@@ -11,15 +11,16 @@ use Rattle.kdg_prog.specs.declared.words.Mode.TheVariants.{Serial}
 use Rattle.kdg_prog.specs.declared.words.Options.{Options}
 use Rattle.kdg_prog.specs.Answer.{Answer, input_fault, over_budget, whole_print, answer_of, FirstPassesBudget}
 use Rattle.kdg_prog.specs.Bounds.{input_bound}
+use Rattle.kdg_prog.specs.Inputs.{Offers, TakesInput}
 use Rattle.kdg_prog.specs.Status.{status_of_fault}
 
 -- the answer where the words are bad
 abbrev pub TellsBadWord : Result Options ℕ → Status → Type 0
 TellsBadWord words answer = (word : ℕ) → (answer ≡ status.Usage word) ↔ (words ≡ Err word)
 
--- a whole input was read, and this is what it is answered
+-- a whole input was read, or none where it is made from a number, and this is what it is answered
 abbrev pub ReadsInput : Options → Transfer → Answer → Type 0
-ReadsInput options source answer = (input : List ℕ) × IsReadWhole input_bound source input × (answer_of options input ≡ answer)
+ReadsInput options source answer = (input : List ℕ) × TakesInput options.big source input × (answer_of options input ≡ answer)
 
 -- a whole input was read, and has the fault that is told
 abbrev pub TellsFault : Options → Transfer → Status → Type 0
@@ -42,10 +43,17 @@ pub record ExceedsBudget (options : Options) (source : Transfer) (created limit 
   pub limit_is : limit ≡ options.budget
   pub above : limit < created
   pub input : List ℕ
-  pub read : IsReadWhole input_bound source input
+  pub read : TakesInput options.big source input
   pub over : answer_of options input ≡ over_budget
   -- in mode serial the number is that of the moment when first there are more
   pub first : options.mode ≡ Serial → FirstPassesBudget options input created
+
+-- what an answer tells is of an input that is read
+abbrev pub TellsOfReading : Status → Type 0
+TellsOfReading (status.BadInput line kind) = Unit {0}
+TellsOfReading (status.TooLarge line bound) = Unit {0}
+TellsOfReading status.ReadFault = Unit {0}
+TellsOfReading _ = ⊥
 
 -- what each of the other answers comes of
 pub record HasCause (options : Options) (source sink : Transfer) (answer : Status) : Type 0 where
@@ -55,6 +63,8 @@ pub record HasCause (options : Options) (source sink : Transfer) (answer : Statu
   -- no more bytes had come than an input may have
   pub read_fault : answer ≡ status.ReadFault → HasFailed source × BringsAtMost input_bound source
   pub write_fault : answer ≡ status.WriteFault → HasFailed sink
+  -- an input that is made from a number has no fault
+  pub made : 0 < options.big → ¬ TellsOfReading answer
   -- no failed read or write goes untold
   pub reads_told : answer ≢ status.ReadFault → source.faults_after ≡ source.faults_before
   pub writes_told : answer ≢ status.WriteFault → sink.faults_after ≡ sink.faults_before
@@ -68,7 +78,7 @@ IsAnswered options sink (whole_print bytes) answer = (answer ≡ status.Ok) ⊎ 
 -- where no read fails and memory is there, the input decides the answer
 abbrev pub Completes : Options → Transfer → Transfer → Status → Type 0
 Completes options source sink answer = ¬ HasFailed source → answer ≢ status.NoMemory →
-    (input : List ℕ) → source.before ≡ Some input →
+    (input : List ℕ) → Offers options.big source input →
     (input_bound < length input → answer ≡ status.TooLarge 0 input_bound)
     × (length input ≤ input_bound → IsAnswered options sink (answer_of options input) answer)
 

@@ -2,6 +2,7 @@ pub mod Answer
 pub mod Bounds
 pub mod Draft
 pub mod Headline
+pub mod Inputs
 pub mod Problem
 pub mod Refusals
 pub mod RoundCount

@@ -1,5 +1,5 @@
 -- What a run of any application needs, and what it is answered.
-use Rattle.std.specs.Prelude.{ℕ, List, [], ◌++◌, ◌&&◌, Bool, true, false, if◌then◌else◌, length, codes, Option, Some, None, Result, Ok, Err, IfOk}
+use Rattle.std.specs.Prelude.{ℕ, List, [], ◌++◌, ◌&&◌, ◌==◌, Bool, true, false, if◌then◌else◌, length, count_by, codes, Option, Some, None, Result, Ok, Err, IfOk}
 use Rattle.std.specs.Fmt.{decimal}
 use Rattle.kdg_text.specs.declared.fault.Fault.{Fault}
 use Rattle.cell_store.specs.Values.{values_of}
@@ -11,6 +11,8 @@ use Rattle.app_laws.specs.Applications.{Application}
 use Rattle.app_laws.specs.Execution.{Execution, first_from, run_to_end, start_of}
 use Rattle.app_laws.specs.Serial.{FirstPasses}
 use Rattle.commuting.specs.States.{State, state_of}
+use Rattle.kdg_prog.specs.declared.words.Command.{Command}
+use Rattle.kdg_prog.specs.declared.words.Command.TheVariants.{Sim, Rank, Mesh}
 use Rattle.kdg_prog.specs.declared.words.Mode.{Mode}
 use Rattle.kdg_prog.specs.declared.words.Mode.TheVariants.{Rounds}
 use Rattle.kdg_prog.specs.declared.words.Options.{Options}
@@ -38,14 +40,50 @@ pub record Problem (V : Type 0) : Type 1 where
 abbrev pub problem_of : {V : Type 0} → Application V → Setting V → Problem V
 problem_of app setting = record { app = app; cells = setting.cells; tasks = setting.tasks; finals = setting.finals }
 
+-- a word and a number
+abbrev pub figure_line : List ℕ → ℕ → List ℕ
+figure_line word number = word ++ decimal number ++ codes "\n"
+
 -- tasks N
 abbrev pub tasks_line : ℕ → List ℕ
-tasks_line count = codes "tasks " ++ decimal count ++ codes "\n"
+tasks_line count = figure_line (codes "tasks ") count
 
 -- rounds N, where their number is told
 abbrev pub rounds_text : Option ℕ → List ℕ
 rounds_text None = []
-rounds_text (Some rounds) = codes "rounds " ++ decimal rounds ++ codes "\n"
+rounds_text (Some rounds) = figure_line (codes "rounds ") rounds
+
+-- the word that names a command
+abbrev pub word_of : Command → List ℕ
+word_of Sim = codes "sim"
+word_of Rank = codes "rank"
+word_of Mesh = codes "mesh"
+
+-- how many lines a text has, each of which ends with a line feed
+abbrev pub line_count : List ℕ → ℕ
+line_count text = count_by (λ byte. byte == 10) text
+
+-- the texts of the log, then the finals, then the number of tasks
+abbrev pub whole_text : List ℕ → List ℕ → ℕ → List ℕ
+whole_text log finals count = log ++ finals ++ tasks_line count
+
+-- big KIND N
+abbrev pub made_from : Options → List ℕ
+made_from options = codes "big " ++ word_of options.command ++ figure_line (codes " ") options.big
+
+-- what is told in place of a whole text: what it was made from, the log's lines, its bytes and the tasks
+abbrev pub figures_of : Options → List ℕ → List ℕ → ℕ → List ℕ
+figures_of options log whole count =
+    made_from options
+    ++ figure_line (codes "log ") (line_count log)
+    ++ figure_line (codes "bytes ") (length whole)
+    ++ tasks_line count
+
+-- the whole text, but only its figures where the input is made from a number
+abbrev pub text_shown : Options → List ℕ → List ℕ → ℕ → List ℕ
+text_shown options log finals count =
+    if options.big == 0 then whole_text log finals count
+    else figures_of options log (whole_text log finals count) count
 
 abbrev pub is_in_rounds : Mode → Bool
 is_in_rounds Rounds = true
@@ -60,18 +98,18 @@ module _ {V : Type 0} (problem : Problem V) where
   abbrev pub first_state : State V
   first_state = state_of problem.cells (put_all (first_from 0 problem.tasks) [])
 
-  -- the texts of the log in order, then the finals, then the number of tasks, and where it is told that of rounds
-  abbrev pub print_of : Option ℕ → Execution V → List ℕ
-  print_of told end = joined_texts end.log ++ problem.finals end.cells ++ tasks_line (length end.log) ++ rounds_text told
+  -- the whole text or its figures, and the number of rounds where it is told
+  abbrev pub print_of : Options → Option ℕ → Execution V → List ℕ
+  print_of options told end = text_shown options (joined_texts end.log) (problem.finals end.cells) (length end.log) ++ rounds_text told
 
   -- the same of what a run leaves
-  abbrev pub print_of_finals : Option ℕ → Finals V → List ℕ
-  print_of_finals told finals = joined_texts finals.log.entries ++ problem.finals (values_of finals.store) ++ tasks_line finals.count ++ rounds_text told
+  abbrev pub print_of_finals : Options → Option ℕ → Finals V → List ℕ
+  print_of_finals options told finals = text_shown options (joined_texts finals.log.entries) (problem.finals (values_of finals.store)) finals.count ++ rounds_text told
 
   -- by the end of the execution, where there is one
-  abbrev pub answer_by_end : Option ℕ → Option (Execution V) → Answer
-  answer_by_end told None = over_budget
-  answer_by_end told (Some end) = whole_print (print_of told end)
+  abbrev pub answer_by_end : Options → Option ℕ → Option (Execution V) → Answer
+  answer_by_end options told None = over_budget
+  answer_by_end options told (Some end) = whole_print (print_of options told end)
 
 module _ {V : Type 0} (options : Options) (problem : Problem V) where
   -- the execution to its end, where it creates no more tasks than the budget
@@ -88,7 +126,7 @@ module _ {V : Type 0} (options : Options) (problem : Problem V) where
 
   -- what the run is answered
   abbrev pub answer_by : Answer
-  answer_by = answer_by_end problem rounds_told end_of
+  answer_by = answer_by_end problem options rounds_told end_of
 
   -- this many tasks have been created when first there are more than the budget
   abbrev pub FirstPassesIn : ℕ → Type 0

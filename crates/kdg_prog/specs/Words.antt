@@ -1,12 +1,16 @@
-use Rattle.std.specs.Prelude.{◌≢◌, ◌≤◌, ◌==◌, ℕ, ◌+◌, ◌-◌, ◌%◌, ◌^◌, List, [], ◌∷◌, ◌&&◌, Bool, true, false, not, nat_le, length, drop, take, Option, Some, None, is_some, is_none, unwrap_or, option_and_then, Result, Ok, Err, codes, find, if◌then◌else◌}
+use Rattle.std.specs.Prelude.{◌≡◌, ◌≢◌, ◌≤◌, ◌==◌, ℕ, ◌+◌, ◌-◌, ◌%◌, ◌<◌, ◌^◌, List, [], ◌∷◌, ◌&&◌, Bool, true, false, not, nat_le, nat_lt, length, drop, take, Option, Some, None, is_some, is_none, unwrap_or, option_and_then, Result, Ok, Err, codes, find, if◌then◌else◌}
 use Rattle.std.specs.List.{slice_get, range_with_len}
 use Rattle.std.specs.Option.{option_map, option_map_or}
 use Rattle.std.specs.Result.{result_ok}
 use Rattle.std.specs.Str.{bytes_eq}
 use Rattle.kdg_text.specs.Numbers.{u64_of}
+use Rattle.logic_sim.specs.Chain.{most_inverters}
+use Rattle.gf2_eliminate.specs.Blocks.{most_blocks}
+use Rattle.spring_mesh.specs.Pairs.{most_pairs}
 use Rattle.kdg_prog.specs.Bounds.{latest_time, most_tasks, most_workers}
 use Rattle.kdg_prog.specs.declared.words.Command.{Command}
 use Rattle.kdg_prog.specs.declared.words.Command.TheVariants.{Sim, Rank, Mesh}
+use Rattle.kdg_prog.specs.declared.words.Heading.{Heading}
 use Rattle.kdg_prog.specs.declared.words.Mode.{Mode}
 use Rattle.kdg_prog.specs.declared.words.Mode.TheVariants.{Serial, Rounds, Free}
 use Rattle.kdg_prog.specs.declared.words.OptionName.{OptionName}
@@ -24,6 +28,16 @@ command_named word =
     else if bytes_eq word (codes "rank") then Some Rank
     else if bytes_eq word (codes "mesh") then Some Mesh
     else None
+
+-- the word before a command whose input is made from a number
+abbrev pub big_word : Word
+big_word = codes "big"
+
+-- the greatest number that the input of a command is made from
+abbrev pub most_for : Command → ℕ
+most_for Sim = most_inverters
+most_for Rank = most_blocks
+most_for Mesh = most_pairs
 
 -- how each option is written
 abbrev pub name_of : OptionName → Word
@@ -95,9 +109,20 @@ pairs_of [] = []
 pairs_of (word ∷ []) = []
 pairs_of (word ∷ next ∷ words) = (word, next) ∷ pairs_of words
 
--- the options behind the command, with their values
+-- whether the input is made from a number
+abbrev pub is_big : List Word → Bool
+is_big words = option_map_or (λ word. bytes_eq word big_word) (slice_get words 0) false
+
+-- how many words stand before the options: the command, or `big`, the command and the number
+abbrev pub heading_len : List Word → ℕ
+heading_len words = if is_big words then 3 else 1
+
+-- the options among the words before an index, with their values
+abbrev pub settings_before : List Word → ℕ → List (Word × Word)
+settings_before words index = pairs_of (drop (heading_len words) (take index words))
+
 abbrev pub settings_of : List Word → List (Word × Word)
-settings_of words = pairs_of (drop 1 words)
+settings_of words = settings_before words (length words)
 
 -- the value that an option has among settings
 abbrev pub given_value : OptionName → List (Word × Word) → Option Word
@@ -106,17 +131,33 @@ given_value name settings =
 
 -- the command among the words
 abbrev pub command_of : List Word → Option Command
-command_of words = option_and_then command_named (slice_get words 0)
+command_of words = option_and_then command_named (slice_get words (if is_big words then 1 else 0))
 
 -- the command that the other words are read for
 abbrev pub command_in : List Word → Command
 command_in words = unwrap_or (command_of words) Sim
 
+-- the number behind the command
+abbrev pub number_of : List Word → Option ℕ
+number_of words = option_and_then (number_within 1 (most_for (command_in words))) (slice_get words 2)
+
+-- the number that the input is made from, or 0
+abbrev pub big_of : List Word → ℕ
+big_of words = if is_big words then unwrap_or (number_of words) 0 else 0
+
+-- a word before the options is bad: it is no command, or no number that an input may be made from
+abbrev pub is_bad_heading : List Word → ℕ → Bool
+is_bad_heading words index =
+    if not (is_big words) then is_none (command_of words)
+    else if index == 0 then false
+    else if index == 1 then is_none (command_of words)
+    else is_none (number_of words)
+
 -- a word that stands in an option's place is bad: it names no option of the command, or one that was given before
 abbrev pub is_bad_option : List Word → ℕ → Bool
 is_bad_option words index =
     option_map_or
-    (λ word. option_map_or (λ name. is_some (given_value name (settings_of (take index words)))) (option_for (command_in words) word) true)
+    (λ word. option_map_or (λ name. is_some (given_value name (settings_before words index))) (option_for (command_in words) word) true)
     (slice_get words index)
     false
 
@@ -128,10 +169,10 @@ is_bad_value words index =
     (option_and_then (option_for (command_in words)) (slice_get words (index - 1)))
     false
 
--- the word at an index is bad: the command comes first, and then options and values take turns
+-- the word at an index is bad: the heading comes first, and then options and values take turns
 abbrev pub is_bad : List Word → ℕ → Bool
 is_bad words index =
-    if index == 0 then is_none (command_of words)
+    if nat_lt index (heading_len words) then is_bad_heading words index
     else if index % 2 == 1 then is_bad_option words index
     else is_bad_value words index
 
@@ -140,9 +181,10 @@ abbrev pub first_bad : List Word → Option ℕ
 first_bad words = find (is_bad words) (range_with_len 0 (length words + 1))
 
 -- the value of each option, or its default
-abbrev pub options_given : Command → List (Word × Word) → Options
-options_given command settings = record {
+abbrev pub options_given : Command → ℕ → List (Word × Word) → Options
+options_given command big settings = record {
   command = command;
+  big = big;
   workers = unwrap_or (option_and_then workers_value (given_value name.Workers settings)) 4;
   mode = unwrap_or (option_and_then mode_value (given_value name.Mode settings)) Rounds;
   seed = unwrap_or (option_and_then seed_value (given_value name.Seed settings)) 0;
@@ -159,11 +201,20 @@ options_unless (Some index) options = Err (index + 1)
 -- what the words of a command line ask for, or the place of the first bad one
 abbrev pub options_of : List Word → Result Options ℕ
 options_of words =
-    options_unless (first_bad words) (options_given (command_in words) (settings_of words))
+    options_unless (first_bad words) (options_given (command_in words) (big_of words) (settings_of words))
 
 -- options that words can ask for
 pub record IsAllowed (options : Options) : Type 0 where
+  pub big : options.big ≤ most_for options.command
   pub workers : (1 ≤ options.workers) × (options.workers ≤ most_workers)
   pub mode : options.mode ≢ Free
   pub until : options.until ≤ latest_time
   pub budget : options.budget ≤ most_tasks
+
+-- what stands before the options was read, and none of it is bad
+pub record IsHeading (words : List Word) (heading : Heading) : Type 0 where
+  pub command : command_of words ≡ Some heading.command
+  pub big : big_of words ≡ heading.big
+  pub len : heading_len words ≡ heading.len
+  pub within : heading.len ≤ length words
+  pub fine : (k : ℕ) → k < heading.len → is_bad words k ≡ false

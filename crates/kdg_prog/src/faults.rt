@@ -25,7 +25,7 @@ impl From<ReadAllFault> for Status {
             ReadAllFault::ReadFault => Status::ReadFault,
             ReadAllFault::TooLarge => Status::TooLarge {
                 line: 0,
-                bound: crate::whole_run::INPUT_BOUND,
+                bound: crate::inputs::INPUT_BOUND,
             },
             ReadAllFault::NoRoom => Status::NoMemory,
         }

@@ -2,6 +2,7 @@
 #![tactic(auto)]
 
 mod faults;
+mod inputs;
 mod laws;
 mod problem;
 mod running;

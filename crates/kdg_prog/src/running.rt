@@ -4,7 +4,7 @@ ghost use Rattle.app_laws.specs.Applications.{AreFitStarts};
 ghost use Rattle.graph_update.specs.Answers.{IsBegun};
 ghost use Rattle.graph_update.specs.Engine.{IsBeginFault};
 ghost use Rattle.graph_update.specs.Sound.{IsSound};
-ghost use Rattle.kdg_prog.specs.Problem.{answer_by, print_of_finals, problem_of, rounds_text, tasks_line, whole_print};
+ghost use Rattle.kdg_prog.specs.Problem.{answer_by, figure_line, line_count, made_from, print_of_finals, problem_of, rounds_text, text_shown, whole_print};
 ghost use Rattle.kdg_prog.specs.Refusals.{IsRunRefusal};
 ghost use Rattle.kdg_prog.specs.Words.{IsAllowed};
 
@@ -61,7 +61,7 @@ fn serial_print<A: Runnable>(alloc: Global, options: &Options, app: &A) -> Resul
     let cells = app.start_cells()?;
     let tasks = app.start_tasks()?;
     let finals = serial(alloc, app, cells, tasks, options.budget)?;
-    Ok(finals_print(app, finals, None)?)
+    Ok(finals_print(alloc, options, app, finals, None)?)
 }
 
 /// The print of a run in rounds.
@@ -89,7 +89,8 @@ fn rounds_print<R: Threads + Sync, A: Runnable, G: Gate + Sync>(
     let tasks = app.start_tasks()?;
     let engine = begin::<A, Brand>(alloc, app, cells, tasks, options.budget, Blank::new(1))?;
     let (finals, rounds) = run_rounds(rt, alloc, engine, gate, options.seed, options.workers)?;
-    Ok(finals_print(app, finals, options.stats.then_some(rounds))?)
+    let rounds = options.stats.then_some(rounds);
+    Ok(finals_print(alloc, options, app, finals, rounds)?)
 }
 
 /// An engine on these cells and tasks, whose steps nobody counts.
@@ -116,44 +117,84 @@ fn begin<'a, A: App, L: Ledger>(
     Engine::begin(alloc, app, cells, tasks, budget, &mut steps)
 }
 
-/// The print of a run that has ended: its log, the finals, the number of tasks, and that of rounds
-/// where it is told.
+/// The print of a run that has ended: its log, the finals and the number of tasks, or their figures
+/// where the input was made from a number; and the number of rounds where it is told.
 fn finals_print<A: Runnable>(
+    alloc: Global,
+    options: &Options,
     app: &A,
     finals: Finals<A::Val>,
     rounds: Option<u64>,
 ) -> Result<Text, NoRoom>
     requires home { AreAllHome finals.store }
     requires cells { (A.meaning app.now).is_fit_cells (values_of finals.store) }
-    ensures { IfOk result (λ bytes. bytes ≡ print_of_finals (problem_of (A.meaning app.now) (A.setting app.now)) rounds finals) }
+    ensures { IfOk result (λ bytes. bytes ≡ print_of_finals (problem_of (A.meaning app.now) (A.setting app.now)) options.now rounds finals) }
 {
     let Finals { store, log, count } = finals;
-    let mut text = log.all()?;
+    let log_text = log.all()?;
     drop(log);
-    text.push_all(app.final_text(&store)?.bytes())?;
-    push_tasks_line(&mut text, count)?;
+    let final_text = app.final_text(&store)?;
+    let mut text = text_shown(alloc, options, log_text, &final_text, count)?;
     push_rounds(&mut text, rounds)?;
     Ok(text)
 }
 
-/// Appends `tasks N`.
-fn push_tasks_line(text: &mut Text, count: u64) -> Result<(), NoRoom>
-    ensures { OnOk result (text.new ≡ text.old ++ tasks_line count) }
+/// The log, the finals and the number of tasks, or their figures.
+fn text_shown(
+    alloc: Global,
+    options: &Options,
+    log: Text,
+    finals: &Text,
+    count: u64,
+) -> Result<Text, NoRoom>
+    ensures { IfOk result (λ text. text ≡ text_shown options.now log finals.now count) }
 {
-    text.push_all(b"tasks ")?;
-    push_u64(text, count)?;
-    text.push_all(b"\n")?;
-    Ok(())
+    let lines = line_count(log.bytes());
+    let mut whole = log;
+    whole.push_all(finals.bytes())?;
+    push_figure(&mut whole, b"tasks ", count)?;
+    if options.big == 0 {
+        return Ok(whole);
+    }
+    let mut text = Text::new(alloc);
+    push_made_from(&mut text, options)?;
+    push_figure(&mut text, b"log ", lines as u64)?;
+    push_figure(&mut text, b"bytes ", whole.len() as u64)?;
+    push_figure(&mut text, b"tasks ", count)?;
+    Ok(text)
+}
+
+/// How many lines there are, each of which ends with a line feed.
+fn line_count(text: &[u8]) -> usize
+    ensures { result ≡ line_count text.now }
+{
+    text.iter().filter(|byte| **byte == b'\n').count()
+}
+
+/// Appends what the input was made from.
+fn push_made_from(text: &mut Text, options: &Options) -> Result<(), NoRoom>
+    ensures { OnOk result (text.new ≡ text.old ++ made_from options.now) }
+{
+    text.push_all(b"big ")?;
+    text.push_all(options.command.word().as_bytes())?;
+    push_figure(text, b" ", u64::from(options.big))
+}
+
+/// Appends a word and a number.
+fn push_figure(text: &mut Text, word: &[u8], number: u64) -> Result<(), NoRoom>
+    ensures { OnOk result (text.new ≡ text.old ++ figure_line word.now number) }
+{
+    text.push_all(word)?;
+    push_u64(text, number)?;
+    text.push_all(b"\n")
 }
 
 /// Appends `rounds N`, where there is a number.
 fn push_rounds(text: &mut Text, rounds: Option<u64>) -> Result<(), NoRoom>
     ensures { OnOk result (text.new ≡ text.old ++ rounds_text rounds) }
 {
-    if let Some(rounds) = rounds {
-        text.push_all(b"rounds ")?;
-        push_u64(text, rounds)?;
-        text.push_all(b"\n")?;
+    match rounds {
+        Some(rounds) => push_figure(text, b"rounds ", rounds),
+        None => Ok(()),
     }
-    Ok(())
 }

@@ -13,6 +13,7 @@ fn read(alloc: Global, line: &[&str]) -> Result<Result<Options, u32>, AllocError
 fn defaults() -> Options {
     Options {
         command: Command::Sim,
+        big: 0,
         workers: 4,
         mode: Mode::Rounds,
         seed: 0,
@@ -29,7 +30,7 @@ fn reads_words(rt: HostRuntime) -> Result<(), Fail> {
         mode: Mode::Serial,
         ..sim
     };
-    let rows: [(&[&str], Options); 22] = [
+    let rows: [(&[&str], Options); 24] = [
         (&["sim"], sim),
         (
             &["mesh"],
@@ -135,6 +136,15 @@ fn reads_words(rt: HostRuntime) -> Result<(), Fail> {
                 ..sim
             },
         ),
+        (&["big", "sim", "999"], Options { big: 999, ..sim }),
+        (
+            &["big", "rank", "01", "--mode", "serial"],
+            Options {
+                command: Command::Rank,
+                big: 1,
+                ..serial
+            },
+        ),
     ];
     for (line, options) in rows {
         assert_eq!(rt; read(rt.alloc(), line)?, Ok(options), "{line:?}");
@@ -144,7 +154,7 @@ fn reads_words(rt: HostRuntime) -> Result<(), Fail> {
 
 #[test]
 fn names_the_first_bad_word(rt: HostRuntime) -> Result<(), Fail> {
-    let rows: [(&[&str], u32); 33] = [
+    let rows: [(&[&str], u32); 40] = [
         (&[], 1),
         (&[""], 1),
         (&["Sim"], 1),
@@ -153,6 +163,13 @@ fn names_the_first_bad_word(rt: HostRuntime) -> Result<(), Fail> {
         (&["mesh", "--seed", "1", "--until", "5"], 4),
         (&["mesh", "mesh"], 2),
         (&["--seed", "1"], 1),
+        (&["big"], 2),
+        (&["big", "big", "1"], 2),
+        (&["big", "sim"], 3),
+        (&["big", "sim", "0"], 3),
+        (&["big", "mesh", "2049", "--what"], 3),
+        (&["big", "rank", "1", "--until", "5"], 4),
+        (&["big", "sim", "1", "--until"], 5),
         (&["sim", "--workers", "0"], 3),
         (&["sim", "--workers", "65"], 3),
         (&["sim", "--workers", ""], 3),

@@ -1,28 +1,29 @@
-ghost use Rattle.std.specs.Prelude.{◌≡◌, ◌≢◌, map, string_bytes, IfOk, IfErr};
+ghost use Rattle.std.specs.Prelude.{◌≡◌, ◌≢◌, ◌<◌, ◌≤◌, map, string_bytes, IfOk, IfErr};
+ghost use Rattle.gf2_eliminate.specs.Blocks.{most_blocks};
+ghost use Rattle.logic_sim.specs.Chain.{most_inverters};
+ghost use Rattle.spring_mesh.specs.Pairs.{most_pairs};
 ghost use Rattle.outer_edge.specs.Transfers.{transfer_of};
 ghost use Rattle.kdg_prog.specs.Answer.{answer_for, answer_of, whole_print};
 ghost use Rattle.kdg_prog.specs.Headline.{CompletesInMemory, Promises, TellsBadWord};
+ghost use Rattle.kdg_prog.specs.Inputs.{read_of};
 ghost use Rattle.kdg_prog.specs.Refusals.{IsRefusal, IsRefusalFor};
 ghost use Rattle.kdg_prog.specs.Words.{IsAllowed, options_of};
 
+use crate::inputs::{deck_for, mesh_for, pattern_for, read_input};
 use crate::running::print_of_run;
 use crate::{Command, Options, Status, read_words};
-use bench_reader::read_deck;
 use gf2_eliminate::Matrix;
 use kdg_text::Text;
 use logic_sim::Circuit;
-use mtx_reader::read_mtx;
-use outer_edge::{CleanSink, CleanSource, Gate, Sink, Source, read_all, write_whole};
-use spring_mesh::{Mesh, read_mesh};
+use outer_edge::{CleanSink, CleanSource, Gate, Sink, Source, write_whole};
+use spring_mesh::Mesh;
 use std::alloc::Global;
 use std::thread::Threads;
 
-/// How many bytes an input may have.
-pub(crate) const INPUT_BOUND: u64 = 16_777_216;
-
 /// Reads the words and then the whole input, runs the circuit, the elimination or the mesh that it
 /// describes, and writes the print: the log, the finals, the number of tasks, and, where figures
-/// are asked for in mode rounds, that of rounds.
+/// are asked for in mode rounds, that of rounds. Where the words say so, the input is made from a
+/// number in place of being read, and the print has but figures of the log and the finals.
 ///
 /// In mode serial always the earliest pending task runs. In mode rounds the gate chooses among the
 /// tasks that are clear, and workers perform them; what is printed is the same.
@@ -47,6 +48,10 @@ pub fn run<R: Threads + Sync, S: Source, K: Sink, G: Gate + Sync>(
         Promises options (transfer_of S.remaining S.faults source.old source.new)
         (transfer_of K.contents K.faults sink.old sink.new) result) }
 
+    // Where the input is made from a number, no read is made.
+    ensures unread { IfOk (options_of (map string_bytes words.now.items))
+        (λ options. 0 < options.big → source.new ≡ source.old) }
+
     // Only the print is written.
     ensures no_write { result ≢ Status.Ok → result ≢ Status.WriteFault → sink.new ≡ sink.old }
     ensures same_room { K.room sink.new ≡ K.room sink.old }
@@ -70,10 +75,11 @@ pub fn run_plain<R: Threads + Sync, S: Source, K: Sink, G: Gate + Sync>(
     requires { IsAllowed options.now }
     ensures promises { Promises options.now (transfer_of S.remaining S.faults source.old source.new)
         (transfer_of K.contents K.faults sink.old sink.new) result }
+    ensures unread { 0 < options.now.big → source.new ≡ source.old }
     ensures no_write { result ≢ Status.Ok → result ≢ Status.WriteFault → sink.new ≡ sink.old }
     ensures same_room { K.room sink.new ≡ K.room sink.old }
 {
-    match read_all(alloc, source, INPUT_BOUND) {
+    match read_input(alloc, options.big, source) {
         Ok(input) => match print_of(rt, alloc, options, input, gate) {
             Ok(print) => match write_whole(sink, print.bytes()) {
                 Ok(()) => Status::Ok,
@@ -97,7 +103,7 @@ pub fn run_in_memory<R: Threads + Sync, G: Gate + Sync>(
 ) -> Status
     requires { IsAllowed options.now }
     ensures { result ≢ Status.NoMemory →
-        CompletesInMemory options.now source.old.left sink.old sink.new result }
+        CompletesInMemory options.now (read_of options.now.big source.old.left) sink.old sink.new result }
 {
     run_plain(rt, alloc, options, source, sink, gate)
 }
@@ -129,11 +135,12 @@ fn circuit_print<R: Threads + Sync, G: Gate + Sync>(
     input: Text,
     gate: &G,
 ) -> Result<Text, Status>
-    requires { IsAllowed options.now }
+    requires allowed { IsAllowed options.now }
+    requires big { options.now.big ≤ most_inverters }
     ensures print { IfOk result (λ bytes. answer_for Command.Sim options.now input ≡ whole_print bytes) }
     ensures refusal { IfErr result (IsRefusalFor Command.Sim options.now input) }
 {
-    let deck = read_deck(alloc, input.bytes())?;
+    let deck = deck_for(alloc, options.big, input.bytes())?;
     drop(input);
     let circuit = Circuit::new(alloc, deck, options.until)?;
     print_of_run(rt, alloc, options, &circuit, gate)
@@ -147,11 +154,12 @@ fn matrix_print<R: Threads + Sync, G: Gate + Sync>(
     input: Text,
     gate: &G,
 ) -> Result<Text, Status>
-    requires { IsAllowed options.now }
+    requires allowed { IsAllowed options.now }
+    requires big { options.now.big ≤ most_blocks }
     ensures print { IfOk result (λ bytes. answer_for Command.Rank options.now input ≡ whole_print bytes) }
     ensures refusal { IfErr result (IsRefusalFor Command.Rank options.now input) }
 {
-    let pattern = read_mtx(alloc, input.bytes())?;
+    let pattern = pattern_for(alloc, options.big, input.bytes())?;
     drop(input);
     let matrix = Matrix::new(alloc, pattern);
     print_of_run(rt, alloc, options, &matrix, gate)
@@ -165,11 +173,12 @@ fn mesh_print<R: Threads + Sync, G: Gate + Sync>(
     input: Text,
     gate: &G,
 ) -> Result<Text, Status>
-    requires { IsAllowed options.now }
+    requires allowed { IsAllowed options.now }
+    requires big { options.now.big ≤ most_pairs }
     ensures print { IfOk result (λ bytes. answer_for Command.Mesh options.now input ≡ whole_print bytes) }
     ensures refusal { IfErr result (IsRefusalFor Command.Mesh options.now input) }
 {
-    let file = read_mesh(alloc, input.bytes())?;
+    let file = mesh_for(alloc, options.big, input.bytes())?;
     drop(input);
     let mesh = Mesh::new(alloc, file);
     print_of_run(rt, alloc, options, &mesh, gate)

@@ -1,5 +1,6 @@
-ghost use Rattle.std.specs.Prelude.{◌≡◌, ◌+◌, ◌≤◌, map, string_bytes, is_some, IfOk, IfSome, OnSome};
-ghost use Rattle.kdg_prog.specs.Words.{options_of, IsAllowed, command_named, option_for, option_named, takes, number_within, mode_value, switch_value, is_value};
+ghost use Rattle.std.specs.Prelude.{◌≡◌, ◌+◌, ◌≤◌, map, option_and_then, slice_get, string_bytes, is_some, Err, IfOk, IfErr, IfSome, OnSome};
+ghost use Rattle.kdg_prog.specs.Words.{options_of, IsAllowed, IsHeading, is_big, command_named, most_for, option_for, option_named, takes, number_within, mode_value, switch_value, is_value};
+ghost use Rattle.kdg_prog.specs.Problem.{word_of};
 ghost use Rattle.kdg_prog.specs.Draft.{is_given, with_value, options_of_draft};
 
 use kdg_text::read_u64;
@@ -39,6 +40,8 @@ pub enum Mode {
 #[derive(Clone, Copy, Debug, PartialEq, Eq)]
 pub struct Options {
     pub command: Command,
+    /// The number that the input is made from, or 0 where it is read.
+    pub big: u32,
     /// 1 to 64.
     pub workers: u32,
     pub mode: Mode,
@@ -54,8 +57,10 @@ pub struct Options {
 /// Reads the words of a command line, without the program's name, or gives the place of the first
 /// bad one, counted from 1.
 ///
-/// The first word is the command, `sim`, `rank` or `mesh`. Pairs of an option and its value follow
-/// in any order, each option at most once:
+/// The first word is the command, `sim`, `rank` or `mesh`. The input is read, unless `big` stands
+/// before the command and a number behind it, from which the input is made then: 1 to 999 for
+/// `sim`, to 1,365 for `rank`, to 2,048 for `mesh`. Pairs of an option and its value follow in any
+/// order, each option at most once:
 ///
 /// | option | value | default |
 /// |---|---|---|
@@ -67,22 +72,19 @@ pub struct Options {
 /// | `--stats` | `on` or `off` | `off` |
 ///
 /// Words are compared byte by byte, and numbers are decimal digits, which may begin with zeros. The
-/// first word is bad where it is missing or no command, an option where it is not one of the
-/// command's or was given before, and a value where it is missing or none of its option's. A missing
-/// value has the place behind the last word.
+/// command is bad where it is missing or no command, the number where it is missing or out of range,
+/// an option where it is not one of the command's or was given before, and a value where it is
+/// missing or none of its option's. What is missing has the place behind the last word.
 pub fn read_words(words: &Vec<String>) -> Result<Options, u32>
     ensures value { result ≡ options_of (map string_bytes words.now.items) }
     ensures allowed { IfOk result IsAllowed }
 {
-    let command = words
-        .first()
-        .and_then(|word| command_named(word.as_str()))
-        .ok_or(1u32)?;
+    let heading = read_heading(words)?;
     let mut draft = Draft::default();
-    let mut index = 1;
+    let mut index = heading.len;
     while index < words.len() {
         let place = index as u32 + 1;
-        let name = option_for(command, words[index].as_str()).ok_or(place)?;
+        let name = option_for(heading.command, words[index].as_str()).ok_or(place)?;
         if draft.has(name) {
             return Err(place);
         }
@@ -90,7 +92,70 @@ pub fn read_words(words: &Vec<String>) -> Result<Options, u32>
         draft.set(name, value.as_str()).ok_or(place + 1)?;
         index += 2;
     }
-    Ok(draft.options(command))
+    Ok(draft.options(&heading))
+}
+
+/// What stands before the options.
+#[derive(Clone, Copy)]
+struct Heading {
+    command: Command,
+    /// The number that the input is made from, or 0 where it is read.
+    big: u32,
+    /// How many words it has.
+    len: usize,
+}
+
+/// Reads what stands before the options, or gives the place of the first bad word.
+fn read_heading(words: &Vec<String>) -> Result<Heading, u32>
+    ensures read { IfOk result (IsHeading (map string_bytes words.now.items)) }
+    ensures refused { IfErr result (λ place. options_of (map string_bytes words.now.items) ≡ Err place) }
+{
+    if !is_big(words) {
+        let Some(command) = command_at(words, 0) else {
+            return Err(1);
+        };
+        return Ok(Heading {
+            command,
+            big: 0,
+            len: 1,
+        });
+    }
+    let Some(command) = command_at(words, 1) else {
+        return Err(2);
+    };
+    let Some(big) = number_at(words, 2, command.most_for()) else {
+        return Err(3);
+    };
+    Ok(Heading {
+        command,
+        big: big as u32,
+        len: 3,
+    })
+}
+
+/// Whether the input is made from a number.
+fn is_big(words: &Vec<String>) -> bool
+    ensures { result ≡ is_big (map string_bytes words.now.items) }
+{
+    match words.first() {
+        Some(word) => word.as_str() == "big",
+        None => false,
+    }
+}
+
+/// The command that the word at an index names.
+fn command_at(words: &Vec<String>, index: usize) -> Option<Command>
+    ensures { result ≡ option_and_then command_named (slice_get (map string_bytes words.now.items) index) }
+{
+    command_named(words.get(index)?.as_str())
+}
+
+/// The number from 1 to `most` that the word at an index spells.
+fn number_at(words: &Vec<String>, index: usize, most: u64) -> Option<u64>
+    ensures value { result ≡ option_and_then (number_within 1 most) (slice_get (map string_bytes words.now.items) index) }
+    ensures within { IfSome result (λ number. number ≤ most) }
+{
+    read_within(words.get(index)?.as_str(), 1, most)
 }
 
 /// What stands before a value.
@@ -117,6 +182,29 @@ fn command_named(word: &str) -> Option<Command>
 }
 
 impl Command {
+    /// The word that names it.
+    pub(crate) fn word(self) -> &'static str
+        ensures { result.now ≡ word_of self }
+    {
+        match self {
+            Command::Sim => "sim",
+            Command::Rank => "rank",
+            Command::Mesh => "mesh",
+        }
+    }
+
+    /// The greatest number that its input may be made from.
+    fn most_for(self) -> u64
+        ensures value { result ≡ most_for self }
+        ensures few { result ≤ 2048 }
+    {
+        match self {
+            Command::Sim => 999,
+            Command::Rank => 1365,
+            Command::Mesh => 2048,
+        }
+    }
+
     /// Whether it has the option.
     fn takes(self, name: OptionName) -> bool
         ensures { result ≡ takes self name }
@@ -233,11 +321,12 @@ impl Draft {
     }
 
     /// The values that were given, and the defaults of the other options.
-    fn options(self, command: Command) -> Options
-        ensures { result ≡ options_of_draft command self }
+    fn options(self, heading: &Heading) -> Options
+        ensures { result ≡ options_of_draft heading.now.command heading.now.big self }
     {
         Options {
-            command,
+            command: heading.command,
+            big: heading.big,
             workers: self.workers.unwrap_or(4),
             mode: self.mode.unwrap_or(Mode::Rounds),
             seed: self.seed.unwrap_or(0),

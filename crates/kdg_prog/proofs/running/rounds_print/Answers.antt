@@ -63,5 +63,5 @@ returns-clause-print g c =
     let ready = c.standing_laws.ensures.starts_ready app setting.cells setting.tasks fit_cells fit_tasks in
     let run = run_in_rounds options problem progress values begun orderly c.join_laws.ensures.none finals rounds ended in
     let counted = rounds_in_rounds options problem progress values begun orderly c.join_laws.ensures.none finals rounds ended (c.round_count_laws.ensures.to_the_end app) (c.round_laws.ensures.one_number app) ready in
-    let told = rounds_told_in_rounds options problem c.requires.mode rounds counted ∙ sym c.then_some.ensures in
-    print_from_run options problem finals c.then_some.result c.in_ok-finals_print.field-0 values told run c.in_ok-finals_print.ensures
+    let told = rounds_told_in_rounds options problem c.requires.mode rounds counted ∙ sym c.then_some-rounds.ensures in
+    print_from_run options problem finals c.then_some-rounds.result c.in_ok-finals_print.field-0 values told run c.in_ok-finals_print.ensures

@@ -6,26 +6,26 @@ use Rattle.kdg_prog.proofs.whole_run.run_plain.Goals as goal
 
 pub returns-in-Ok-clause-promises : goal.returns-in-Ok-clause-promises
 returns-in-Ok-clause-promises g c =
-    let source = transfer_of g.S.Source.remaining g.S.Source.faults c.args.source.now c.read_all.new.source in
+    let source = transfer_of g.S.Source.remaining g.S.Source.faults c.args.source.now c.read_input.new.source in
     let sink = transfer_of g.K.Sink.contents g.K.Sink.faults c.args.sink.now c.args.sink.now in
-    when_refused c.args.options.now source sink c.in-Ok.input c.in-Ok.ensures c.in-Err-print_of.refusal c.in-Err-print_of.ensures.refusal refl
+    when_refused c.args.options.now source sink c.in-Ok.input c.in-Ok.ensures.taken c.in-Err-print_of.refusal c.in-Err-print_of.ensures.refusal refl
 
 pub returns-clause-promises : goal.returns-clause-promises
 returns-clause-promises g c =
-    let source = transfer_of g.S.Source.remaining g.S.Source.faults c.args.source.now c.read_all.new.source in
+    let source = transfer_of g.S.Source.remaining g.S.Source.faults c.args.source.now c.read_input.new.source in
     let sink = transfer_of g.K.Sink.contents g.K.Sink.faults c.args.sink.now c.args.sink.now in
-    when_unread c.args.options.now source sink c.in-Err.fault c.from.result c.in-Err.ensures c.from.ensures refl
+    when_unread c.args.options.now source sink c.in-Err.fault c.from.result c.in-Err.ensures.taken c.from.ensures refl
 
 pub returns-in-Ok-write_whole-clause-promises : goal.returns-in-Ok-write_whole-clause-promises
 returns-in-Ok-write_whole-clause-promises g c =
-    let source = transfer_of g.S.Source.remaining g.S.Source.faults c.args.source.now c.read_all.new.source in
+    let source = transfer_of g.S.Source.remaining g.S.Source.faults c.args.source.now c.read_input.new.source in
     let sink = transfer_of g.K.Sink.contents g.K.Sink.faults c.args.sink.now c.write_whole.new.out in
     let is = c.in-Ok-print_of.ensures.print ∙ ap whole_print (sym c.bytes.ensures) in
-    when_printed c.args.options.now source sink c.in-Ok.input c.in-Ok.ensures c.bytes.result.now is c.in-Ok-write_whole.ensures.ok c.in-Ok-write_whole.ensures.no_fault
+    when_printed c.args.options.now source sink c.in-Ok.input c.in-Ok.ensures.taken c.bytes.result.now is c.in-Ok-write_whole.ensures.ok c.in-Ok-write_whole.ensures.no_fault
 
 pub returns-in-Ok-print_of-clause-promises : goal.returns-in-Ok-print_of-clause-promises
 returns-in-Ok-print_of-clause-promises g c =
-    let source = transfer_of g.S.Source.remaining g.S.Source.faults c.args.source.now c.read_all.new.source in
+    let source = transfer_of g.S.Source.remaining g.S.Source.faults c.args.source.now c.read_input.new.source in
     let sink = transfer_of g.K.Sink.contents g.K.Sink.faults c.args.sink.now c.write_whole.new.out in
     let is = c.in-Ok-print_of.ensures.print ∙ ap whole_print (sym c.bytes.ensures) in
-    when_cut c.args.options.now source sink c.in-Ok.input c.in-Ok.ensures c.bytes.result.now is c.in-Err-write_whole.ensures.front c.in-Err-write_whole.ensures.write_fault
+    when_cut c.args.options.now source sink c.in-Ok.input c.in-Ok.ensures.taken c.bytes.result.now is c.in-Err-write_whole.ensures.front c.in-Err-write_whole.ensures.write_fault
