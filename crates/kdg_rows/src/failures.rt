@@ -13,6 +13,7 @@ fn plain_options() -> Options
 {
     Options {
         command: Command::Sim,
+        big: 0,
         workers: 4,
         mode: Mode::Rounds,
         seed: 0,

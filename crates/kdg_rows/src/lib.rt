@@ -11,6 +11,8 @@ mod examples;
 #[cfg(test)]
 mod failures;
 #[cfg(test)]
+mod generated;
+#[cfg(test)]
 mod matrices;
 #[cfg(test)]
 mod meshes;
