@@ -1,11 +1,13 @@
-//! Worked examples through the top call, over sources and sinks in memory. There is no code here
-//! but tests.
+//! Worked examples through the top call, over sources and sinks in memory, and through the engine.
+//! There is no code here but tests.
 #![tactic(auto)]
 
 #[cfg(test)]
 mod answering;
 #[cfg(test)]
 mod decks;
+#[cfg(test)]
+mod engine;
 #[cfg(test)]
 mod examples;
 #[cfg(test)]
