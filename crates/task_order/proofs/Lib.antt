@@ -12,3 +12,4 @@ pub mod Cuts
 pub mod Found
 pub mod Ends
 pub mod Priorities
+pub mod Near

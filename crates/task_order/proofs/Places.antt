@@ -63,7 +63,7 @@ before_by a b key Equal is earlier up_to = subst (λ k. key_cmp a k ≡ Less) (k
 before_by a b key Greater is earlier up_to = absurd (true≢false (sym up_to))
 
 -- a task before a block that starts by the key is earlier than the key
-earlier_than_started : (key : Key) (task : Task) (blocks : List (List Task)) (at : ℕ) (d : List Task) → AllByRecursion (λ other. key_cmp task.key other.key ≡ Less) (tasks_in blocks)
+pub earlier_than_started : (key : Key) (task : Task) (blocks : List (List Task)) (at : ℕ) (d : List Task) → AllByRecursion (λ other. key_cmp task.key other.key ≡ Less) (tasks_in blocks)
     → at < length blocks → starts_by key (get_or blocks at d) ≡ true → key_cmp task.key key ≡ Less
 earlier_than_started key task [] at d all inside starts = absurd (omega (arith, inside))
 earlier_than_started key task ([] ∷ blocks) zero d all inside starts = absurd (true≢false (sym starts))

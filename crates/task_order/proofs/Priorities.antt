@@ -107,7 +107,7 @@ starts_by_test key task block true is up some = ap is_le (Less_from_test _ is)
 starts_by_test key task block false is up some = absurd (omega (arith, some, ap length (before-cons key task block false is), ap length (before-late key task block is up.0)))
 
 -- a block with an earlier task starts by the key
-started_from_some : (key : Key) (block : List Task) → IsAscending block → 0 < length (tasks_before key block) → starts_by key block ≡ true
+pub started_from_some : (key : Key) (block : List Task) → IsAscending block → 0 < length (tasks_before key block) → starts_by key block ≡ true
 started_from_some key [] up some = absurd (omega (arith, some))
 started_from_some key (task ∷ block) up some = starts_by_test key task block _ refl up some
 

@@ -20,6 +20,9 @@ const FULL: usize = 64;
 /// How many tasks a search in a block passes at once.
 const STRIDE: usize = 8;
 
+/// How many tasks a search passes that begins near its end.
+const NEAR: usize = 8;
+
 /// A part of a list of tasks.
 #[derive(Drop)]
 pub(crate) struct Block {
@@ -123,6 +126,25 @@ impl Block {
             place += 1;
         }
         place
+    }
+
+    /// The place of a key, where it is at most a few tasks behind a place that is behind an earlier one.
+    pub(crate) fn place_near(&self, start: usize, key: &Key) -> Option<usize>
+        requires { IsAscending self.now }
+        ensures place { IfSome result (λ place. place ≡ length (tasks_before key.now self.now)) }
+        ensures some { IfSome result (λ place. 0 < place) }
+    {
+        if !self.is_earlier_at(start.checked_sub(1)?, key) {
+            return None;
+        }
+        let mut place = start;
+        while self.is_earlier_at(place, key) {
+            if place - start >= NEAR {
+                return None;
+            }
+            place += 1;
+        }
+        Some(place)
     }
 
     /// The place of a key behind all tasks of at most its priority, where it is later than those.

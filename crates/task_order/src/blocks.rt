@@ -22,6 +22,8 @@ const HALF: usize = 32;
 #[derive(Drop)]
 pub(crate) struct Blocks {
     blocks: VecDeque<Block>,
+    // behind the task that was put in last; should that be another place by now, a search takes longer
+    recent: (usize, usize),
 }
 
 impl Model for Blocks {
@@ -40,6 +42,7 @@ impl Blocks {
     {
         Blocks {
             blocks: VecDeque::new(alloc),
+            recent: (0, 0),
         }
     }
 
@@ -51,10 +54,54 @@ impl Blocks {
     {
         match self.end_for(key) {
             Some(end) => end,
-            None => match self.end_of_prio(key) {
-                Some(end) => end,
-                None => self.search(key),
+            None => match self.near_recent(key) {
+                Some(near) => near,
+                None => self.place_among(key),
             },
+        }
+    }
+
+    /// Where a key belongs, by its priority or else by a search.
+    fn place_among(&self, key: &Key) -> (usize, usize)
+        requires ascending { IsAscending (tasks_in self.now) }
+        requires gapless { IsGapless self.now }
+        ensures { IsPlace key.now self.now result.0 result.1 }
+    {
+        match self.end_of_prio(key) {
+            Some(end) => end,
+            None => self.search(key),
+        }
+    }
+
+    /// Where a key belongs, if that is close behind the task that was put in last: children of tasks
+    /// in turn mostly go to places in turn.
+    fn near_recent(&self, key: &Key) -> Option<(usize, usize)>
+        requires ascending { IsAscending (tasks_in self.now) }
+        requires gapless { IsGapless self.now }
+        ensures { IfSome result (λ near. IsPlace key.now self.now near.0 near.1) }
+    {
+        let (at, start) = self.recent;
+        if at >= self.count() {
+            return None;
+        }
+        let block = &self.blocks[at];
+        let place = block.place_near(start, key)?;
+        if place < block.len() {
+            return Some((at, place));
+        }
+        if self.is_started_at(at + 1, key) {
+            return None;
+        }
+        Some((at, place))
+    }
+
+    /// Whether there is a block at a place whose first task is not later than the key.
+    fn is_started_at(&self, at: usize, key: &Key) -> bool
+        ensures { result ≡ starts_by key.now (block_at self.now at) }
+    {
+        match self.blocks.get(at) {
+            Some(block) => block.starts_by(key),
+            None => false,
         }
     }
 
@@ -169,6 +216,7 @@ impl Blocks {
         ensures returned { IfErr result (λ back. back ≡ task) }
         ensures unchanged { OnErr result (self.new ≡ self.old) }
     {
+        self.recent = (at, place.saturating_add(1));
         self.blocks[at].insert(place, task)
     }
 
@@ -218,6 +266,9 @@ impl Blocks {
         requires { at < length self.old }
         ensures { self.new ≡ remove self.old at }
     {
+        if at < self.recent.0 {
+            self.recent.0 -= 1;
+        }
         let _ = self.blocks.remove(at);
     }
 
@@ -283,6 +334,9 @@ impl Blocks {
         if self.blocks.is_empty() {
             return None;
         }
+        if self.recent.0 == 0 {
+            self.recent.1 = self.recent.1.saturating_sub(1);
+        }
         let task = self.blocks[0].take_first()?;
         self.drop_empty(0);
         Some(task)
@@ -325,6 +379,7 @@ impl Blocks {
         ensures returned { IfErr result (λ back. back ≡ task) }
         ensures unchanged { OnErr result (self.new ≡ self.old) }
     {
+        self.recent = (at, 1);
         let block = Block::of(*self.blocks.allocator(), task)?;
         match self.blocks.insert(at, block) {
             Ok(()) => Ok(()),
