@@ -2,6 +2,7 @@ ghost use Rattle.std.specs.Prelude.{◌≡◌, ◌<◌, ◌≤◌, ◌-◌, ◌^
 ghost use Rattle.std.specs.List.{insert, remove};
 ghost use Rattle.std.specs.Map.Iter.{deref};
 ghost use Rattle.std.specs.Option.{option_map};
+ghost use Rattle.std.specs.VecDeque.{deque_len, deque_capacity};
 ghost use Rattle.std.specs.VecDeque.Iter.{deque_iter_rest};
 ghost use Rattle.task_order.specs.Key.{key_cmp};
 ghost use Rattle.task_order.specs.TaskList.{IsAscending, tasks_before};
@@ -53,19 +54,20 @@ fn prio_of_first(tasks: &VecDeque<Task>) -> u64
     }
 }
 
-/// Puts a task at a place, which usually is the end.
-fn put_at(tasks: &mut VecDeque<Task>, place: usize, task: Task) -> Result<(), Task>
-    requires { place ≤ length tasks.old.items }
-    ensures ok { OnOk result (tasks.new.items ≡ insert tasks.old.items place task) }
-    ensures returned { IfErr result (λ back. back ≡ task) }
-    ensures unchanged { OnErr result (tasks.new.items ≡ tasks.old.items) }
+/// Puts a task at a place, which usually is the end, where there is memory for it.
+fn put_at(tasks: &mut VecDeque<Task>, place: usize, task: Task)
+    requires place { place ≤ length tasks.old.items }
+    requires room { deque_len tasks.old < deque_capacity tasks.old }
+    ensures { tasks.new.items ≡ insert tasks.old.items place task }
 {
-    let put = if place == tasks.len() {
-        tasks.push_back(task)
-    } else {
-        tasks.insert(place, task)
-    };
-    put.map_err(|failed| failed.value)
+    if place == tasks.len() {
+        tasks.push_back_reserved(task);
+        return;
+    }
+    match tasks.insert(place, task) {
+        Ok(()) => {}
+        Err(_) => unreachable!(),
+    }
 }
 
 impl Block {
@@ -219,11 +221,13 @@ impl Block {
         ensures returned { IfErr result (λ back. back ≡ task) }
         ensures unchanged { OnErr result (self.new ≡ self.old) }
     {
-        let prio = task.key.prio;
-        put_at(&mut self.tasks, place, task)?;
-        if place == 0 {
-            self.first_prio = prio;
+        if self.tasks.reserve(1).is_err() {
+            return Err(task);
         }
+        if place == 0 {
+            self.first_prio = task.key.prio;
+        }
+        put_at(&mut self.tasks, place, task);
         Ok(())
     }
 
