@@ -23,13 +23,15 @@ use Rattle.app_laws.specs.Execution.{Operator, Outcome, children_from}
 
 -- an application: how many cells it works on, which lists of values are its cells, which pairs of a priority and a body
 -- are its tasks, the set that a body declares in the cells, what finding that set out needs of cells that may be out,
--- what a task does, and whether a task may run although these earlier ones are pending
+-- whether it needs none, so that the set never moves, what a task does, and whether a task may run although these earlier
+-- ones are pending
 pub record Application (V : Type 0) : Type 1 where
   pub count : ℕ
   pub is_fit_cells : List V → Type 0
   pub is_fit_task : ℕ → Body → Type 0
   pub set_of : Body → List V → Accesses
   pub walk : Body → List (Cell V) → SetAnswer
+  pub sets_are_fixed : Bool
   pub act : Operator V
   pub is_safe : Task → List Task → Bool
 
@@ -145,6 +147,11 @@ module _ {V : Type 0} (app : Application V) where
   WalksAreTrue = (task : Task) (cells : List (Cell V)) (values : List V) → app.is_fit_cells values → IsFitTask task →
       AgreesWith cells values → IsTrueAnswer (set_in values task) cells (app.walk task.body cells)
 
+  -- where the sets are fixed, a walk finds the declared set, whatever the cells hold
+  abbrev pub FixedSetsAreKnown : Type 0
+  FixedSetsAreKnown = app.sets_are_fixed ≡ true → (task : Task) (cells : List (Cell V)) (values : List V) → app.is_fit_cells values → IsFitTask task →
+      app.walk task.body cells ≡ answer.Known (set_in values task)
+
   -- where nothing earlier is pending, each task is safe
   abbrev pub IsSafeAlone : Type 0
   IsSafeAlone = (task : Task) → IsFitTask task → app.is_safe task [] ≡ true
@@ -172,5 +179,6 @@ module _ {V : Type 0} (app : Application V) where
     pub children_come_no_earlier : ChildrenComeNoEarlier
     pub sets_stay_within : SetsStayWithin
     pub walks_are_true : WalksAreTrue
+    pub fixed_sets_are_known : FixedSetsAreKnown
     pub safe_alone : IsSafeAlone
     pub safe_tasks_stay_safe : SafeTasksStaySafe

@@ -29,7 +29,7 @@ pub enum SetAnswer {
 pub trait App {
     ghost use Rattle.task_order.specs.declared.task.Body.{Body};
     ghost use Rattle.task_order.specs.declared.task.Task.{Task};
-    ghost use Rattle.app_laws.specs.Applications.{Application, AgreesWith, AreFitTasks, IsFitTask, IsTaken, IsEffect, tasks_before, CellsAreCounted, SetsAreInRange, ActsAreFit, SetsAreLocal, ActsAreLocal, ChildrenComeNoEarlier, SetsStayWithin, WalksAreTrue, IsSafeAlone, SafeTasksStaySafe};
+    ghost use Rattle.app_laws.specs.Applications.{Application, AgreesWith, AreFitTasks, IsFitTask, IsTaken, IsEffect, tasks_before, CellsAreCounted, SetsAreInRange, ActsAreFit, SetsAreLocal, ActsAreLocal, ChildrenComeNoEarlier, SetsStayWithin, WalksAreTrue, FixedSetsAreKnown, IsSafeAlone, SafeTasksStaySafe};
 
     /// What a cell holds.
     type Val: Held;
@@ -53,6 +53,11 @@ pub trait App {
         requires cells { (values : List Self.Val) × (meaning self.now).is_fit_cells values × AgreesWith store.now values }
         ensures answer { IfOk result (λ answer. answer ≡ (meaning self.now).walk body.now store.now) }
         ensures step { steps.new ≡ steps.old + 1 };
+
+    /// Whether each task's declared set is one and the same, whatever the cells hold. Then it isn't
+    /// asked for again.
+    fn sets_are_fixed(&self) -> bool
+        ensures { result ≡ (meaning self.now).sets_are_fixed };
 
     /// Whether a task may run although those of the pending tasks that are earlier haven't run yet:
     /// what they and their children may still do must not touch it.
@@ -96,6 +101,10 @@ pub trait App {
 
     /// What `sets` finds is the declared set, and the cell at which it stops lies in it.
     ghost walks_are_true: { (app : Self) → WalksAreTrue (meaning app) };
+
+    /// Where the sets are fixed, `sets` finds the declared set in all cells, also in those that are
+    /// out.
+    ghost fixed_sets_are_known: { (app : Self) → FixedSetsAreKnown (meaning app) };
 
     /// A task with nothing earlier is safe.
     ghost safe_alone: { (app : Self) → IsSafeAlone (meaning app) };

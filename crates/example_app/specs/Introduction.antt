@@ -1,5 +1,5 @@
 -- People who introduce their contacts to each other. Each cell is one person's contact: the number of another person.
-use Rattle.std.specs.Prelude.{◌≡◌, ◌==◌, ◌+◌, ◌-◌, ◌<◌, ◌^◌, ℕ, List, [], ◌∷◌, ◌++◌, length, slice_index, slice_set, if◌then◌else◌, true}
+use Rattle.std.specs.Prelude.{◌≡◌, ◌==◌, ◌+◌, ◌-◌, ◌<◌, ◌^◌, ℕ, List, [], ◌∷◌, ◌++◌, length, slice_index, slice_set, if◌then◌else◌, true, false}
 use Rattle.std.specs.Fmt.{decimal}
 use Rattle.std.specs.List.{All}
 use Rattle.task_order.specs.declared.start.Start.{Start}
@@ -96,5 +96,6 @@ introductions people = record {
   set_of = set_among;
   walk = walk_among;
   act = λ task contacts. meeting_of task (slice_index contacts task.body.at) (slice_index contacts task.body.arg) contacts;
+  sets_are_fixed = false;
   is_safe = λ task others. true;
 }

@@ -4,7 +4,7 @@ use Rattle.std.specs.List.{AllByRecursion, filter}
 use Rattle.std.specs.Option.{is_some}
 use Rattle.std.specs.Fmt.{decimal}
 use Rattle.std.proofs.Common.{arith, inl, inr, ◌⊎◌, length-set, lit<, sym, ap, ◌∙◌, subst}
-use Rattle.std.proofs.lemmas.Bool.{cases_Bool, cases_eq, cases_lt, or_cases, or_left, or_right, or_parts, eq-eqb, ne_eqb, eqb-true, eqb-false, cond_both, false_from_ne_true}
+use Rattle.std.proofs.lemmas.Bool.{true≢false, cases_Bool, cases_eq, cases_lt, or_cases, or_left, or_right, or_parts, eq-eqb, ne_eqb, eqb-true, eqb-false, cond_both, false_from_ne_true}
 use Rattle.std.proofs.lemmas.List.{get_or-set_same, get_or-set_other, get_or_past, get_or-map}
 use Rattle.std.proofs.lemmas.List.Elements.{All-set, All-get_or}
 use Rattle.std.proofs.lemmas.Option.{slice_get-get_or, slice_get_past, same_Some}
@@ -23,7 +23,7 @@ use Rattle.cell_store.specs.declared.cell.Cell.TheVariants.{Home, Out}
 use Rattle.cell_store.specs.Home.{IsHome}
 use Rattle.cell_store.specs.Cells.{cell_at}
 use Rattle.cell_store.specs.Values.{AgreesWith}
-use Rattle.app_laws.specs.Applications.{AgreeOn, IsFitTask, IsWholeLines, set_in, CellsAreCounted, SetsAreInRange, ActsAreFit, SetsAreLocal, IsSameOutcome, ActsAreLocal, ChildrenComeNoEarlier, SetsStayWithin, IsTrueAnswer, WalksAreTrue, IsSafeAlone, SafeTasksStaySafe}
+use Rattle.app_laws.specs.Applications.{AgreeOn, IsFitTask, IsWholeLines, set_in, CellsAreCounted, SetsAreInRange, ActsAreFit, SetsAreLocal, IsSameOutcome, ActsAreLocal, ChildrenComeNoEarlier, SetsStayWithin, IsTrueAnswer, WalksAreTrue, FixedSetsAreKnown, IsSafeAlone, SafeTasksStaySafe}
 use Rattle.app_laws.specs.Execution.{children_from}
 use Rattle.example_app.specs.Introduction.{AreContacts, IsMeeting, meeting_set, set_asked, introduced, contact_after, meetings_after, meeting_of, introductions}
 use Rattle.example_app.specs.Sets.{ascending_one, access_put, access_of, access_among, is_some_among, writes_among, some_from_writes, clash_grows, clash_where_written}
@@ -364,6 +364,9 @@ module _ (people : ℕ) where
   walks_are_true task cells contacts fit meeting agrees =
       walk_is_true cells contacts task.body.at task.body.arg (omega (arith, fit.one_each, meeting.first)) (omega (arith, fit.one_each, meeting.second)) agrees
       (cell_at cells task.body.at) (cell_at cells task.body.arg) refl refl
+
+  pub fixed_sets_are_known : FixedSetsAreKnown (introductions people)
+  fixed_sets_are_known fixed = absurd (true≢false (sym fixed))
 
   pub safe_alone : IsSafeAlone (introductions people)
   safe_alone task meeting = refl

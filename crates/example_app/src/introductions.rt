@@ -77,6 +77,10 @@ impl App for Introductions {
         Ok(SetAnswer::Known(set))
     }
 
+    fn sets_are_fixed(&self) -> bool {
+        false
+    }
+
     fn safe(&self, _task: &Task, _pending: &TaskList) -> bool {
         true
     }
@@ -123,6 +127,8 @@ impl App for Introductions {
     ghost sets_stay_within = { lawful.sets_stay_within };
 
     ghost walks_are_true = { lawful.walks_are_true };
+
+    ghost fixed_sets_are_known = { lawful.fixed_sets_are_known };
 
     ghost safe_alone = { lawful.safe_alone };
 

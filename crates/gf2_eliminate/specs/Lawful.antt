@@ -19,7 +19,7 @@ use Rattle.cell_store.specs.Home.{IsHome}
 use Rattle.cell_store.specs.Cells.{cell_at}
 use Rattle.cell_store.specs.Values.{AgreesWith, homes}
 use Rattle.app_laws.specs.declared.app.SetAnswer.TheVariants as answer
-use Rattle.app_laws.specs.Applications.{AgreeOn, set_in, CellsAreCounted, SetsAreInRange, IsFitOutcome, ActsAreFit, SetsAreLocal, IsSameOutcome, ActsAreLocal, ChildrenComeNoEarlier, SetsStayWithin, IsTrueAnswer, WalksAreTrue, IsSafeAlone, SafeTasksStaySafe, IsLawful, tasks_before}
+use Rattle.app_laws.specs.Applications.{AgreeOn, set_in, CellsAreCounted, SetsAreInRange, IsFitOutcome, ActsAreFit, SetsAreLocal, IsSameOutcome, ActsAreLocal, ChildrenComeNoEarlier, SetsStayWithin, IsTrueAnswer, WalksAreTrue, FixedSetsAreKnown, IsSafeAlone, SafeTasksStaySafe, IsLawful, tasks_before}
 use Rattle.app_laws.specs.Execution.{children_from}
 use Rattle.mtx_reader.specs.Ascending.{IsIn, numbers_from, all_in, in_map, from_map, in_filter, from_filter, ascending_filter, in_numbers, from_numbers, ascending_numbers}
 use Rattle.gf2_eliminate.specs.declared.line.Line2.{Line2}
@@ -473,6 +473,9 @@ module _ (rows columns : ℕ) where
   pub walks_are_true : WalksAreTrue (elimination rows columns)
   walks_are_true task cells values fit right agrees = walk_is_true task.body.at cells values fit right.at agrees (cell_at cells (rows + task.body.at)) refl
 
+  pub fixed_sets_are_known : FixedSetsAreKnown (elimination rows columns)
+  fixed_sets_are_known fixed = absurd (true≢false (sym fixed))
+
   pub safe_alone : IsSafeAlone (elimination rows columns)
   safe_alone task right = refl
 
@@ -498,6 +501,7 @@ module _ (rows columns : ℕ) where
     children_come_no_earlier = children_come_no_earlier;
     sets_stay_within = sets_stay_within;
     walks_are_true = walks_are_true;
+    fixed_sets_are_known = fixed_sets_are_known;
     safe_alone = safe_alone;
     safe_tasks_stay_safe = safe_tasks_stay_safe;
   }

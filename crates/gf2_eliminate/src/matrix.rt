@@ -115,6 +115,10 @@ impl App for Matrix {
         }
     }
 
+    fn sets_are_fixed(&self) -> bool {
+        false
+    }
+
     fn safe(&self, _task: &Task, _pending: &TaskList) -> bool {
         true
     }
@@ -156,6 +160,8 @@ impl App for Matrix {
     ghost sets_stay_within = { λ pattern. lawful.sets_stay_within pattern.rows pattern.cols };
 
     ghost walks_are_true = { λ pattern. lawful.walks_are_true pattern.rows pattern.cols };
+
+    ghost fixed_sets_are_known = { λ pattern. lawful.fixed_sets_are_known pattern.rows pattern.cols };
 
     ghost safe_alone = { λ pattern. lawful.safe_alone pattern.rows pattern.cols };
 

@@ -22,6 +22,7 @@ pub mod EventsKeep
 pub mod FinishMembers
 pub mod FinishTasks
 pub mod FirstNodes
+pub mod FixedSets
 pub mod MakingFresh
 pub mod IdLists
 pub mod Marks

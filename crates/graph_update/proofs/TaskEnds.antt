@@ -19,13 +19,14 @@ use Rattle.app_laws.specs.Applications.{Application}
 use Rattle.graph_update.specs.declared.answers.OverCause.{OverCause}
 use Rattle.graph_update.specs.declared.answers.OverCause.TheVariants as cause
 use Rattle.graph_update.specs.declared.job.Done.{Done}
-use Rattle.graph_update.specs.Engine.{FinishStaysSound, IsDone, IsKept, IsOneStepEach, StaysSound, most_tasks}
+use Rattle.graph_update.specs.Engine.{FinishStaysSound, HaveFixedSets, IsDone, IsKept, IsOneStepEach, StaysSound, most_tasks}
 use Rattle.graph_update.specs.Events.{IsFinished, IsOverLimit, budget_marked, fresh_from, renewals}
 use Rattle.graph_update.specs.FinishBasis.{FinishBasis}
 use Rattle.graph_update.specs.Laws.{FinishesKeepSound, MarksAndDrainsKeepSound}
 use Rattle.graph_update.specs.Progress.{EngineState, Progress}
 use Rattle.graph_update.specs.Sound.{IsSound}
 use Rattle.graph_update.proofs.FinishMembers.{none}
+use Rattle.graph_update.proofs.FixedSets.{fixed_after}
 use Rattle.graph_update.proofs.Performed.{IsEnded, agrees_given, fit_after, named, new_entry, performed_node}
 use Rattle.graph_update.proofs.Renewing.{part_is}
 
@@ -147,14 +148,17 @@ module _ {V : Type 0} {app : Application V} (basis : FinishBasis app) (old : Pro
                 } in next) one_more;
           }
 
-      module _ (keeps : FinishesKeepSound app) (within : created ≤ old.limit) where
-        not_over : ¬ IsOverLimit app old done
-        not_over over =
-            let is_over : old.limit < old.created + length done.effect.children = over in
-            omega (arith, is_over, created_are, within)
+      not_over : created ≤ old.limit → ¬ IsOverLimit app old done
+      not_over within over =
+          let is_over : old.limit < old.created + length done.effect.children = over in
+          omega (arith, is_over, created_are, within)
 
+      pub stays_fixed : created ≤ old.limit → HaveFixedSets app old.nodes → HaveFixedSets app nodes
+      stays_fixed within have = fixed_after basis (record { sound = is.sound; performed = is.performed; within = not_over within; finished = is_finished }) have
+
+      module _ (keeps : FinishesKeepSound app) (within : created ≤ old.limit) where
         pub stays_sound : FinishStaysSound app old done now
-        stays_sound jobs others job values sound performed = keeps old now done job jobs others values sound performed not_over is_finished
+        stays_sound jobs others job values sound performed = keeps old now done job jobs others values sound performed (not_over within) is_finished
 
         pub stays_kept : old.limit ≤ most_tasks → IsKept app now
         stays_kept limited = record {

@@ -5,9 +5,11 @@ use Rattle.std.specs.Option.{option_map}
 use Rattle.task_order.specs.declared.key.Key.{Key}
 use Rattle.task_order.specs.declared.start.Start.{Start}
 use Rattle.task_order.specs.TaskList.{put_all}
+use Rattle.cell_store.specs.declared.cell.Cell.{Cell}
 use Rattle.kdg_graph.specs.Node.{Node}
 use Rattle.kdg_graph.specs.Edges.{laters_of}
 use Rattle.kdg_graph.specs.Nodes.{IsGraph, ids_of, node_with_key, tasks_of}
+use Rattle.app_laws.specs.declared.app.SetAnswer.TheVariants as answer
 use Rattle.app_laws.specs.Applications.{Application, IsFitTask, IsTaken, set_in}
 use Rattle.app_laws.specs.Execution.{first_from}
 use Rattle.graph_update.specs.declared.answers.BeginFault.{BeginFault}
@@ -66,6 +68,14 @@ module _ {V : Type 0} (app : Application V) where
   -- where no task has ended since the last look, the ready nodes are just the clear ones, in key order
   abbrev pub AreReady : List Node → Ready → Type 0
   AreReady nodes ready = ready.is_current ≡ true → ready.ids ≡ ids_of (clear_nodes app nodes)
+
+  -- where the sets are fixed, each recorded set is the one that a walk finds, whatever the cells hold
+  abbrev pub HaveFixedSets : List Node → Type 0
+  HaveFixedSets nodes = app.sets_are_fixed ≡ true → (cells : List (Cell V)) → AllByRecursion (λ node. app.walk node.task.body cells ≡ answer.Known node.set) nodes
+
+  -- where the sets are fixed, none is asked for
+  abbrev pub AsksForNoFixedSet : ℕ → ℕ → Type 0
+  AsksForNoFixedSet before after = app.sets_are_fixed ≡ true → after ≡ before
 
   -- an execution that is sound with some jobs and some whole cells, and within what may be allowed
   pub record IsKept (progress : Progress V) : Type 0 where

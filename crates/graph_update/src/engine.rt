@@ -13,7 +13,7 @@ use crate::counting::running_count;
 use crate::laws::{basis, begin_laws, drain_laws};
 use crate::ready::Ready;
 use crate::{BeginFault, Counts, OverCause};
-use app_laws::{App, Finals};
+use app_laws::{App, Finals, lawful};
 use cell_store::{Store, value_laws};
 use kdg_graph::Graph;
 use kdg_text::{NoRoom, Steps, Text};
@@ -43,7 +43,7 @@ pub struct Engine<'a, A: App> {
 }
 
 impl<'a, A: App> Model for Engine<'a, A> {
-    ghost use Rattle.graph_update.specs.Engine.{AreReady, IsKept};
+    ghost use Rattle.graph_update.specs.Engine.{AreReady, HaveFixedSets, IsKept};
     ghost use Rattle.graph_update.specs.Progress.{EngineState};
 
     ghost Value = { EngineState A A.Val };
@@ -69,7 +69,7 @@ impl<'a, A: App> Model for Engine<'a, A> {
       ended = e.ended;
       limit = e.limit;
       over = e.over;
-    }) × AreReady (A.meaning e.app.now) e.graph e.ready };
+    }) × AreReady (A.meaning e.app.now) e.graph e.ready × HaveFixedSets (A.meaning e.app.now) e.graph };
 }
 
 impl<'a, A: App> Engine<'a, A> {
@@ -98,6 +98,7 @@ impl<'a, A: App> Engine<'a, A> {
         ensures steps { steps.new ≤ steps.old + length first }
     {
         begin_laws::<A>();
+        lawful::<A>();
         value_laws::<A::Val>();
         let starts = first.items();
         let asked = starts.len() as u64;

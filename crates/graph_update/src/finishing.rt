@@ -2,7 +2,7 @@
 
 ghost use Rattle.std.specs.Prelude.{◌≡◌, ◌+◌, ◌≤◌, length, IfErr, OnOk, OnErr};
 ghost use Rattle.graph_update.specs.Answers.{IsFinishRefusal};
-ghost use Rattle.graph_update.specs.Engine.{FinishStaysSound, IsDone, IsOneStepEach, StaysSound};
+ghost use Rattle.graph_update.specs.Engine.{AsksForNoFixedSet, FinishStaysSound, IsDone, IsOneStepEach, StaysSound};
 ghost use Rattle.graph_update.specs.Events.{IsFinished, IsOverLimit};
 
 use crate::finish_laws::{basis, sound_finish_laws};
@@ -19,7 +19,7 @@ impl<'a, A: App> Engine<'a, A> {
     /// That its children are more than may be created is found out first, without taking memory.
     /// Then all memory is taken before anything changes that stays: after `NoRoom` all is as it was,
     /// and the same task may be finished again. Each later node in conflict with the ended one is
-    /// asked for its set at most once.
+    /// asked for its set at most once, and none is where the sets are fixed.
     pub fn finish<L: Ledger>(
         &mut self,
         done: Done<A::Val>,
@@ -33,6 +33,7 @@ impl<'a, A: App> Engine<'a, A> {
         ensures refused { IfErr result (IsFinishRefusal (A.meaning self.old.app) self.old.progress done self.new.progress) }
         ensures refused_sound { OnErr result (StaysSound (A.meaning self.old.app) self.old.progress self.new.progress) }
         ensures steps { IsOneStepEach self.old.progress.nodes done.task.key steps.old steps.new }
+        ensures no_step { AsksForNoFixedSet (A.meaning self.old.app) steps.old steps.new }
     {
         drain_laws::<A>();
         let (created, limit) = (
@@ -73,6 +74,7 @@ impl<'a, A: App> Engine<'a, A> {
         ensures returned { IfErr result (λ back. back ≡ done) }
         ensures unchanged { OnErr result (self.new ≡ self.old) }
         ensures steps { IsOneStepEach self.old.progress.nodes done.task.key steps.old steps.new }
+        ensures no_step { AsksForNoFixedSet (A.meaning self.old.app) steps.old steps.new }
     {
         basis::<A>();
         sound_finish_laws::<A>();

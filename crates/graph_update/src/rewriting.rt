@@ -6,8 +6,9 @@ ghost use Rattle.std.specs.List.{AllByRecursion};
 ghost use Rattle.kdg_graph.specs.Node.{Node};
 ghost use Rattle.kdg_graph.specs.Nodes.{HasNode, IsGraph, node_at, tasks_of};
 ghost use Rattle.kdg_graph.specs.Edges.{laters_of};
-ghost use Rattle.kdg_graph.specs.Rewrite.{HaveNewKeys, IsRewritten};
+ghost use Rattle.kdg_graph.specs.Rewrite.{AreChangesOf, HaveNewKeys, IsRewritten, with_sets, without};
 ghost use Rattle.app_laws.specs.Applications.{AgreesWith, AreFitTasks};
+ghost use Rattle.graph_update.specs.Engine.{AsksForNoFixedSet, HaveFixedSets};
 ghost use Rattle.graph_update.specs.Events.{fresh_from, renewals, renewed};
 
 use app_laws::{App, Child, SetAnswer};
@@ -21,7 +22,8 @@ use task_order::{Key, Task};
 
 /// Takes the node of a task that has ended out of the graph, gives new sets to the later nodes that
 /// its recorded set conflicts with, over the cells after it, and puts the fresh tasks in. After
-/// `NoRoom` the graph is as it was. Each of these later nodes takes one step at most.
+/// `NoRoom` the graph is as it was. Each of these later nodes takes one step at most, and none where
+/// the sets are fixed.
 pub(crate) fn end_node<A: App, L: Ledger>(
     alloc: Global,
     app: &A,
@@ -31,8 +33,10 @@ pub(crate) fn end_node<A: App, L: Ledger>(
     fresh: Vec<Fresh>,
     steps: &mut Steps<L>,
 ) -> Result<(), NoRoom>
+    requires graph { IsGraph graph.old }
     requires there { HasNode graph.old ended }
     requires tasks { AreFitTasks (A.meaning app.now) (tasks_of graph.old) }
+    requires sets { HaveFixedSets (A.meaning app.now) graph.old }
     requires cells { (values : List A.Val) × (A.meaning app.now).is_fit_cells values × AgreesWith store.now values }
     requires new { HaveNewKeys (tasks_of graph.old) fresh.items }
     ensures ok { OnOk result ((node : Node) → node_at graph.old ended ≡ Some node →
@@ -41,9 +45,9 @@ pub(crate) fn end_node<A: App, L: Ledger>(
     ensures unchanged { OnErr result (graph.new ≡ graph.old) }
     ensures steps { (node : Node) → node_at graph.old ended ≡ Some node →
         steps.new ≤ steps.old + length (laters_of graph.old node) }
+    ensures no_step { AsksForNoFixedSet (A.meaning app.now) steps.old steps.new }
 {
-    later_laws();
-    let changes = renewals(alloc, app, graph, store, ended, steps)?;
+    let changes = set_changes(alloc, app, graph, store, ended, steps)?;
     let Ok(()) = graph.rewrite(ended, changes, fresh) else {
         return Err(NoRoom);
     };
@@ -70,6 +74,37 @@ pub(crate) fn fresh_tasks(
         fresh.push(Fresh { task, set })?;
     }
     Ok(fresh)
+}
+
+/// What the end of a node changes of the recorded sets: the renewals, and nothing where the sets are
+/// fixed, since each set would be replaced by itself.
+fn set_changes<A: App, L: Ledger>(
+    alloc: Global,
+    app: &A,
+    graph: &Graph,
+    store: &Store<A::Val>,
+    ended: NodeId,
+    steps: &mut Steps<L>,
+) -> Result<Vec<SetChange>, NoRoom>
+    requires graph { IsGraph graph.now }
+    requires there { HasNode graph.now ended }
+    requires tasks { AreFitTasks (A.meaning app.now) (tasks_of graph.now) }
+    requires sets { HaveFixedSets (A.meaning app.now) graph.now }
+    requires cells { (values : List A.Val) × (A.meaning app.now).is_fit_cells values × AgreesWith store.now values }
+    ensures changes { IfOk result (λ changes. AreChangesOf graph.now ended changes.items) }
+    ensures same { IfOk result (λ changes. (node : Node) → node_at graph.now ended ≡ Some node →
+        let others = without ended graph.now in
+        with_sets changes.items others ≡ with_sets (renewals (A.meaning app.now) store.now graph.now node) others) }
+    ensures steps { (node : Node) → node_at graph.now ended ≡ Some node →
+        steps.new ≤ steps.old + length (laters_of graph.now node) }
+    ensures no_step { AsksForNoFixedSet (A.meaning app.now) steps.old steps.new }
+{
+    later_laws();
+    node_laws();
+    if app.sets_are_fixed() {
+        return Ok(Vec::new(alloc));
+    }
+    renewals(alloc, app, graph, store, ended, steps)
 }
 
 /// The new recorded sets of the later nodes whose recorded sets conflict with that of a node that

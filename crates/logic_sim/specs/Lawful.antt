@@ -23,7 +23,7 @@ use Rattle.rw_sets.specs.AccessLaws.{access_first, access_other, ascending_cons,
 use Rattle.rw_sets.specs.LookupLaws.{merges_hold_both}
 use Rattle.rw_sets.specs.MergeLaws.{ascending_merged}
 use Rattle.rw_sets.specs.PairLaws.{pairs_are_named, pairs_are_written}
-use Rattle.app_laws.specs.Applications.{AgreeOn, IsFitTask as IsTaskOf, IsInRange, IsWholeLines, set_in, tasks_before, CellsAreCounted, SetsAreInRange, ActsAreFit, SetsAreLocal, IsSameOutcome, ActsAreLocal, ChildrenComeNoEarlier, SetsStayWithin, WalksAreTrue, IsSafeAlone, SafeTasksStaySafe}
+use Rattle.app_laws.specs.Applications.{AgreeOn, IsFitTask as IsTaskOf, IsInRange, IsWholeLines, set_in, tasks_before, CellsAreCounted, SetsAreInRange, ActsAreFit, SetsAreLocal, IsSameOutcome, ActsAreLocal, ChildrenComeNoEarlier, SetsStayWithin, WalksAreTrue, FixedSetsAreKnown, IsSafeAlone, SafeTasksStaySafe}
 use Rattle.app_laws.specs.Execution.{Outcome, children_from}
 use Rattle.logic_sim.specs.Circuit.{IsFitCells, IsFitTask}
 use Rattle.logic_sim.specs.Event.{Simulation, change_at, change_line, change_of, computed_by, eval_at, eval_of, event_of, nothing_done, plan_in, plan_of, plan_place, time_of, value_in, value_place}
@@ -284,6 +284,9 @@ module _ (c : Simulation) where
 
   pub walks_are_true : WalksAreTrue (simulation c)
   walks_are_true task cells values fit fit-task agrees = refl
+
+  pub fixed_sets_are_known : FixedSetsAreKnown (simulation c)
+  fixed_sets_are_known fixed task cells values fit fit-task = refl
 
   pub safe_alone : IsSafeAlone (simulation c)
   safe_alone task fit-task = refl

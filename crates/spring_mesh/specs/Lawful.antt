@@ -12,7 +12,7 @@ use Rattle.task_order.specs.declared.task.Body.{Body}
 use Rattle.task_order.specs.declared.task.Task.{Task}
 use Rattle.rw_sets.specs.Accesses.{Conflicts}
 use Rattle.rw_sets.specs.LookupLaws.{merges_hold_both}
-use Rattle.app_laws.specs.Applications.{AgreeOn, set_in, CellsAreCounted, SetsAreInRange, ActsAreFit, SetsAreLocal, IsSameOutcome, ActsAreLocal, ChildrenComeNoEarlier, SetsStayWithin, WalksAreTrue, IsSafeAlone, SafeTasksStaySafe}
+use Rattle.app_laws.specs.Applications.{AgreeOn, set_in, CellsAreCounted, SetsAreInRange, ActsAreFit, SetsAreLocal, IsSameOutcome, ActsAreLocal, ChildrenComeNoEarlier, SetsStayWithin, WalksAreTrue, FixedSetsAreKnown, IsSafeAlone, SafeTasksStaySafe}
 use Rattle.app_laws.specs.Execution.{children_from}
 use Rattle.spring_mesh.specs.declared.file.MeshFile.{MeshFile}
 use Rattle.spring_mesh.specs.declared.file.MeshNode.{MeshNode}
@@ -178,6 +178,9 @@ module _ (file : MeshFile) where
 
   pub walks_are_true : WalksAreTrue (mesh_steps file)
   walks_are_true task cells values fit step agrees = refl
+
+  pub fixed_sets_are_known : FixedSetsAreKnown (mesh_steps file)
+  fixed_sets_are_known fixed task cells values fit step = refl
 
   pub safe_alone : IsSafeAlone (mesh_steps file)
   safe_alone task step = refl

@@ -180,6 +180,10 @@ impl App for Mesh {
         Ok(SetAnswer::Known(ends_of(self.alloc, spring)?))
     }
 
+    fn sets_are_fixed(&self) -> bool {
+        true
+    }
+
     fn safe(&self, _task: &Task, _pending: &TaskList) -> bool {
         true
     }
@@ -230,6 +234,8 @@ impl App for Mesh {
     ghost sets_stay_within = { lawful.sets_stay_within };
 
     ghost walks_are_true = { lawful.walks_are_true };
+
+    ghost fixed_sets_are_known = { lawful.fixed_sets_are_known };
 
     ghost safe_alone = { lawful.safe_alone };
 

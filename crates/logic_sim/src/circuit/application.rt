@@ -42,6 +42,10 @@ impl App for Circuit {
         Ok(SetAnswer::Known(set))
     }
 
+    fn sets_are_fixed(&self) -> bool {
+        true
+    }
+
     fn safe(&self, task: &Task, pending: &TaskList) -> bool {
         match pending.iter().next() {
             Some(first) => first.key.prio >= task.key.prio,
@@ -79,6 +83,8 @@ impl App for Circuit {
     ghost sets_stay_within = { lawful.sets_stay_within };
 
     ghost walks_are_true = { lawful.walks_are_true };
+
+    ghost fixed_sets_are_known = { lawful.fixed_sets_are_known };
 
     ghost safe_alone = { lawful.safe_alone };
 

@@ -10,6 +10,7 @@ returns g c = λ app. record {
   children_come_no_earlier = g.met.A.App.children_come_no_earlier app;
   sets_stay_within = g.met.A.App.sets_stay_within app;
   walks_are_true = g.met.A.App.walks_are_true app;
+  fixed_sets_are_known = g.met.A.App.fixed_sets_are_known app;
   safe_alone = g.met.A.App.safe_alone app;
   safe_tasks_stay_safe = g.met.A.App.safe_tasks_stay_safe app;
 }

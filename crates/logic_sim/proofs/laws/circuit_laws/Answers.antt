@@ -11,6 +11,7 @@ returns context = λ c. record {
   children_come_no_earlier = lawful.children_come_no_earlier c;
   sets_stay_within = lawful.sets_stay_within c;
   walks_are_true = lawful.walks_are_true c;
+  fixed_sets_are_known = lawful.fixed_sets_are_known c;
   safe_alone = lawful.safe_alone c;
   safe_tasks_stay_safe = lawful.safe_tasks_stay_safe c;
 }

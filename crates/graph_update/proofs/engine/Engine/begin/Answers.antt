@@ -2,7 +2,7 @@ use Rattle.std.proofs.Common.{◌≤◌, List, length, sym, ap, subst, ◌∙◌
 use Rattle.std.proofs.lemmas.Bool.{true≢false}
 use Rattle.task_order.specs.declared.start.Start.{Start}
 use Rattle.cell_store.specs.Values.{homes, values_of}
-use Rattle.graph_update.proofs.Begun.{begun, begun_kept, begun_sound}
+use Rattle.graph_update.proofs.Begun.{begun, begun_fixed, begun_kept, begun_sound}
 use Rattle.graph_update.proofs.engine.Engine.begin.Goals as goal
 
 pub first_graph-requires-clause-home : goal.first_graph-requires-clause-home
@@ -24,6 +24,8 @@ invariant_of-result g c =
       begun_kept app c.args.cells.items _ c.args.first _ c.args.budget _ _ _ _ values first c.in_ok-store.ensures c.in_ok-graph.ensures.nodes c.new.ensures (ap length first)
           (c.begin_laws.ensures.sound c.args.app.now) c.requires.fit_cells c.requires.fit_first few c.requires.budget,
       λ current. absurd (true≢false (sym current ∙ c.new-2.ensures)),
+      begun_fixed app c.args.cells.items _ c.args.first _ c.args.budget _ _ _ _ values first c.in_ok-store.ensures c.in_ok-graph.ensures.nodes c.new.ensures (ap length first)
+          (c.begin_laws.ensures.sound c.args.app.now) c.requires.fit_cells c.requires.fit_first few (c.lawful.ensures c.args.app.now),
     )
 
 pub returns-clause-begun : goal.returns-clause-begun

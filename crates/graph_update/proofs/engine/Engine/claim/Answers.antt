@@ -6,6 +6,7 @@ use Rattle.graph_update.specs.Progress.{EngineState, Progress}
 use Rattle.graph_update.specs.Sound.{IsSound}
 use Rattle.graph_update.proofs.ClaimedNodes.{ids_after}
 use Rattle.graph_update.proofs.ClearClaims.{claimed, has_node, kept_after, may_run, none_clear, picked_home, runs_where_none, some_nodes, sound_after}
+use Rattle.graph_update.proofs.FixedSets.{fixed_started}
 use Rattle.graph_update.proofs.Picked.{pick_is}
 use Rattle.graph_update.proofs.engine.Engine.claim.Goals as goal
 
@@ -50,6 +51,7 @@ invariant_of-self-2 g c = (
       ids_after (g.A.App.meaning c.self.inside.app.now) (c.basis.ensures c.self.inside.app.now).lower c.self.inside.graph c.self.invariant.0.sound.keys_and_counts.graph c.args.pick c.in-Some-picked.node
       (pick_is (g.A.App.meaning c.self.inside.app.now) c.self.inside.graph c.args.pick c.look.new.self.ids (Some c.in-Some-picked.node) c.in_ok-look.ensures.all (sym c.in-Some-picked.is ∙ c.picked.ensures))
       c.look.new.self.ids c.take-2.new.self.ids c.in_ok-look.ensures.all c.take-2.ensures.ids c.mark_running.new.self c.mark_running.ensures.marked,
+  fixed_started (g.A.App.meaning c.self.inside.app.now) c.in-Some-picked.node c.self.inside.graph c.mark_running.new.self c.mark_running.ensures.marked c.self.invariant.2,
 )
 
 pub returns-clause-answer : goal.returns-clause-answer

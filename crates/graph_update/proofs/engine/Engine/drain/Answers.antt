@@ -10,6 +10,7 @@ invariant_of-self g c =
           (left_by_least app c.self.inside.graph c.in-Some.least c.task.result.now c.self.inside.log.entries c.in-Some.ensures.least c.task.ensures)
           c.take_below.ensures.rest c.take_below.ensures.unchanged,
       c.self.invariant.1,
+      c.self.invariant.2,
     )
 
 pub invariant_of-self-in-None : goal.invariant_of-self-in-None
@@ -19,4 +20,5 @@ invariant_of-self-in-None g c =
           (sym (ap (λ nodes. undrainable app nodes c.self.inside.log.entries) c.in-None.ensures.empty))
           c.take_all.ensures.rest c.take_all.ensures.unchanged,
       c.self.invariant.1,
+      c.self.invariant.2,
     )

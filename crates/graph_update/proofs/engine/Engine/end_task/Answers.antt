@@ -5,11 +5,11 @@ use Rattle.cell_store.specs.Values.{AgreesWith}
 use Rattle.kdg_graph.specs.Nodes.{tasks_of}
 use Rattle.kdg_graph.specs.Rewrite.{HaveNewKeys}
 use Rattle.output_log.specs.Entries.{IsNewEntry, with_entry}
-use Rattle.graph_update.specs.Engine.{AreReady, IsKept, IsOneStepEach}
+use Rattle.graph_update.specs.Engine.{AreReady, AsksForNoFixedSet, HaveFixedSets, IsKept, IsOneStepEach}
 use Rattle.graph_update.specs.Events.{fresh_from}
 use Rattle.graph_update.specs.Progress.{EngineState, Progress}
 use Rattle.graph_update.proofs.Performed.{bundle_is_out, children_not_earlier, fresh_new}
-use Rattle.graph_update.proofs.TaskEnds.{bundle_back, cells_back, done_back, engine_finished, engine_sound, entry_is_new, fit_given, has_node, inside_done, is_finished, progress_back, stays_kept, stays_sound, step_each}
+use Rattle.graph_update.proofs.TaskEnds.{bundle_back, cells_back, done_back, engine_finished, engine_sound, entry_is_new, fit_given, has_node, inside_done, is_finished, progress_back, stays_fixed, stays_kept, stays_sound, step_each}
 use Rattle.graph_update.proofs.engine.Engine.end_task.Goals as goal
 
 pub fresh_tasks-requires-clause-not_earlier : goal.fresh_tasks-requires-clause-not_earlier
@@ -54,6 +54,12 @@ invariant_of-self-in-Ok-end_node g c =
           (c.requires.created ∙ ap (λ (engine : EngineState _ _). engine.progress.created + length c.args.done.effect.children) (sym c.self.view_is)) refl
           (c.sound_finish_laws.ensures c.self.inside.app.now) (subst (λ (engine : EngineState _ _). c.args.created ≤ engine.progress.limit) (sym c.self.view_is) c.requires.within) c.self.invariant.0.limited,
       λ current. absurd (true≢false (sym current ∙ c.forget.ensures)),
+      stays_fixed (c.basis.ensures c.self.inside.app.now) _ c.args.done is c.in-Some.ended (sym c.find.ensures.found ∙ c.in-Some.is)
+          c.give-shell.new.self c.in-Ok-fresh_tasks.fresh.items c.end_node.new.graph c.put.new.self.entries c.args.created (c.self.inside.ended + 1)
+          c.give-shell.ensures.given (c.in-Ok-fresh_tasks.ensures ∙ ap (fresh_from c.args.done.task.key 0) c.items-children.ensures.all) c.in-Ok-end_node.ensures.graph c.in-Ok-end_node.ensures.ok
+          (c.put.ensures.entries ∙ ap (with_entry c.args.done.task.key c.args.done.effect.text) c.reserve.ensures.entries)
+          (c.requires.created ∙ ap (λ (engine : EngineState _ _). engine.progress.created + length c.args.done.effect.children) (sym c.self.view_is)) refl
+          (subst (λ (engine : EngineState _ _). c.args.created ≤ engine.progress.limit) (sym c.self.view_is) c.requires.within) c.self.invariant.2,
     )
 
 pub invariant_of-self-in-Err : goal.invariant_of-self-in-Err
@@ -63,6 +69,7 @@ invariant_of-self-in-Err g c =
           (cells_back c.self.inside.store c.give-shell.new.self c.args.done.effect.bundle c.give-shell.result (bundle_is_out (c.basis.ensures c.self.inside.app.now) is.sound is.performed) c.give-shell.ensures.given c.give-shell.ensures.shell (c.basis.ensures c.self.inside.app.now).takes_back c.regain-bundle.new.self c.regain-bundle.ensures.taken)
           c.in-Err.ensures.unchanged c.reserve.ensures.entries)) c.self.invariant.0,
       subst (λ nodes. AreReady (g.A.App.meaning c.self.inside.app.now) nodes c.self.inside.ready) (sym c.in-Err.ensures.unchanged) c.self.invariant.1,
+      subst (HaveFixedSets (g.A.App.meaning c.self.inside.app.now)) (sym c.in-Err.ensures.unchanged) c.self.invariant.2,
     )
 
 pub returns-in-Ok-end_node-clause-finished : goal.returns-in-Ok-end_node-clause-finished
