@@ -29,6 +29,7 @@ pub mod Marks
 pub mod Members
 pub mod Performed
 pub mod Picked
+pub mod ReadyIds
 pub mod Renewing
 pub mod RunningNodes
 pub mod Standing

@@ -1,6 +1,7 @@
 -- What is known where a task that was performed ends.
 use Rattle.std.proofs.Common.{◌≡◌, ℕ, suc, ◌+◌, ◌<◌, ◌≤◌, Option, Some, None, List, [], ◌∷◌, length, sym, ap, subst, ◌∙◌, arith}
 use Rattle.std.specs.Prelude.{Contains, option_map}
+use Rattle.std.specs.List.{AllByRecursion}
 use Rattle.std.specs.Option.{option_or}
 use Rattle.task_order.specs.declared.task.Task.{Task}
 use Rattle.cell_store.specs.declared.cell.Cell.{Cell}
@@ -19,15 +20,17 @@ use Rattle.app_laws.specs.Applications.{Application}
 use Rattle.graph_update.specs.declared.answers.OverCause.{OverCause}
 use Rattle.graph_update.specs.declared.answers.OverCause.TheVariants as cause
 use Rattle.graph_update.specs.declared.job.Done.{Done}
-use Rattle.graph_update.specs.Engine.{FinishStaysSound, HaveFixedSets, IsDone, IsKept, IsOneStepEach, StaysSound, most_tasks}
+use Rattle.graph_update.specs.Engine.{FinishStaysSound, HaveFixedSets, IsDone, IsKept, IsOfClear, IsOneStepEach, StaysSound, most_tasks}
 use Rattle.graph_update.specs.Events.{IsFinished, IsOverLimit, budget_marked, fresh_from, renewals}
 use Rattle.graph_update.specs.FinishBasis.{FinishBasis}
 use Rattle.graph_update.specs.Laws.{FinishesKeepSound, MarksAndDrainsKeepSound}
 use Rattle.graph_update.specs.Progress.{EngineState, Progress}
 use Rattle.graph_update.specs.Sound.{IsSound}
+use Rattle.graph_update.specs.StandingLaws.{ClearNodesStayClear}
 use Rattle.graph_update.proofs.FinishMembers.{none}
 use Rattle.graph_update.proofs.FixedSets.{fixed_after}
 use Rattle.graph_update.proofs.Performed.{IsEnded, agrees_given, fit_after, named, new_entry, performed_node}
+use Rattle.graph_update.proofs.ReadyIds.{ready_after}
 use Rattle.graph_update.proofs.Renewing.{part_is}
 
 some_there : (nodes : List Node) (node : Node) → Contains nodes node → 1 ≤ length nodes
@@ -155,6 +158,9 @@ module _ {V : Type 0} {app : Application V} (basis : FinishBasis app) (old : Pro
 
       pub stays_fixed : created ≤ old.limit → HaveFixedSets app old.nodes → HaveFixedSets app nodes
       stays_fixed within have = fixed_after basis (record { sound = is.sound; performed = is.performed; within = not_over within; finished = is_finished }) have
+
+      pub stays_ready : ClearNodesStayClear app → created ≤ old.limit → (ids : List NodeId) → AllByRecursion (IsOfClear app old.nodes) ids → AllByRecursion (IsOfClear app nodes) ids
+      stays_ready stay within ids clear = ready_after app stay old now done is.job is.jobs is.others is.values is.sound is.performed (not_over within) is_finished ids clear
 
       module _ (keeps : FinishesKeepSound app) (within : created ≤ old.limit) where
         pub stays_sound : FinishStaysSound app old done now

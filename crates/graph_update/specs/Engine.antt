@@ -6,6 +6,7 @@ use Rattle.task_order.specs.declared.key.Key.{Key}
 use Rattle.task_order.specs.declared.start.Start.{Start}
 use Rattle.task_order.specs.TaskList.{put_all}
 use Rattle.cell_store.specs.declared.cell.Cell.{Cell}
+use Rattle.kdg_graph.specs.declared.node_id.NodeId.{NodeId}
 use Rattle.kdg_graph.specs.Node.{Node}
 use Rattle.kdg_graph.specs.Edges.{laters_of}
 use Rattle.kdg_graph.specs.Nodes.{IsGraph, ids_of, node_with_key, tasks_of}
@@ -65,9 +66,14 @@ module _ {V : Type 0} (app : Application V) where
     pub sets : AllByRecursion (λ node. node.set ≡ set_in app cells node.task) nodes
     pub none_runs : AllByRecursion (λ node. node.running ≡ false) nodes
 
-  -- where no task has ended since the last look, the ready nodes are just the clear ones, in key order
-  abbrev pub AreReady : List Node → Ready → Type 0
-  AreReady nodes ready = ready.is_current ≡ true → ready.ids ≡ ids_of (clear_nodes app nodes)
+  -- the id is that of a clear node
+  abbrev pub IsOfClear : List Node → NodeId → Type 0
+  IsOfClear nodes id = Contains (ids_of (clear_nodes app nodes)) id
+
+  -- The ready nodes are clear. Where no task has ended since the last look, they are just the clear ones, in key order.
+  pub record AreReady (nodes : List Node) (ready : Ready) : Type 0 where
+    pub clear : AllByRecursion (IsOfClear nodes) ready.ids
+    pub all : ready.is_current ≡ true → ready.ids ≡ ids_of (clear_nodes app nodes)
 
   -- where the sets are fixed, each recorded set is the one that a walk finds, whatever the cells hold
   abbrev pub HaveFixedSets : List Node → Type 0

@@ -12,7 +12,8 @@ use kdg_text::NoRoom;
 
 impl<'a, A: App> Engine<'a, A> {
     /// Claims a task that may run now: of the clear nodes, in key order, the one at the remainder of
-    /// the pick. It looks for clear nodes at first, and where a task has ended since it last did.
+    /// the pick. It looks for clear nodes at first, and where a task has ended since it last did;
+    /// those that it found before aren't tested again.
     ///
     /// Where a mark stands, or no task is pending, it says so without taking memory. While nothing
     /// is running some node is clear, unless none is there. After `NoRoom` all is as it was.

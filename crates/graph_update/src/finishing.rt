@@ -8,6 +8,7 @@ ghost use Rattle.graph_update.specs.Events.{IsFinished, IsOverLimit};
 use crate::finish_laws::{basis, sound_finish_laws};
 use crate::laws::drain_laws;
 use crate::rewriting::{end_node, fresh_tasks};
+use crate::standing_laws::stay_clear_laws;
 use crate::{Done, Engine, FinishFault, OverCause};
 use app_laws::{App, Effect};
 use kdg_text::Steps;
@@ -78,6 +79,7 @@ impl<'a, A: App> Engine<'a, A> {
     {
         basis::<A>();
         sound_finish_laws::<A>();
+        stay_clear_laws::<A>();
         let Ok(()) = self.log.reserve(1) else {
             return Err(done);
         };
@@ -103,7 +105,7 @@ impl<'a, A: App> Engine<'a, A> {
                 self.log.put(task.key, effect.text);
                 self.created = created;
                 self.ended += 1;
-                self.ready.forget();
+                self.ready.expect_more();
                 Ok(())
             }
             Err(_) => {

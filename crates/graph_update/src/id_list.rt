@@ -44,6 +44,12 @@ impl Chunk {
         self.ids.len()
     }
 
+    fn items(&self) -> &[NodeId]
+        ensures { result.now ≡ self.now }
+    {
+        &self.ids
+    }
+
     fn get(&self, place: usize) -> NodeId
         requires { place < length self.now }
         ensures { slice_get self.now place ≡ Some result }
@@ -107,11 +113,11 @@ impl IdList {
         self.len
     }
 
-    pub(crate) fn clear(&mut self)
-        ensures { self.new ≡ [] }
+    /// The ids, in order.
+    pub(crate) fn to_vec(&self) -> Result<Vec<NodeId>, NoRoom>
+        ensures { IfOk result (λ ids. ids.items ≡ self.now) }
     {
-        self.chunks.clear();
-        self.len = 0;
+        joined(self.alloc, self.len, &self.chunks)
     }
 
     /// The id at a place, counted from 0.
@@ -144,6 +150,17 @@ impl IdList {
         drop_empty(&mut self.chunks, at);
         self.len -= 1;
     }
+}
+
+/// The ids of all chunks, in order, with room for so many.
+fn joined(alloc: Global, len: usize, chunks: &[Chunk]) -> Result<Vec<NodeId>, NoRoom>
+    ensures { IfOk result (λ ids. ids.items ≡ ids_in chunks.now) }
+{
+    let mut ids = Vec::with_capacity(alloc, len)?;
+    for chunk in chunks {
+        ids.extend_from_slice(chunk.items())?;
+    }
+    Ok(ids)
 }
 
 /// Puts an id behind those of all chunks. After `NoRoom` they are as they were.

@@ -1,9 +1,11 @@
 //! The clear nodes that wait to be claimed.
 
-ghost use Rattle.std.specs.Prelude.{◌≡◌, ◌%◌, ◌<◌, ◌^◌, length, slice_get, remove, false, OnOk, OnErr};
+ghost use Rattle.std.specs.Prelude.{◌≡◌, ◌≢◌, ◌%◌, ◌<◌, ◌^◌, [], ◌∷◌, List, length, slice_get, remove, false, IfNone, IfOk, IfSome, OnOk, OnErr};
+ghost use Rattle.std.specs.List.{AllByRecursion};
+ghost use Rattle.kdg_graph.specs.declared.node_id.NodeId.{NodeId};
 ghost use Rattle.kdg_graph.specs.Nodes.{ids_of, tasks_of};
 ghost use Rattle.app_laws.specs.Applications.{AreFitTasks};
-ghost use Rattle.graph_update.specs.Engine.{AreReady};
+ghost use Rattle.graph_update.specs.Engine.{AreReady, IsOfClear};
 ghost use Rattle.graph_update.specs.Events.{clear_nodes};
 
 use crate::id_list::IdList;
@@ -12,43 +14,48 @@ use kdg_graph::{Graph, NodeId, node_laws, source_laws};
 use kdg_text::NoRoom;
 use std::alloc::Global;
 
-/// The clear nodes, as the last look at the sources found them and claims have left them.
+/// The clear nodes that wait to be claimed, as far as they are known. One that was found stays until
+/// it is claimed, since it stays clear.
 #[derive(Drop)]
 pub(crate) struct Ready {
+    alloc: Global,
     /// Their ids, in key order.
     ids: IdList,
-    /// Whether these are all of them: no task has ended since that look.
+    /// Whether these are all of them: no task has ended since the last look at the sources.
     is_current: bool,
 }
 
 impl Ready {
     /// Before the first look.
     pub(crate) fn new(alloc: Global) -> Ready
-        ensures { result.is_current ≡ false }
+        ensures ids { result.ids ≡ [] }
+        ensures current { result.is_current ≡ false }
     {
         Ready {
+            alloc,
             ids: IdList::new(alloc),
             is_current: false,
         }
     }
 
     /// A task has ended, so that other nodes may be clear now.
-    pub(crate) fn forget(&mut self)
-        ensures { self.new.is_current ≡ false }
+    pub(crate) fn expect_more(&mut self)
+        ensures ids { self.new.ids ≡ self.old.ids }
+        ensures current { self.new.is_current ≡ false }
     {
         self.is_current = false;
     }
 
-    /// Looks at the sources, unless all clear nodes are known. After `NoRoom` the next look begins
-    /// anew.
+    /// Looks at the sources, unless all clear nodes are known. After `NoRoom` all is as it was.
     pub(crate) fn look<A: App>(&mut self, app: &A, graph: &Graph) -> Result<(), NoRoom>
         requires fit { AreFitTasks (A.meaning app.now) (tasks_of graph.now) }
         requires ready { AreReady (A.meaning app.now) graph.now self.old }
         ensures all { OnOk result (self.new.ids ≡ ids_of (clear_nodes (A.meaning app.now) graph.now)) }
-        ensures none { OnErr result (self.new.is_current ≡ false) }
+        ensures ready { AreReady (A.meaning app.now) graph.now self.new }
+        ensures unchanged { OnErr result (self.new ≡ self.old) }
     {
         if !self.is_current {
-            list_clear(&mut self.ids, app, graph)?;
+            self.ids = clear_ids(self.alloc, &self.ids, app, graph)?;
             self.is_current = true;
         }
         Ok(())
@@ -73,18 +80,39 @@ impl Ready {
     }
 }
 
-/// Puts the ids of the clear nodes, in key order, in place of what a list holds.
-fn list_clear<A: App>(ids: &mut IdList, app: &A, graph: &Graph) -> Result<(), NoRoom>
+/// The ids of the clear nodes, in key order. Some are known: only the other sources are tested, as
+/// long as the known ids are in key order.
+fn clear_ids<A: App>(
+    alloc: Global,
+    known: &IdList,
+    app: &A,
+    graph: &Graph,
+) -> Result<IdList, NoRoom>
     requires fit { AreFitTasks (A.meaning app.now) (tasks_of graph.now) }
-    ensures { OnOk result (ids.new ≡ ids_of (clear_nodes (A.meaning app.now) graph.now)) }
+    requires known { AllByRecursion (IsOfClear (A.meaning app.now) graph.now) known.now }
+    ensures { IfOk result (λ ids. ids ≡ ids_of (clear_nodes (A.meaning app.now) graph.now)) }
 {
     node_laws();
     source_laws();
-    ids.clear();
+    let known = known.to_vec()?;
+    let mut left: &[NodeId] = &known;
+    let mut ids = IdList::new(alloc);
     for node in graph.sources() {
-        if app.safe(graph.task(node), graph.tasks()) {
+        if let Some(rest) = behind(left, node) {
+            left = rest;
+            ids.push(node)?;
+        } else if app.safe(graph.task(node), graph.tasks()) {
             ids.push(node)?;
         }
     }
-    Ok(())
+    Ok(ids)
+}
+
+/// The ids behind this one, where it is the first of them.
+fn behind(ids: &[NodeId], id: NodeId) -> Option<&[NodeId]>
+    ensures first { IfSome result (λ rest. ids.now ≡ id ∷ rest.now) }
+    ensures other { IfNone result ((rest : List NodeId) → ids.now ≢ id ∷ rest) }
+{
+    let (first, rest) = ids.split_first()?;
+    if *first == id { Some(rest) } else { None }
 }

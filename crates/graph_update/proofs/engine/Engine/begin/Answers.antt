@@ -1,8 +1,8 @@
-use Rattle.std.proofs.Common.{◌≤◌, List, length, sym, ap, subst, ◌∙◌}
-use Rattle.std.proofs.lemmas.Bool.{true≢false}
+use Rattle.std.proofs.Common.{◌≤◌, List, [], length, sym, ap, subst, ◌∙◌}
 use Rattle.task_order.specs.declared.start.Start.{Start}
 use Rattle.cell_store.specs.Values.{homes, values_of}
 use Rattle.graph_update.proofs.Begun.{begun, begun_fixed, begun_kept, begun_sound}
+use Rattle.graph_update.proofs.ReadyIds.{some_are_ready}
 use Rattle.graph_update.proofs.engine.Engine.begin.Goals as goal
 
 pub first_graph-requires-clause-home : goal.first_graph-requires-clause-home
@@ -23,7 +23,7 @@ invariant_of-result g c =
     let few : length c.args.first ≤ c.args.budget = subst (λ (starts : List Start). length starts ≤ c.args.budget) first c.if-asked-budget.false in (
       begun_kept app c.args.cells.items _ c.args.first _ c.args.budget _ _ _ _ values first c.in_ok-store.ensures c.in_ok-graph.ensures.nodes c.new.ensures (ap length first)
           (c.begin_laws.ensures.sound c.args.app.now) c.requires.fit_cells c.requires.fit_first few c.requires.budget,
-      λ current. absurd (true≢false (sym current ∙ c.new-2.ensures)),
+      some_are_ready app _ c.new-2.result [] c.new-2.ensures.ids c.new-2.ensures.current tt,
       begun_fixed app c.args.cells.items _ c.args.first _ c.args.budget _ _ _ _ values first c.in_ok-store.ensures c.in_ok-graph.ensures.nodes c.new.ensures (ap length first)
           (c.begin_laws.ensures.sound c.args.app.now) c.requires.fit_cells c.requires.fit_first few (c.lawful.ensures c.args.app.now),
     )

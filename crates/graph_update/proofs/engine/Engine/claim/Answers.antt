@@ -8,6 +8,7 @@ use Rattle.graph_update.proofs.ClaimedNodes.{ids_after}
 use Rattle.graph_update.proofs.ClearClaims.{claimed, has_node, kept_after, may_run, none_clear, picked_home, runs_where_none, some_nodes, sound_after}
 use Rattle.graph_update.proofs.FixedSets.{fixed_started}
 use Rattle.graph_update.proofs.Picked.{pick_is}
+use Rattle.graph_update.proofs.ReadyIds.{all_are_ready}
 use Rattle.graph_update.proofs.engine.Engine.claim.Goals as goal
 
 none_where_not : {X : Type 0} (found : Option X) → ((x : X) → found ≡ Some x → ⊥) → found ≡ None
@@ -47,10 +48,10 @@ invariant_of-self-2 g c = (
   kept_after (c.basis.ensures c.self.inside.app.now) _ c.self.invariant.0 c.args.pick c.in-Some-picked.node (pick_is (g.A.App.meaning c.self.inside.app.now) c.self.inside.graph c.args.pick c.look.new.self.ids (Some c.in-Some-picked.node) c.in_ok-look.ensures.all (sym c.in-Some-picked.is ∙ c.picked.ensures))
       c.task.result.now c.in_ok-task.task c.set.result.now c.in_ok-bundle.bundle c.take.new.self c.mark_running.new.self
       c.task.ensures c.in_ok-task.ensures c.set.ensures c.in_ok-bundle.ensures.bundle c.in_ok-bundle.ensures.ok c.mark_running.ensures.marked,
-  λ current.
-      ids_after (g.A.App.meaning c.self.inside.app.now) (c.basis.ensures c.self.inside.app.now).lower c.self.inside.graph c.self.invariant.0.sound.keys_and_counts.graph c.args.pick c.in-Some-picked.node
+  all_are_ready (g.A.App.meaning c.self.inside.app.now) c.mark_running.new.self c.take-2.new.self
+      (ids_after (g.A.App.meaning c.self.inside.app.now) (c.basis.ensures c.self.inside.app.now).lower c.self.inside.graph c.self.invariant.0.sound.keys_and_counts.graph c.args.pick c.in-Some-picked.node
       (pick_is (g.A.App.meaning c.self.inside.app.now) c.self.inside.graph c.args.pick c.look.new.self.ids (Some c.in-Some-picked.node) c.in_ok-look.ensures.all (sym c.in-Some-picked.is ∙ c.picked.ensures))
-      c.look.new.self.ids c.take-2.new.self.ids c.in_ok-look.ensures.all c.take-2.ensures.ids c.mark_running.new.self c.mark_running.ensures.marked,
+      c.look.new.self.ids c.take-2.new.self.ids c.in_ok-look.ensures.all c.take-2.ensures.ids c.mark_running.new.self c.mark_running.ensures.marked),
   fixed_started (g.A.App.meaning c.self.inside.app.now) c.in-Some-picked.node c.self.inside.graph c.mark_running.new.self c.mark_running.ensures.marked c.self.invariant.2,
 )
 

@@ -1,15 +1,15 @@
 use Rattle.std.proofs.Common.{◌+◌, ◌≤◌, ◌∙◌, length, refl, sym, ap, subst}
 use Rattle.std.specs.List.{AllByRecursion}
-use Rattle.std.proofs.lemmas.Bool.{true≢false}
 use Rattle.cell_store.specs.Values.{AgreesWith}
 use Rattle.kdg_graph.specs.Nodes.{tasks_of}
 use Rattle.kdg_graph.specs.Rewrite.{HaveNewKeys}
 use Rattle.output_log.specs.Entries.{IsNewEntry, with_entry}
-use Rattle.graph_update.specs.Engine.{AreReady, AsksForNoFixedSet, HaveFixedSets, IsKept, IsOneStepEach}
+use Rattle.graph_update.specs.Engine.{AreReady, HaveFixedSets, IsKept, IsOneStepEach}
 use Rattle.graph_update.specs.Events.{fresh_from}
 use Rattle.graph_update.specs.Progress.{EngineState, Progress}
 use Rattle.graph_update.proofs.Performed.{bundle_is_out, children_not_earlier, fresh_new}
-use Rattle.graph_update.proofs.TaskEnds.{bundle_back, cells_back, done_back, engine_finished, engine_sound, entry_is_new, fit_given, has_node, inside_done, is_finished, progress_back, stays_fixed, stays_kept, stays_sound, step_each}
+use Rattle.graph_update.proofs.ReadyIds.{some_are_ready}
+use Rattle.graph_update.proofs.TaskEnds.{bundle_back, cells_back, done_back, engine_finished, engine_sound, entry_is_new, fit_given, has_node, inside_done, is_finished, progress_back, stays_fixed, stays_kept, stays_ready, stays_sound, step_each}
 use Rattle.graph_update.proofs.engine.Engine.end_task.Goals as goal
 
 pub fresh_tasks-requires-clause-not_earlier : goal.fresh_tasks-requires-clause-not_earlier
@@ -53,7 +53,13 @@ invariant_of-self-in-Ok-end_node g c =
           (c.put.ensures.entries ∙ ap (with_entry c.args.done.task.key c.args.done.effect.text) c.reserve.ensures.entries)
           (c.requires.created ∙ ap (λ (engine : EngineState _ _). engine.progress.created + length c.args.done.effect.children) (sym c.self.view_is)) refl
           (c.sound_finish_laws.ensures c.self.inside.app.now) (subst (λ (engine : EngineState _ _). c.args.created ≤ engine.progress.limit) (sym c.self.view_is) c.requires.within) c.self.invariant.0.limited,
-      λ current. absurd (true≢false (sym current ∙ c.forget.ensures)),
+      some_are_ready (g.A.App.meaning c.self.inside.app.now) c.end_node.new.graph c.expect_more.new.self c.self.inside.ready.ids c.expect_more.ensures.ids c.expect_more.ensures.current
+          (stays_ready (c.basis.ensures c.self.inside.app.now) _ c.args.done is c.in-Some.ended (sym c.find.ensures.found ∙ c.in-Some.is)
+          c.give-shell.new.self c.in-Ok-fresh_tasks.fresh.items c.end_node.new.graph c.put.new.self.entries c.args.created (c.self.inside.ended + 1)
+          c.give-shell.ensures.given (c.in-Ok-fresh_tasks.ensures ∙ ap (fresh_from c.args.done.task.key 0) c.items-children.ensures.all) c.in-Ok-end_node.ensures.graph c.in-Ok-end_node.ensures.ok
+          (c.put.ensures.entries ∙ ap (with_entry c.args.done.task.key c.args.done.effect.text) c.reserve.ensures.entries)
+          (c.requires.created ∙ ap (λ (engine : EngineState _ _). engine.progress.created + length c.args.done.effect.children) (sym c.self.view_is)) refl
+          (c.stay_clear_laws.ensures.stay c.self.inside.app.now) (subst (λ (engine : EngineState _ _). c.args.created ≤ engine.progress.limit) (sym c.self.view_is) c.requires.within) c.self.inside.ready.ids c.self.invariant.1.clear),
       stays_fixed (c.basis.ensures c.self.inside.app.now) _ c.args.done is c.in-Some.ended (sym c.find.ensures.found ∙ c.in-Some.is)
           c.give-shell.new.self c.in-Ok-fresh_tasks.fresh.items c.end_node.new.graph c.put.new.self.entries c.args.created (c.self.inside.ended + 1)
           c.give-shell.ensures.given (c.in-Ok-fresh_tasks.ensures ∙ ap (fresh_from c.args.done.task.key 0) c.items-children.ensures.all) c.in-Ok-end_node.ensures.graph c.in-Ok-end_node.ensures.ok
