@@ -16,7 +16,7 @@ use Rattle.kdg_graph.specs.Node.{Node}
 use Rattle.kdg_graph.specs.Nodes.{IsGraph, HaveOwnIds, HaveSets, ids_of, is_at, put_node, started, tasks_of}
 use Rattle.kdg_graph.specs.NodeStock.{IsPlaceOf}
 use Rattle.kdg_graph.specs.Rewrite.{set_after, with_sets}
-use Rattle.kdg_graph.proofs.Places.{is_at-same, id_at-place, map-place}
+use Rattle.kdg_graph.proofs.Places.{is_at-same, id_at-place}
 use Rattle.kdg_graph.proofs.Ordering.{tasks-put_node}
 
 -- ---- a change that keeps each node's id and task
@@ -53,7 +53,7 @@ graph_map f keeps_task keeps_id keeps_set nodes graph = record {
 abbrev pub start : NodeId → Node → Node
 start id node = cond (is_at id node) (record node { running = true }) node
 
-start_keeps_task : (id : NodeId) (node : Node) → (start id node).task ≡ node.task
+pub start_keeps_task : (id : NodeId) (node : Node) → (start id node).task ≡ node.task
 start_keeps_task id node = elim (is_at id node) as (λ test. (let n : Node = cond test (record node { running = true }) node in n.task) ≡ node.task) [ true ↦ refl | false ↦ refl ]
 
 pub start_keeps_id : (id : NodeId) (node : Node) → (start id node).id ≡ node.id
@@ -84,14 +84,6 @@ change_keeps_set id new up node set = elim (is_at id node) as (λ test. IsAscend
 
 pub graph_with_set : (id : NodeId) (new : Accesses) → IsAscendingSet new → (nodes : List Node) → IsGraph nodes → IsGraph (with_sets (record { node = id; set = new } ∷ []) nodes)
 graph_with_set id new up = graph_map (changed (record { node = id; set = new } ∷ [])) (λ node. refl) (λ node. refl) (change_keeps_set id new up)
-
-pub with_sets-place : (id : NodeId) (new : Accesses) (nodes : List Node) (place : ℕ) (node : Node) → HaveOwnIds nodes → IsPlaceOf id nodes place → get_or nodes place node ≡ node
-    → set nodes place (record node { set = new }) ≡ with_sets (record { node = id; set = new } ∷ []) nodes
-with_sets-place id new nodes place node own at here =
-    let f : Node → Node = changed (record { node = id; set = new } ∷ []) in
-    let is : is_at id node ≡ true = is_at-same id node (ap (λ (n : Node). n.id) (sym here) ∙ id_at-place id nodes place node at) in
-    let replaces : f (get_or nodes place node) ≡ record node { set = new } = ap f here ∙ ap (λ test. with_set_if id new test node) is in
-    sym (map-place f id nodes place node (λ other differs. ap (λ test. with_set_if id new test other) differs) own at ∙ ap (λ n. set nodes place n) replaces)
 
 -- ---- a node is taken out
 

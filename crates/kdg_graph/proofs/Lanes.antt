@@ -5,7 +5,7 @@ use Rattle.std.specs.List.{AllByRecursion, remove}
 use Rattle.std.specs.List.Sorted.{IsPartitionedBy, IsPartitionPoint}
 use Rattle.std.specs.Option.{option_to_list}
 use Rattle.std.specs.Ordering.{is_lt}
-use Rattle.std.proofs.lemmas.Bool.{cond_both}
+use Rattle.std.proofs.lemmas.Bool.{cond_both, false_from_ne_true, true≢false}
 use Rattle.slab.specs.Slab.{Slab, ContainsKey, Updates, get}
 use Rattle.task_order.specs.declared.key.Key.{Key}
 use Rattle.task_order.specs.Key.{key_cmp}
@@ -74,6 +74,11 @@ stored_key slots nodes id stored has = subst IsSome (sym (stored_has slots nodes
 
 -- ---- searching
 
+same_there : (ids : List NodeId) (place : ℕ) (d e : NodeId) → place < length ids → get_or ids place d ≡ get_or ids place e
+same_there [] place d e inside = absurd (omega (arith, inside))
+same_there (id ∷ ids) zero d e inside = refl
+same_there (id ∷ ids) (suc place) d e inside = same_there ids place d e (omega (arith, inside))
+
 earlier_at : (slots : Slab Node) (nodes : List Node) (ids : List NodeId) (key : Key) (place : ℕ) (id : NodeId) (d : Node) → AreStored slots nodes → ids ≡ ids_of nodes → place < length ids → is_earlier_in slots key (get_or ids place id) ≡ is_before key (get_or nodes place d)
 earlier_at slots [] ids key place id d stored same inside = absurd (omega (arith, inside, ap length same))
 earlier_at slots (node ∷ nodes) [] key place id d stored same inside = absurd (omega (arith, inside))
@@ -106,6 +111,22 @@ rank_of_ids slots nodes ids key place lane inside point =
         (λ k node from upto. sym (earlier_at slots nodes ids key k node.id node lane.stored lane.ids_are (omega (arith, upto, as_many))) ∙ point.1 k node.id from (omega (arith, upto, as_many))),
       );
     }
+
+pub rank_of_nothing : (slots : Slab Node) (nodes : List Node) (ids : List NodeId) (key : Key) → IsLane slots nodes ids → length ids ≡ 0 → IsRank key nodes 0
+rank_of_nothing slots nodes ids key lane none =
+    rank_of_ids slots nodes ids key 0 lane (omega arith) ((λ k d from upto. absurd (omega (arith, upto))), (λ k d from upto. absurd (omega (arith, upto, none))))
+
+-- where the last one is earlier all are
+pub all_earlier : (slots : Slab Node) (nodes : List Node) (ids : List NodeId) (key : Key) (last : NodeId) (place : ℕ) → IsLane slots nodes ids → length ids ≡ suc place → last ≡ get_or ids place last → is_earlier_in slots key last ≡ true → IsRank key nodes (length ids)
+all_earlier slots nodes ids key last place lane len here is =
+    rank_of_ids slots nodes ids key (length ids) lane (omega arith)
+    ((λ k d from upto. ids_partitioned slots nodes ids key lane k place d (omega (arith, upto, len)) (omega (arith, len)) (ap (is_earlier_in slots key) (same_there ids place d last (omega (arith, len)) ∙ sym here) ∙ is)), (λ k d from upto. absurd (omega (arith, from, upto))))
+
+-- where the first one isn't earlier none is
+pub none_earlier_in : (slots : Slab Node) (nodes : List Node) (ids : List NodeId) (key : Key) (first : NodeId) → IsLane slots nodes ids → first ≡ get_or ids 0 first → is_earlier_in slots key first ≡ false → IsRank key nodes 0
+none_earlier_in slots nodes ids key first lane here is =
+    rank_of_ids slots nodes ids key 0 lane (omega arith)
+    ((λ k d from upto. absurd (omega (arith, upto))), (λ k d from upto. false_from_ne_true _ (λ earlier. true≢false (sym (ids_partitioned slots nodes ids key lane 0 k d (omega arith) upto earlier) ∙ ap (is_earlier_in slots key) (same_there ids 0 d first (omega (arith, upto)) ∙ sym here) ∙ is))))
 
 -- ---- changes
 

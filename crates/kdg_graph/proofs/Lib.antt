@@ -9,5 +9,16 @@ pub mod Members
 pub mod LookUps
 pub mod Neighbours
 pub mod Rewritten
-pub mod Counting
 pub mod Storing
+pub mod Rooms
+pub mod Fronts
+pub mod Selecting
+pub mod Settling
+pub mod Filtered
+pub mod Among
+pub mod Pasts
+pub mod Shelving
+pub mod Filing
+pub mod Blocking
+pub mod Fronting
+pub mod Earliest

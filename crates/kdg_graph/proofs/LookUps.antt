@@ -21,7 +21,7 @@ Some-injective a b same = cc
 
 -- ---- by id
 
-found_by_id : (nodes : List Node) (node : Node) → HaveOwnIds nodes → Contains nodes node → node_at nodes node.id ≡ Some node
+pub found_by_id : (nodes : List Node) (node : Node) → HaveOwnIds nodes → Contains nodes node → node_at nodes node.id ≡ Some node
 found_by_id [] node own has = absurd (none node has)
 found_by_id (other ∷ nodes) node own has = elim (cases other node nodes has) [
   | inl same ↦ ap (λ test. cond test (Some other) (node_at nodes node.id)) (is_at-same node.id other (ap (λ (n : Node). n.id) same)) ∙ ap Some same
@@ -44,7 +44,7 @@ ids_find_nodes (other ∷ nodes) id node is =
 
 -- ---- by key
 
-Equal_from_test : (o : Ordering) → is_eq o ≡ true → o ≡ Equal
+pub Equal_from_test : (o : Ordering) → is_eq o ≡ true → o ≡ Equal
 Equal_from_test Less is = cc
 Equal_from_test Equal is = refl
 Equal_from_test Greater is = cc
@@ -66,7 +66,7 @@ not_by exact key node false is differ = refl
 differs_from_earlier : (a b : Key) → key_cmp a b ≡ Less → a ≢ b
 differs_from_earlier a b earlier same = let tied : key_cmp a b ≡ Equal = ap (λ k. key_cmp k b) same ∙ tied_itself key_cmp_total b in cc
 
-key_later : (node : Node) (nodes : List Node) (other : Node) → AllByRecursion (λ task. key_cmp node.task.key task.key ≡ Less) (tasks_of nodes) → Contains nodes other → key_cmp node.task.key other.task.key ≡ Less
+pub key_later : (node : Node) (nodes : List Node) (other : Node) → AllByRecursion (λ task. key_cmp node.task.key task.key ≡ Less) (tasks_of nodes) → Contains nodes other → key_cmp node.task.key other.task.key ≡ Less
 key_later node [] other all has = absurd (none other has)
 key_later node (next ∷ nodes) other all has = elim (cases next other nodes has) [ inl same ↦ subst (λ (n : Node). key_cmp node.task.key n.task.key ≡ Less) same all.0 | inr later ↦ key_later node nodes other all.1 later ]
 

@@ -21,12 +21,12 @@ use Rattle.kdg_graph.proofs.Members.{all_at, all_from, from_filter, from_map, in
 use Rattle.kdg_graph.proofs.LookUps.{ids_find_nodes, nodes_have_ids}
 
 -- what two look-ups of one id find is one node
-same_found : (nodes : List Node) (id : NodeId) (node other : Node) → IsGraph nodes → Contains nodes other → other.id ≡ id → node_at nodes id ≡ Some node → other ≡ node
+pub same_found : (nodes : List Node) (id : NodeId) (node other : Node) → IsGraph nodes → Contains nodes other → other.id ≡ id → node_at nodes id ≡ Some node → other ≡ node
 same_found nodes id node other graph has same is =
     let found : Some other ≡ Some node = sym (nodes_have_ids nodes other graph has) ∙ ap (node_at nodes) same ∙ is in
     cc
 
-found_some : (nodes : List Node) (id : NodeId) (other : Node) → IsGraph nodes → Contains nodes other → other.id ≡ id → HasNode nodes id
+pub found_some : (nodes : List Node) (id : NodeId) (other : Node) → IsGraph nodes → Contains nodes other → other.id ≡ id → HasNode nodes id
 found_some nodes id other graph has same = subst (HasNode nodes) same (subst IsSome (sym (nodes_have_ids nodes other graph has)) refl)
 
 -- the ids of some of the nodes: a node's id is among them exactly where the node is
@@ -127,7 +127,7 @@ laters_are_in_conflict decided nodes node id later graph is =
 
 -- ---- changes of later nodes
 
-own_filtered : (p : Node → Bool) (nodes : List Node) → HaveOwnIds nodes → HaveOwnIds (filter p nodes)
+pub own_filtered : (p : Node → Bool) (nodes : List Node) → HaveOwnIds nodes → HaveOwnIds (filter p nodes)
 own_filtered p [] own = tt
 own_filtered p (node ∷ nodes) own =
     cond_both (p node) (node ∷ filter p nodes) (filter p nodes) HaveOwnIds

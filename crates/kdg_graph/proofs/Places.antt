@@ -39,11 +39,11 @@ id_at-place id (node ∷ nodes) (suc place) d at = id_at-place id nodes place d 
 
 -- ---- taking the node out
 
-none_at : (id other : NodeId) (nodes : List Node) → id ≡ other → AllByRecursion (λ node. node.id ≢ id) nodes → AllByRecursion (λ node. is_at other node ≡ false) nodes
+pub none_at : (id other : NodeId) (nodes : List Node) → id ≡ other → AllByRecursion (λ node. node.id ≢ id) nodes → AllByRecursion (λ node. is_at other node ≡ false) nodes
 none_at id other [] same all = tt
 none_at id other (node ∷ nodes) same all = (not_at other node (λ is. all.0 (is ∙ sym same)), none_at id other nodes same all.1)
 
-without_none : (id : NodeId) (nodes : List Node) → AllByRecursion (λ node. is_at id node ≡ false) nodes → without id nodes ≡ nodes
+pub without_none : (id : NodeId) (nodes : List Node) → AllByRecursion (λ node. is_at id node ≡ false) nodes → without id nodes ≡ nodes
 without_none id [] all = refl
 without_none id (node ∷ nodes) all = ap (λ test. cond (not test) (node ∷ without id nodes) (without id nodes)) all.0 ∙ ap (λ rest. node ∷ rest) (without_none id nodes all.1)
 
@@ -56,16 +56,9 @@ without-place id (node ∷ nodes) (suc place) own at =
 
 -- ---- changing the node
 
-map_none : (f : Node → Node) (id : NodeId) (nodes : List Node) → ((node : Node) → is_at id node ≡ false → f node ≡ node) → AllByRecursion (λ node. is_at id node ≡ false) nodes → map f nodes ≡ nodes
+pub map_none : (f : Node → Node) (id : NodeId) (nodes : List Node) → ((node : Node) → is_at id node ≡ false → f node ≡ node) → AllByRecursion (λ node. is_at id node ≡ false) nodes → map f nodes ≡ nodes
 map_none f id [] keeps all = refl
 map_none f id (node ∷ nodes) keeps all = λ i. keeps node all.0 i ∷ map_none f id nodes keeps all.1 i
-
--- a change of the one node that has an id
-pub map-place : (f : Node → Node) (id : NodeId) (nodes : List Node) (place : ℕ) (d : Node) → ((node : Node) → is_at id node ≡ false → f node ≡ node) → HaveOwnIds nodes → IsPlaceOf id nodes place
-    → map f nodes ≡ set nodes place (f (get_or nodes place d))
-map-place f id [] place d keeps own at = absurd at
-map-place f id (node ∷ nodes) zero d keeps own at = ap (λ rest. f node ∷ rest) (map_none f id nodes keeps (none_at node.id id nodes (same_id id node at) own.0))
-map-place f id (node ∷ nodes) (suc place) d keeps own at = λ i. keeps node at.0 i ∷ map-place f id nodes place d keeps own.1 at.1 i
 
 -- a place of the list has one node
 pub get_or-there : (nodes : List Node) (place : ℕ) (d e : Node) → place < length nodes → get_or nodes place d ≡ get_or nodes place e

@@ -23,7 +23,7 @@ use Rattle.kdg_graph.proofs.LookUps.{ids_find_nodes, keys_find_nodes, new_keys_f
 
 -- ---- nodes put in
 
-in_put_new : (node : Node) (nodes : List Node) → Contains (put_node node nodes) node
+pub in_put_new : (node : Node) (nodes : List Node) → Contains (put_node node nodes) node
 in_put_new node [] = here node []
 in_put_new node (other ∷ nodes) =
     cond_both (is_lt (key_cmp other.task.key node.task.key)) (other ∷ put_node node nodes) (node ∷ other ∷ nodes) (λ (l : List Node). Contains l node)

@@ -40,6 +40,15 @@ key_of slots ids id is has = stored_key slots (nodes_in slots ids) id is.lane.st
 pub entry_of : (slots : Slab Node) (ids : List NodeId) (id : NodeId) → IsStored slots ids → HasNode (nodes_in slots ids) id → get slots id.at ≡ node_at (nodes_in slots ids) id
 entry_of slots ids id is has = stored_has slots (nodes_in slots ids) id is.lane.stored has
 
+-- what holds of what is kept under an id holds of the node
+pub kept_node : (slots : Slab Node) (ids : List NodeId) (id : NodeId) (kept : Option Node) (P : Node → Type 0) → IsStored slots ids → get slots id.at ≡ kept → IfSome kept P → IfSome (node_at (nodes_in slots ids) id) P
+kept_node slots ids id kept P is same holds =
+    let by_case : (found : Option Node) → node_at (nodes_in slots ids) id ≡ found → IfSome found P = elim [
+      | None ↦ λ _. tt
+      | Some node ↦ λ found. subst (λ (o : Option Node). IfSome o P) (sym same ∙ entry_of slots ids id is (subst IsSome (sym found) refl) ∙ found) holds
+    ] in
+    by_case (node_at (nodes_in slots ids) id) refl
+
 -- ---- the place of a node is its rank
 
 pub place_by_rank : (id : NodeId) (nodes : List Node) (node : Node) (place : ℕ) → IsAscending (tasks_of nodes) → node_at nodes id ≡ Some node → IsRank node.task.key nodes place → IsPlaceOf id nodes place
@@ -77,12 +86,6 @@ place_by_rank id (first ∷ nodes) node (suc place) up is rank =
       )
     ] in
     by_case (is_at id first) refl is
-
-pub laters_at_place : (id : NodeId) (nodes : List Node) (place : ℕ) (result : List NodeId) → IsPlaceOf id nodes place → ((node : Node) → node ≡ get_or nodes place node → result ≡ laters_of nodes node) → IfSome (node_at nodes id) (λ of. result ≡ laters_of nodes of)
-laters_at_place id nodes place result at each =
-    let inside : place < length nodes = place_inside id nodes place at in
-    let node : Node = get_or nodes place (some_node nodes place inside) in
-    subst (λ (o : Option Node). IfSome o (λ (of : Node). result ≡ laters_of nodes of)) (sym (node_at-place id nodes place (some_node nodes place inside) at)) (each node (get_or-there nodes place (some_node nodes place inside) node inside))
 
 -- ---- changes
 

@@ -38,6 +38,11 @@ pub record IsRank (key : Key) (nodes : List Node) (place : ℕ) : Type 0 where
   pub inside : place ≤ length nodes
   pub point : IsPartitionPoint (λ node. is_lt (key_cmp node.task.key key) ≡ true) (λ node. is_lt (key_cmp node.task.key key) ≡ false) nodes place
 
+-- so many of the nodes are not later than the key, and they stand first
+pub record IsRankPast (key : Key) (nodes : List Node) (place : ℕ) : Type 0 where
+  pub inside : place ≤ length nodes
+  pub point : IsPartitionPoint (λ node. is_lt (key_cmp key node.task.key) ≡ false) (λ node. is_lt (key_cmp key node.task.key) ≡ true) nodes place
+
 -- whether there is a node, and it is earlier than the key
 abbrev pub is_earlier_if : Key → Option Node → Bool
 is_earlier_if key None = false

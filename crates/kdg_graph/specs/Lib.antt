@@ -5,5 +5,8 @@ pub mod Rewrite
 pub mod Listing
 pub mod Laws
 pub mod Lanes
-pub mod Blockers
 pub mod NodeStock
+pub mod Locations
+pub mod Selected
+pub mod Kept
+pub mod Fronts

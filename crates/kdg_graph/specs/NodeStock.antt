@@ -10,12 +10,13 @@ pub record NodeShelf : Type 0 where
   pub places : ℕ
   pub numbers : ℕ
 
--- and for so many a count
+-- and for so many a place among the sources, and at each location for so many a place there
 pub record NodeStock : Type 0 where
   pub nodes : List Node
   pub places : ℕ
   pub numbers : ℕ
-  pub counters : ℕ
+  pub marks : ℕ
+  pub rooms : List ℕ
 
 -- the node at the place, and none before it, has the id
 abbrev pub IsPlaceOf : NodeId → List Node → ℕ → Type 0

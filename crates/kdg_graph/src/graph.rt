@@ -18,9 +18,10 @@ use task_order::{Key, Task, TaskList, key_order, put_in_laws, without_laws};
 /// Pending tasks in the order of their keys. Each is a node, with an id, a recorded set, and a mark
 /// where the task is running.
 ///
-/// A node is found by its id at once, and by its key in the logarithm of their number. For each node
-/// the graph counts the earlier nodes in conflict with it, so that the sources are kept and not
-/// searched: a node that comes, goes or changes its set is compared with each other node once.
+/// A node is found by its id at once, and by its key in the logarithm of their number. At each
+/// location the graph has those that name it in order, and it keeps the sources: where a node comes,
+/// goes or changes its set, only those are tested again that it may block alone, which at each
+/// location are the nodes behind it up to the first that writes there.
 #[derive(Drop)]
 pub struct Graph {
     nodes: NodeList,
@@ -60,7 +61,7 @@ impl Graph {
         ensures returned { IfErr result (λ back. back ≡ (task, set)) }
         ensures unchanged { OnErr result (self.new ≡ self.old) }
     {
-        if self.nodes.reserve(1).is_err() {
+        if self.nodes.reserve(&set).is_err() {
             return Err((task, set));
         }
         let Ok(copy) = task.copy() else {
@@ -93,7 +94,7 @@ impl Graph {
     {
         put_in_laws();
         without_laws();
-        let reserved = self.nodes.reserve(fresh.len());
+        let reserved = self.nodes.reserve_all(&changed, &fresh);
         if reserved.is_err() || list_all(&mut self.tasks, &fresh).is_err() {
             return Err((changed, fresh));
         }
@@ -118,7 +119,7 @@ impl Graph {
         ensures sources { result ≡ sources_of self.now }
         ensures graph { IsGraph self.now }
     {
-        Sources::of(self.nodes.nodes(), self.nodes.counts())
+        Sources::of(self.nodes.sources())
     }
 
     /// The later nodes whose recorded sets conflict with that of a node.
@@ -127,8 +128,7 @@ impl Graph {
         ensures laters { IfSome (node_at self.now node) (λ of. result ≡ laters_of self.now of) }
         ensures graph { IsGraph self.now }
     {
-        let nodes = self.nodes.nodes();
-        Laters::of(nodes, nodes.place_of(node))
+        Laters::of(self.nodes.nodes(), self.nodes.locations(), node)
     }
 
     /// The earliest node.

@@ -2,6 +2,7 @@ ghost use Rattle.std.specs.Prelude.{◌≡◌, ◌+◌, ◌≤◌, ◌<◌, [], 
 ghost use Rattle.std.specs.List.{insert, remove};
 ghost use Rattle.std.specs.VecDeque.{deque_capacity, deque_len};
 ghost use Rattle.kdg_graph.specs.Lanes.{IsLane, IsRank, is_earlier_in};
+ghost use Rattle.kdg_graph.specs.Locations.{is_first_before};
 ghost use Rattle.std.specs.Prelude.{List};
 ghost use Rattle.kdg_graph.specs.Node.{Node};
 
@@ -31,7 +32,8 @@ impl Lane {
 
     /// How many ids there are.
     pub(crate) fn len(&self) -> usize
-        ensures { result ≡ length self.now.ids.items }
+        ensures len { result ≡ length self.now.ids.items }
+        ensures counted { result ≡ deque_len self.now.ids }
     {
         self.ids.len()
     }
@@ -47,17 +49,52 @@ impl Lane {
     /// Makes room for so many more ids.
     pub(crate) fn reserve(&mut self, additional: usize) -> Result<(), NoRoom>
         ensures room { OnOk result (deque_len self.new.ids + additional ≤ deque_capacity self.new.ids) }
+        ensures no_less { deque_capacity self.old.ids ≤ deque_capacity self.new.ids }
+        ensures len { deque_len self.new.ids ≡ deque_len self.old.ids }
         ensures ids { self.new.ids.items ≡ self.old.ids.items }
     {
         self.ids.reserve(additional)?;
         Ok(())
     }
 
-    /// How many of the nodes are earlier than the key.
+    /// How many of the nodes are earlier than the key: all or none at once, else by halving.
     pub(crate) fn rank(&self, slots: &Slab<Entry>, key: &Key) -> usize
-        ensures { (nodes : List Node) → IsLane slots.now nodes self.now.ids.items → IsRank key.now nodes result }
+        ensures rank { (nodes : List Node) → IsLane slots.now nodes self.now.ids.items → IsRank key.now nodes result }
+        ensures inside { result ≤ length self.now.ids.items }
+    {
+        let len = self.len();
+        if len == 0 {
+            return 0;
+        }
+        let last = self.at(len - 1);
+        if is_earlier(slots, last, key) {
+            return len;
+        }
+        let first = self.at(0);
+        if is_earlier(slots, first, key) {
+            self.halve(slots, key)
+        } else {
+            0
+        }
+    }
+
+    /// How many of the nodes are earlier than the key, by halving.
+    fn halve(&self, slots: &Slab<Entry>, key: &Key) -> usize
+        ensures rank { (nodes : List Node) → IsLane slots.now nodes self.now.ids.items → IsRank key.now nodes result }
+        ensures inside { result ≤ length self.now.ids.items }
     {
         self.ids.partition_point(|id| is_earlier(slots, *id, key))
+    }
+
+    /// Whether the first of the nodes is earlier than the key.
+    pub(crate) fn starts_before(&self, slots: &Slab<Entry>, key: &Key) -> bool
+        ensures { (nodes : List Node) → IsLane slots.now nodes self.now.ids.items → result ≡ is_first_before key.now nodes }
+    {
+        if self.len() == 0 {
+            return false;
+        }
+        let first = self.at(0);
+        is_earlier(slots, first, key)
     }
 
     /// Puts an id at a place, where `reserve` made room.

@@ -2,23 +2,28 @@
 //! them, and which of them stand in the way of which.
 #![tactic(auto)]
 
-mod blockers;
 mod change;
 mod entry;
 mod graph;
 mod lane;
+mod laters;
 mod laws;
 mod listing;
+mod location;
+mod locations;
 mod node_id;
 mod node_list;
 mod ordered_nodes;
+mod room;
+mod source_lane;
 mod walk;
 
 pub use change::{Fresh, SetChange};
 pub use graph::Graph;
+pub use laters::Laters;
 pub use laws::{later_laws, node_laws, put_laws, rewrite_laws, source_laws};
 pub use node_id::NodeId;
-pub use walk::{Laters, Sources};
+pub use walk::Sources;
 
 #[cfg(test)]
 mod plain;

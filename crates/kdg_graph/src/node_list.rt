@@ -1,13 +1,17 @@
-ghost use Rattle.std.specs.Prelude.{◌≡◌, ◌+◌, ◌<◌, ◌≤◌, [], ◌∷◌, Some, OnOk, length};
+ghost use Rattle.std.specs.Prelude.{◌≡◌, ◌+◌, ◌<◌, ◌≤◌, ℕ, [], ◌∷◌, Some, OnOk, length};
 ghost use Rattle.std.specs.List.{AllByRecursion};
 ghost use Rattle.task_order.specs.TaskList.{IsNewKey};
 ghost use Rattle.kdg_graph.specs.Node.{new_node};
 ghost use Rattle.kdg_graph.specs.Nodes.{IsGraph, HasNode, put_node, started, task_at, tasks_of};
-ghost use Rattle.kdg_graph.specs.Blockers.{IsCounted};
+ghost use Rattle.kdg_graph.specs.Edges.{sources_of};
+ghost use Rattle.kdg_graph.specs.Locations.{AreFiled, HasRoom, HaveNoLess, room_at};
 ghost use Rattle.kdg_graph.specs.Rewrite.{AreAdded, AreOfOwnNodes, HaveNewKeys, without, with_sets};
 
-use crate::blockers::Blockers;
+use crate::lane::Lane;
+use crate::locations::Locations;
 use crate::ordered_nodes::OrderedNodes;
+use crate::room::{reserve_changed, reserve_fresh};
+use crate::source_lane::SourceLane;
 use crate::{Fresh, NodeId, SetChange};
 use kdg_text::NoRoom;
 use rw_sets::RwSet;
@@ -15,23 +19,32 @@ use std::alloc::Global;
 use std::marker::Model;
 use task_order::Task;
 
-/// The nodes of a graph, and how many earlier nodes each is in conflict with.
+/// The nodes of a graph, the order of those of each location, and the sources.
 #[derive(Drop)]
 pub(crate) struct NodeList {
     nodes: OrderedNodes,
-    blockers: Blockers,
+    locations: Locations,
+    sources: SourceLane,
 }
 
 impl Model for NodeList {
-    ghost use Rattle.std.specs.Prelude.{◌-◌, vec_len, vec_capacity};
+    ghost use Rattle.std.specs.Prelude.{◌-◌, length};
+    ghost use Rattle.std.specs.VecDeque.{deque_capacity};
+    ghost use Rattle.kdg_graph.specs.Kept.{IsKept};
+    ghost use Rattle.kdg_graph.specs.Locations.{rooms_of};
     ghost use Rattle.kdg_graph.specs.NodeStock.{NodeStock};
-    ghost use Rattle.kdg_graph.specs.Blockers.{IsWatched};
 
     ghost Value = { NodeStock };
 
-    ghost view = { λ l. record { nodes = l.nodes.nodes; places = l.nodes.places; numbers = l.nodes.numbers; counters = vec_capacity l.blockers.counts - vec_len l.blockers.counts } };
+    ghost view = { λ l. record {
+      nodes = l.nodes.nodes;
+      places = l.nodes.places;
+      numbers = l.nodes.numbers;
+      marks = deque_capacity l.sources.lane.ids - length l.nodes.nodes;
+      rooms = rooms_of l.locations.locations.items;
+    } };
 
-    ghost invariant = { λ l. IsWatched l.nodes.nodes l.blockers.counts.items };
+    ghost invariant = { λ l. IsKept l.nodes.nodes l.locations.locations.items l.sources.lane.ids.items (deque_capacity l.sources.lane.ids) };
 }
 
 impl NodeList {
@@ -41,7 +54,8 @@ impl NodeList {
     {
         NodeList {
             nodes: OrderedNodes::new(alloc),
-            blockers: Blockers::new(alloc),
+            locations: Locations::new(alloc),
+            sources: SourceLane::new(alloc),
         }
     }
 
@@ -53,40 +67,87 @@ impl NodeList {
         &self.nodes
     }
 
-    /// How many earlier nodes each node is in conflict with, in key order.
-    pub(crate) fn counts(&self) -> &[usize]
-        ensures { IsCounted self.now.nodes result.now }
+    /// The nodes of each location.
+    pub(crate) fn locations(&self) -> &Locations
+        ensures { AreFiled self.now.nodes result.now.locations.items }
     {
-        self.blockers.counts()
+        &self.locations
     }
 
-    /// Makes room for so many more nodes.
-    pub(crate) fn reserve(&mut self, additional: usize) -> Result<(), NoRoom>
+    /// The sources.
+    pub(crate) fn sources(&self) -> &Lane
+        ensures sources { result.now.ids.items ≡ sources_of self.now.nodes }
+        ensures graph { IsGraph self.now.nodes }
+    {
+        self.sources.lane()
+    }
+
+    /// Makes room for one more node with the set.
+    pub(crate) fn reserve(&mut self, set: &RwSet) -> Result<(), NoRoom>
+        ensures places { OnOk result (0 < self.new.places) }
+        ensures numbers { OnOk result (0 < self.new.numbers) }
+        ensures marks { OnOk result (0 < self.new.marks) }
+        ensures rooms { OnOk result (HasRoom 1 set.now self.new.rooms) }
+        ensures nodes { self.new.nodes ≡ self.old.nodes }
+    {
+        self.reserve_nodes(1)?;
+        self.locations.reserve(set, 1)
+    }
+
+    /// Makes room for the changed sets and for the fresh nodes.
+    pub(crate) fn reserve_all(
+        &mut self,
+        changed: &[SetChange],
+        fresh: &[Fresh],
+    ) -> Result<(), NoRoom>
+        ensures places { OnOk result (length fresh.now ≤ self.new.places) }
+        ensures numbers { OnOk result (length fresh.now ≤ self.new.numbers) }
+        ensures marks { OnOk result (length fresh.now ≤ self.new.marks) }
+        ensures changed { OnOk result (AllByRecursion (λ change. HasRoom (length changed.now + length fresh.now) change.set self.new.rooms) changed.now) }
+        ensures fresh { OnOk result (AllByRecursion (λ item. HasRoom (length changed.now + length fresh.now) item.set self.new.rooms) fresh.now) }
+        ensures nodes { self.new.nodes ≡ self.old.nodes }
+    {
+        self.reserve_nodes(fresh.len())?;
+        let coming = changed.len().checked_add(fresh.len()).ok_or(NoRoom)?;
+        reserve_changed(&mut self.locations, changed, coming)?;
+        reserve_fresh(&mut self.locations, fresh, coming)
+    }
+
+    /// Makes room for so many more nodes, but at the locations of their sets.
+    fn reserve_nodes(&mut self, additional: usize) -> Result<(), NoRoom>
         ensures places { OnOk result (additional ≤ self.new.places) }
         ensures numbers { OnOk result (additional ≤ self.new.numbers) }
-        ensures counters { OnOk result (additional ≤ self.new.counters) }
+        ensures marks { OnOk result (additional ≤ self.new.marks) }
         ensures nodes { self.new.nodes ≡ self.old.nodes }
     {
         self.nodes.reserve(additional)?;
-        self.blockers.reserve(additional)
+        let nodes = self.nodes.len().checked_add(additional).ok_or(NoRoom)?;
+        self.sources.reserve(nodes)
     }
 
     /// Puts a node at its place, where `reserve` made room. It takes no memory.
     pub(crate) fn put(&mut self, task: Task, set: RwSet) -> NodeId
         requires places { 0 < self.old.places }
         requires numbers { 0 < self.old.numbers }
-        requires counters { 0 < self.old.counters }
+        requires marks { 0 < self.old.marks }
+        requires rooms { HasRoom 1 set self.old.rooms }
         requires new { IsNewKey task.key (tasks_of self.old.nodes) }
         ensures nodes { self.new.nodes ≡ put_node (new_node result task set) self.old.nodes }
         ensures there { HasNode self.new.nodes result }
         ensures places { self.old.places ≤ self.new.places + 1 }
         ensures numbers { self.old.numbers ≤ self.new.numbers + 1 }
-        ensures counters { self.old.counters ≤ self.new.counters + 1 }
+        ensures marks { self.old.marks ≤ self.new.marks + 1 }
+        ensures rooms { (loc : ℕ) → room_at self.old.rooms loc ≤ room_at self.new.rooms loc + 1 }
         ensures graph { IsGraph self.new.nodes }
     {
         let place = self.nodes.rank(&task.key);
-        self.blockers.enter(&self.nodes, place, &set);
-        self.nodes.put(place, task, set)
+        let id = self.nodes.put(place, task, set);
+        self.locations.enter(&self.nodes, id);
+        let node = self.nodes.entry(id);
+        self.sources.refresh(&self.nodes, &self.locations, id);
+        self.sources
+            .refresh_fronts(&self.nodes, &self.locations, &node.set, &node.task.key);
+        id
     }
 
     /// Takes a node out and gives its task. It takes no memory.
@@ -96,38 +157,53 @@ impl NodeList {
         ensures nodes { self.new.nodes ≡ without id self.old.nodes }
         ensures places { self.old.places ≤ self.new.places }
         ensures numbers { self.old.numbers ≤ self.new.numbers }
-        ensures counters { self.old.counters ≤ self.new.counters }
+        ensures marks { self.old.marks ≤ self.new.marks }
+        ensures rooms { HaveNoLess self.old.rooms self.new.rooms }
         ensures graph { IsGraph self.new.nodes }
     {
         let place = self.nodes.place_of(id);
-        self.blockers.leave(&self.nodes, place);
+        self.sources.forget(&self.nodes, id);
+        self.locations.leave(&self.nodes, id);
         let node = self.nodes.remove(place);
+        self.sources
+            .refresh_fronts(&self.nodes, &self.locations, &node.set, &node.task.key);
         node.task
     }
 
-    /// Replaces the set of a node.
+    /// Replaces the set of a node, where `reserve` made room. It takes no memory.
     pub(crate) fn set_set(&mut self, id: NodeId, set: RwSet)
-        requires { HasNode self.old.nodes id }
+        requires there { HasNode self.old.nodes id }
+        requires rooms { HasRoom 1 set self.old.rooms }
         ensures nodes { self.new.nodes ≡ with_sets (record { node = id; set = set } ∷ []) self.old.nodes }
         ensures places { self.old.places ≤ self.new.places }
         ensures numbers { self.old.numbers ≤ self.new.numbers }
-        ensures counters { self.old.counters ≤ self.new.counters }
+        ensures marks { self.old.marks ≤ self.new.marks }
+        ensures rooms { (loc : ℕ) → room_at self.old.rooms loc ≤ room_at self.new.rooms loc + 1 }
         ensures graph { IsGraph self.new.nodes }
     {
-        let place = self.nodes.place_of(id);
-        self.blockers.exchange(&self.nodes, place, &set);
-        self.nodes.set_set(id, set);
+        self.sources.forget(&self.nodes, id);
+        self.locations.leave(&self.nodes, id);
+        let before = self.nodes.set_set(id, set);
+        self.locations.enter(&self.nodes, id);
+        let node = self.nodes.entry(id);
+        self.sources.refresh(&self.nodes, &self.locations, id);
+        self.sources
+            .refresh_fronts(&self.nodes, &self.locations, &before, &node.task.key);
+        self.sources
+            .refresh_fronts(&self.nodes, &self.locations, &node.set, &node.task.key);
     }
 
-    /// Replaces the sets that are named.
+    /// Replaces the sets that are named, where `reserve_all` made room. It takes no memory.
     pub(crate) fn set_sets(&mut self, changes: Vec<SetChange>)
         requires there { AllByRecursion (λ change. HasNode self.old.nodes change.node) changes.items }
         requires own { AreOfOwnNodes changes.items }
+        requires rooms { AllByRecursion (λ change. HasRoom (length changes.items) change.set self.old.rooms) changes.items }
         requires graph { IsGraph self.old.nodes }
         ensures nodes { self.new.nodes ≡ with_sets changes.items self.old.nodes }
         ensures places { self.old.places ≤ self.new.places }
         ensures numbers { self.old.numbers ≤ self.new.numbers }
-        ensures counters { self.old.counters ≤ self.new.counters }
+        ensures marks { self.old.marks ≤ self.new.marks }
+        ensures rooms { (loc : ℕ) → room_at self.old.rooms loc ≤ room_at self.new.rooms loc + length changes.items }
         ensures graph { IsGraph self.new.nodes }
     {
         for change in changes {
@@ -135,11 +211,12 @@ impl NodeList {
         }
     }
 
-    /// Puts the fresh nodes in, where `reserve` made room. It takes no memory.
+    /// Puts the fresh nodes in, where `reserve_all` made room. It takes no memory.
     pub(crate) fn put_all(&mut self, fresh: Vec<Fresh>)
         requires places { length fresh.items ≤ self.old.places }
         requires numbers { length fresh.items ≤ self.old.numbers }
-        requires counters { length fresh.items ≤ self.old.counters }
+        requires marks { length fresh.items ≤ self.old.marks }
+        requires rooms { AllByRecursion (λ item. HasRoom (length fresh.items) item.set self.old.rooms) fresh.items }
         requires new { HaveNewKeys (tasks_of self.old.nodes) fresh.items }
         requires graph { IsGraph self.old.nodes }
         ensures added { AreAdded self.old.nodes fresh.items self.new.nodes }
@@ -150,12 +227,13 @@ impl NodeList {
         }
     }
 
-    /// Marks a node as running.
+    /// Marks a node as running, which makes it no source.
     pub(crate) fn mark_running(&mut self, id: NodeId)
         requires { HasNode self.old.nodes id }
         ensures nodes { self.new.nodes ≡ started id self.old.nodes }
         ensures graph { IsGraph self.new.nodes }
     {
+        self.sources.forget(&self.nodes, id);
         self.nodes.mark_running(id);
     }
 }

@@ -1,12 +1,18 @@
-ghost use Rattle.std.specs.Prelude.{◌≡◌, ◌+◌, ◌<◌, ◌≤◌, [], ◌∷◌, Some, OnOk, length, slice_index_or};
+ghost use Rattle.std.specs.Prelude.{◌≡◌, ◌+◌, ◌<◌, ◌≤◌, [], ◌∷◌, Some, IfSome, OnOk, length, slice_index_or};
 ghost use Rattle.std.specs.List.{remove};
 ghost use Rattle.std.specs.Option.{option_map};
 ghost use Rattle.task_order.specs.TaskList.{IsNewKey};
 ghost use Rattle.kdg_graph.specs.Node.{new_node};
-ghost use Rattle.kdg_graph.specs.Nodes.{IsGraph, HasNode, least_of, node_at, node_with_key, put_node, started, tasks_of};
-ghost use Rattle.kdg_graph.specs.Lanes.{IsRank};
+ghost use Rattle.kdg_graph.specs.Nodes.{IsGraph, HasNode, ids_of, least_of, node_at, node_with_key, put_node, set_at, started, tasks_of};
+ghost use Rattle.std.specs.VecDeque.{deque_capacity, deque_len};
+ghost use Rattle.std.specs.Ordering.{is_eq};
+ghost use Rattle.task_order.specs.Key.{key_cmp};
+ghost use Rattle.kdg_graph.specs.Lanes.{IsRank, IsRankPast};
+ghost use Rattle.kdg_graph.specs.Locations.{IsLaneAmong, is_first_before};
+ghost use Rattle.std.specs.Prelude.{Bool, List, filter, ◌||◌};
+ghost use Rattle.kdg_graph.specs.Node.{Node};
 ghost use Rattle.kdg_graph.specs.NodeStock.{IsPlaceOf};
-ghost use Rattle.kdg_graph.specs.Rewrite.{with_sets};
+ghost use Rattle.kdg_graph.specs.Rewrite.{with_sets, without};
 
 use crate::NodeId;
 use crate::entry::Entry;
@@ -16,6 +22,7 @@ use rw_sets::RwSet;
 use slab::Slab;
 use std::alloc::Global;
 use std::marker::Model;
+use std::mem;
 use task_order::{Key, Task, put_in_laws};
 
 /// Nodes under their ids, and their ids in key order.
@@ -81,6 +88,93 @@ impl OrderedNodes {
         ensures graph { IsGraph self.now.nodes }
     {
         self.order.rank(&self.slots, key)
+    }
+
+    /// How many of some of the nodes, by their ids in key order, are earlier than the key.
+    pub(crate) fn rank_among(&self, lane: &Lane, key: &Key) -> usize
+        ensures rank { (some : List Node) → IsLaneAmong self.now.nodes some lane.now.ids.items → IsRank key.now some result }
+        ensures inside { result ≤ length lane.now.ids.items }
+        ensures graph { IsGraph self.now.nodes }
+    {
+        lane.rank(&self.slots, key)
+    }
+
+    /// How many of some of the nodes, by their ids in key order, are not later than the key.
+    pub(crate) fn rank_past(&self, lane: &Lane, key: &Key) -> usize
+        ensures rank { (some : List Node) → IsLaneAmong self.now.nodes some lane.now.ids.items → IsRankPast key.now some result }
+        ensures graph { IsGraph self.now.nodes }
+        ensures inside { result ≤ length lane.now.ids.items }
+    {
+        let place = self.rank_among(lane, key);
+        if place == lane.len() {
+            return place;
+        }
+        let first = lane.at(place);
+        if self.has_key(first, key) {
+            place + 1
+        } else {
+            place
+        }
+    }
+
+    /// Whether the first of some of the nodes, by their ids in key order, is earlier than the key.
+    pub(crate) fn starts_before(&self, lane: &Lane, key: &Key) -> bool
+        ensures first { (some : List Node) → IsLaneAmong self.now.nodes some lane.now.ids.items → result ≡ is_first_before key.now some }
+        ensures graph { IsGraph self.now.nodes }
+    {
+        lane.starts_before(&self.slots, key)
+    }
+
+    /// The earlier of two nodes, or the one that there is.
+    pub(crate) fn earlier(&self, one: Option<NodeId>, other: Option<NodeId>) -> Option<NodeId>
+        requires one { IfSome one (HasNode self.now.nodes) }
+        requires other { IfSome other (HasNode self.now.nodes) }
+        ensures { (some : List Node) (p q : Node → Bool) → IsLaneAmong self.now.nodes some (ids_of some) → one ≡ least_of (filter p some) → other ≡ least_of (filter q some) → result ≡ least_of (filter (λ node. p node || q node) some) }
+    {
+        let Some(first) = one else {
+            return other;
+        };
+        let Some(second) = other else {
+            return one;
+        };
+        let _graph = self.len();
+        let held = self.entry(first);
+        let found = self.entry(second);
+        if found.task.key.compare(&held.task.key).is_lt() {
+            other
+        } else {
+            one
+        }
+    }
+
+    /// Puts a node into a list of ids in key order, which has room for it.
+    pub(crate) fn put_into(&self, lane: &mut Lane, id: NodeId)
+        requires there { HasNode self.now.nodes id }
+        requires room { deque_len lane.old.ids < deque_capacity lane.old.ids }
+        ensures ids { (some : List Node) → IsLaneAmong self.now.nodes some lane.old.ids.items → IfSome (node_at self.now.nodes id) (λ node. lane.new.ids.items ≡ ids_of (put_node node some)) }
+        ensures room { deque_capacity lane.old.ids ≤ deque_capacity lane.new.ids }
+        ensures len { deque_len lane.new.ids ≡ deque_len lane.old.ids + 1 }
+    {
+        let node = self.entry(id);
+        let place = self.rank_among(lane, &node.task.key);
+        lane.insert(place, id);
+    }
+
+    /// Takes a node out of a list of ids in key order, if it is there.
+    pub(crate) fn take_from(&self, lane: &mut Lane, id: NodeId)
+        requires { HasNode self.now.nodes id }
+        ensures ids { (some : List Node) → IsLaneAmong self.now.nodes some lane.old.ids.items → lane.new.ids.items ≡ ids_of (without id some) }
+        ensures room { deque_capacity lane.old.ids ≤ deque_capacity lane.new.ids }
+        ensures len { deque_len lane.new.ids ≤ deque_len lane.old.ids }
+    {
+        let node = self.entry(id);
+        let place = self.rank_among(lane, &node.task.key);
+        if place == lane.len() {
+            return;
+        }
+        if lane.at(place).at == id.at {
+            let _ = lane.remove(place);
+        }
     }
 
     /// The place of a node in the order.
@@ -170,9 +264,10 @@ impl OrderedNodes {
         self.slots.remove(id.at)
     }
 
-    /// Replaces the set of a node.
-    pub(crate) fn set_set(&mut self, id: NodeId, set: RwSet)
+    /// Replaces the set of a node and gives the one that it had.
+    pub(crate) fn set_set(&mut self, id: NodeId, set: RwSet) -> RwSet
         requires { HasNode self.old.nodes id }
+        ensures before { set_at self.old.nodes id ≡ Some result }
         ensures nodes { self.new.nodes ≡ with_sets (record { node = id; set = set } ∷ []) self.old.nodes }
         ensures places { self.old.places ≤ self.new.places }
         ensures numbers { self.old.numbers ≤ self.new.numbers }
@@ -180,7 +275,17 @@ impl OrderedNodes {
     {
         let _ascending = set.items();
         let named = &mut self.slots[id.at];
-        named.set = set;
+        mem::replace(&mut named.set, set)
+    }
+
+    /// Whether there is a node with the id, and it has the key.
+    fn has_key(&self, id: NodeId, key: &Key) -> bool
+        ensures { IfSome (node_at self.now.nodes id) (λ node. result ≡ is_eq (key_cmp node.task.key key.now)) }
+    {
+        match self.slots.get(id.at) {
+            Some(node) => node.task.key.compare(key).is_eq(),
+            None => false,
+        }
     }
 
     /// Marks a node as running.

@@ -1,10 +1,19 @@
-use Rattle.std.proofs.Common.{◌∙◌, ap, sym}
-use Rattle.kdg_graph.specs.Blockers.{blockers_of, sets_of}
-use Rattle.kdg_graph.proofs.Counting.{sets-started}
+use Rattle.std.proofs.Common.{◌≡◌, ◌∙◌, List, ap, length, subst, sym, arith}
+use Rattle.kdg_graph.specs.Node.{Node}
+use Rattle.kdg_graph.specs.Nodes.{started}
+use Rattle.kdg_graph.specs.Edges.{is_source, sources_of}
+use Rattle.kdg_graph.specs.Locations.{AreFiled}
+use Rattle.kdg_graph.proofs.Settling.{filed_started, length-started, sources_started}
 use Rattle.kdg_graph.proofs.node_list.NodeList.mark_running.Goals as goal
 
 pub invariant_of-self : goal.invariant_of-self
-invariant_of-self c = record {
-  graph = c.mark_running.ensures.graph;
-  counted = c.self.invariant.counted ∙ sym (ap blockers_of (ap sets_of c.mark_running.ensures.nodes ∙ sets-started c.args.id c.self.inside.nodes.nodes));
-}
+invariant_of-self c =
+    let nodes : List Node = c.self.inside.nodes.nodes in
+    let is : c.mark_running.new.self.nodes ≡ started c.args.id nodes = c.mark_running.ensures.nodes in
+    let long = ap length is ∙ length-started c.args.id nodes in
+    record {
+      graph = c.mark_running.ensures.graph;
+      filed = subst (λ (l : List Node). AreFiled l c.self.inside.locations.locations.items) (sym is) (filed_started c.args.id nodes c.self.inside.locations.locations.items c.self.invariant.filed);
+      sources_are = sources_started c.args.id nodes _ (c.forget.ensures.ids (is_source nodes) c.self.invariant.sources_are) ∙ ap sources_of (sym is);
+      room = omega (arith, long, c.self.invariant.room, c.forget.ensures.room);
+    }

@@ -1,19 +1,45 @@
-use Rattle.std.proofs.Common.{◌∙◌, ap, Some, sym}
+use Rattle.std.proofs.Common.{◌≡◌, ◌∙◌, List, Some, ap, length, subst, sym, arith}
 use Rattle.std.specs.Option.{option_map}
+use Rattle.std.proofs.lemmas.List.Edits.{length-remove}
 use Rattle.kdg_graph.specs.Node.{Node}
-use Rattle.kdg_graph.specs.Nodes.{task_at}
 use Rattle.kdg_graph.specs.NodeStock.{NodeStock}
+use Rattle.kdg_graph.specs.Nodes.{node_at, task_at}
+use Rattle.kdg_graph.specs.Edges.{is_source}
+use Rattle.kdg_graph.specs.Locations.{AreFiled}
 use Rattle.kdg_graph.specs.Rewrite.{without}
-use Rattle.kdg_graph.specs.Blockers.{blockers_of, sets_of}
-use Rattle.kdg_graph.proofs.Counting.{sets-remove}
+use Rattle.kdg_graph.specs.Selected.{AreSelected}
 use Rattle.kdg_graph.proofs.Places.{node_at-place, without-place}
+use Rattle.kdg_graph.proofs.Settling.{settled_without}
 use Rattle.kdg_graph.proofs.node_list.NodeList.remove.Goals as goal
 
+pub refresh_fronts-requires-clause-filed : goal.refresh_fronts-requires-clause-filed
+refresh_fronts-requires-clause-filed c =
+    let nodes : List Node = c.self.inside.nodes.nodes in
+    let now = c.remove-node.ensures.nodes ∙ without-place c.args.id nodes c.place_of-place.result c.self.invariant.graph.own_ids c.place_of-place.ensures.place in
+    subst (λ (l : List Node). AreFiled l c.leave.new.self.locations.items) (sym now) c.leave.ensures.filed
+
+pub refresh_fronts-requires-clause-part : goal.refresh_fronts-requires-clause-part
+refresh_fronts-requires-clause-part c =
+    let nodes : List Node = c.self.inside.nodes.nodes in
+    let now = c.remove-node.ensures.nodes ∙ without-place c.args.id nodes c.place_of-place.result c.self.invariant.graph.own_ids c.place_of-place.ensures.place in
+    record { test = is_source nodes; selected = subst (λ (l : List Node). AreSelected l (is_source nodes) c.forget.new.self.lane.ids.items) (sym now) (c.forget.ensures.ids (is_source nodes) c.self.invariant.sources_are) }
+
 pub invariant_of-self : goal.invariant_of-self
-invariant_of-self c = record {
-  graph = c.remove-node.ensures.graph;
-  counted = c.leave.ensures.counts ∙ ap blockers_of (sym (ap sets_of c.remove-node.ensures.nodes ∙ sets-remove c.self.inside.nodes.nodes c.place_of-place.result));
-}
+invariant_of-self c =
+    let nodes : List Node = c.self.inside.nodes.nodes in
+    let node : Node = record { id = c.node.inside.id; task = c.node.inside.task; set = c.node.inside.set; running = c.node.inside.running } in
+    let is : node_at nodes c.args.id ≡ Some node =
+    node_at-place c.args.id nodes c.place_of-place.result c.remove-node.result c.place_of-place.ensures.place ∙ ap (λ (n : Node). Some n) (sym c.remove-node.ensures.node ∙ sym c.node.view_is) in
+    let now = c.remove-node.ensures.nodes ∙ without-place c.args.id nodes c.place_of-place.result c.self.invariant.graph.own_ids c.place_of-place.ensures.place in
+    let others = subst (λ (l : List Node). AreSelected l (is_source nodes) c.forget.new.self.lane.ids.items) (sym now) (c.forget.ensures.ids (is_source nodes) c.self.invariant.sources_are) in
+    let fewer = ap length c.remove-node.ensures.nodes in
+    let one = length-remove nodes c.place_of-place.result c.place_of-place.ensures.inside in
+    record {
+      graph = c.remove-node.ensures.graph;
+      filed = subst (λ (l : List Node). AreFiled l c.leave.new.self.locations.items) (sym now) c.leave.ensures.filed;
+      sources_are = settled_without c.args.id node nodes c.remove-node.new.self.nodes c.refresh_fronts.new.self.lane.ids.items c.self.invariant.graph is now (c.refresh_fronts.ensures.ids (is_source nodes) others);
+      room = omega (arith, fewer, one, c.self.invariant.room, c.forget.ensures.room, c.refresh_fronts.ensures.room);
+    }
 
 pub returns-clause-task : goal.returns-clause-task
 returns-clause-task c =
@@ -25,3 +51,11 @@ pub returns-clause-nodes : goal.returns-clause-nodes
 returns-clause-nodes c =
     c.remove-node.ensures.nodes ∙ without-place c.args.id c.self.inside.nodes.nodes c.place_of-place.result c.self.invariant.graph.own_ids c.place_of-place.ensures.place
     ∙ ap (λ (stock : NodeStock). without c.args.id stock.nodes) c.self.view_is
+
+pub returns-clause-marks : goal.returns-clause-marks
+returns-clause-marks c =
+    let nodes : List Node = c.self.inside.nodes.nodes in
+    let fewer = ap length c.remove-node.ensures.nodes in
+    let one = length-remove nodes c.place_of-place.result c.place_of-place.ensures.inside in
+    let was = ap (λ (stock : NodeStock). stock.marks) c.self.view_is in
+    omega (arith, fewer, one, was, c.self.invariant.room, c.forget.ensures.room, c.refresh_fronts.ensures.room)

@@ -6,6 +6,8 @@ use Rattle.kdg_graph.specs.Node.{Node}
 use Rattle.kdg_graph.specs.Nodes.{HasNode}
 use Rattle.kdg_graph.specs.Rewrite.{AreOfOwnNodes, with_sets}
 use Rattle.kdg_graph.proofs.Rewriting.{all_have_with_sets, nothing_left, with_no_sets, with_sets-cons}
+use Rattle.kdg_graph.specs.Locations.{HasRoom}
+use Rattle.kdg_graph.proofs.Rooms.{all_left, first_room}
 use Rattle.kdg_graph.proofs.node_list.NodeList.set_sets.Goals as goal
 
 pub loop-change-preserved : goal.loop-change-preserved
@@ -16,6 +18,7 @@ loop-change-preserved c =
     let steps : into_iter_items at.change-iterator ≡ change ∷ rest = c.in-Some.ensures.steps.0 in
     let there : AllByRecursion (λ (other : SetChange). HasNode at.self.nodes other.node) (change ∷ rest) = subst (AllByRecursion (λ (other : SetChange). HasNode at.self.nodes other.node)) steps at.invariant.there in
     let own : AreOfOwnNodes (change ∷ rest) = subst AreOfOwnNodes steps at.invariant.own in
+    let room : AllByRecursion (λ (x : SetChange). HasRoom (length (change ∷ rest)) x.set at.self.rooms) (change ∷ rest) = subst (λ (l : List SetChange). AllByRecursion (λ (x : SetChange). HasRoom (length l) x.set at.self.rooms) l) steps at.invariant.rooms in
     let was = at.invariant.len in
     let gone = c.in-Some.ensures.steps.1 in
     let short = ap length steps in
@@ -27,7 +30,9 @@ loop-change-preserved c =
       places = omega arith;
       graph = c.set_set.ensures.graph;
       numbers = omega arith;
-      counters = omega arith;
+      marks = omega arith;
+      rooms = all_left (λ (x : SetChange). x.set) (length (change ∷ rest)) rest at.self.rooms c.set_set.new.self.rooms c.set_set.ensures.rooms (omega arith) room.1;
+      taken = λ loc. omega (arith, at.invariant.taken loc, c.set_set.ensures.rooms loc, short);
     }
 
 pub returns-clause-nodes : goal.returns-clause-nodes
@@ -36,3 +41,16 @@ returns-clause-nodes c =
     let none = c.in-None.ensures.steps in
     let empty : into_iter_items at.change-iterator ≡ [] = nothing_left _ (sym at.invariant.len ∙ none.0) in
     sym (ap (λ l. with_sets l c.args.self.now.nodes) (sym c.into_iter-change-iterator.ensures.into_iter_gives.0) ∙ at.invariant.nodes ∙ ap (λ l. with_sets l at.self.nodes) empty ∙ with_no_sets at.self.nodes)
+
+pub set_set-requires-clause-rooms : goal.set_set-requires-clause-rooms
+set_set-requires-clause-rooms c =
+    let at = c.loop-change in
+    let change : SetChange = c.in-Some.change in
+    let rest : List SetChange = into_iter_items c.next.new.self in
+    let room : AllByRecursion (λ (x : SetChange). HasRoom (length (change ∷ rest)) x.set at.self.rooms) (change ∷ rest) = subst (λ (l : List SetChange). AllByRecursion (λ (x : SetChange). HasRoom (length l) x.set at.self.rooms) l) c.in-Some.ensures.steps.0 at.invariant.rooms in
+    first_room (length rest) change.set at.self.rooms room.0
+
+pub returns-clause-rooms : goal.returns-clause-rooms
+returns-clause-rooms c loc =
+    let whole = ap length c.into_iter-change-iterator.ensures.into_iter_gives.0 in
+    omega (arith, c.loop-change.invariant.taken loc, whole)

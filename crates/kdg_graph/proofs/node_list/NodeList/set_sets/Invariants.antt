@@ -1,6 +1,7 @@
-use Rattle.std.proofs.Common.{◌≡◌, ◌≤◌, length}
+use Rattle.std.proofs.Common.{◌≡◌, ◌≤◌, ◌+◌, ℕ, length}
 use Rattle.std.specs.List.{AllByRecursion}
 use Rattle.std.specs.Vec.Iter.{into_iter_items, into_iter_len}
+use Rattle.kdg_graph.specs.Locations.{HasRoom, room_at}
 use Rattle.kdg_graph.specs.Nodes.{HasNode, IsGraph}
 use Rattle.kdg_graph.specs.Rewrite.{AreOfOwnNodes, with_sets}
 use Rattle.kdg_graph.proofs.node_list.NodeList.set_sets.Given as goal
@@ -15,5 +16,7 @@ invariant-loop-change l = record {
   places : l.initial.self.places ≤ l.self.places;
   graph : IsGraph l.self.nodes;
   numbers : l.initial.self.numbers ≤ l.self.numbers;
-  counters : l.initial.self.counters ≤ l.self.counters;
+  rooms : AllByRecursion (λ change. HasRoom (length (into_iter_items l.change-iterator)) change.set l.self.rooms) (into_iter_items l.change-iterator);
+  taken : (loc : ℕ) → room_at l.initial.self.rooms loc + length (into_iter_items l.change-iterator) ≤ room_at l.self.rooms loc + length (into_iter_items l.initial.change-iterator);
+  marks : l.initial.self.marks ≤ l.self.marks;
 }

@@ -1,0 +1,171 @@
+-- Which nodes are blocked otherwise when a node comes or goes: only those of the fronts behind it.
+use Rattle.std.proofs.Common.{◌≡◌, ◌⊎◌, inl, inr, ℕ, ◌||◌, ◌&&◌, Bool, true, false, not, cond, List, [], ◌∷◌, ◌++◌, Option, Some, None, refl, sym, ◌∙◌, ap, subst, eqb-true, ◌==◌}
+use Rattle.std.specs.Prelude.{Contains}
+use Rattle.std.specs.List.{AllByRecursion, filter, list_any}
+use Rattle.std.specs.Option.{is_some}
+use Rattle.std.specs.Ordering.{is_lt}
+use Rattle.std.specs.declared.cmp.Ordering.TheVariants.{Less}
+use Rattle.std.proofs.lemmas.Bool.{true≢false}
+use Rattle.task_order.specs.declared.key.Key.{Key}
+use Rattle.task_order.specs.declared.task.Task.{Task}
+use Rattle.task_order.specs.Key.{key_cmp}
+use Rattle.task_order.specs.TaskList.{IsAscending}
+use Rattle.rw_sets.specs.declared.access.Access.{Access}
+use Rattle.rw_sets.specs.declared.access.Access.TheVariants.{Read, Write}
+use Rattle.rw_sets.specs.Accesses.{Accesses, access_at, allows_write, clash, conflicts_with, writes}
+use Rattle.kdg_graph.specs.declared.node_id.NodeId.{NodeId}
+use Rattle.kdg_graph.specs.Node.{Node}
+use Rattle.kdg_graph.specs.Nodes.{earlier_than, ids_of, is_at, later_than, put_node, tasks_of}
+use Rattle.kdg_graph.specs.Edges.{is_blocked, is_source}
+use Rattle.kdg_graph.specs.Locations.{clashes_at, clashing_at, front_after, up_to_writer}
+use Rattle.kdg_graph.specs.Fronts.{fronts_after}
+use Rattle.kdg_graph.specs.Selected.{is_among}
+use Rattle.kdg_graph.proofs.Blocking.{any_from, has_access, pair_of, some_passes}
+use Rattle.kdg_graph.proofs.Filtered.{ascending_filtered}
+use Rattle.kdg_graph.proofs.Members.{all_at, all_from, cases, from_filter, here, in_filter, in_map, none, none_passes, there}
+use Rattle.kdg_graph.proofs.Ordering.{is_before}
+use Rattle.kdg_graph.proofs.Places.{is_at-same}
+
+-- ---- one node more among the earlier ones
+
+or_later : (first more rest : Bool) → (first || (more || rest)) ≡ (more || (first || rest))
+or_later true true rest = refl
+or_later true false rest = refl
+or_later false more rest = refl
+
+-- a test of some of the nodes, where there is one more
+any_put : (some test : Node → Bool) (new : Node) (nodes : List Node) → list_any test (filter some (put_node new nodes)) ≡ ((some new && test new) || list_any test (filter some nodes))
+any_put some test new [] = elim (some new) as (λ b. list_any test (cond b (new ∷ []) []) ≡ ((b && test new) || false)) [ true ↦ refl | false ↦ refl ]
+any_put some test new (node ∷ nodes) =
+    let rest : List Node = filter some nodes in
+    elim (is_before new.task.key node) as (λ b. list_any test (filter some (cond b (node ∷ put_node new nodes) (new ∷ node ∷ nodes))) ≡ ((some new && test new) || list_any test (filter some (node ∷ nodes)))) [
+      | true ↦
+          elim (some node) as (λ b. list_any test (cond b (node ∷ filter some (put_node new nodes)) (filter some (put_node new nodes))) ≡ ((some new && test new) || list_any test (cond b (node ∷ rest) rest))) [
+            | true ↦ ap (λ b. test node || b) (any_put some test new nodes) ∙ or_later (test node) (some new && test new) (list_any test rest)
+            | false ↦ any_put some test new nodes
+          ]
+      | false ↦ elim (some new) as (λ b. list_any test (cond b (new ∷ filter some (node ∷ nodes)) (filter some (node ∷ nodes))) ≡ ((b && test new) || list_any test (filter some (node ∷ nodes)))) [ true ↦ refl | false ↦ refl ]
+    ]
+
+-- a node is blocked by one more exactly where that is earlier and in conflict with it
+pub blocked_put : (new : Node) (nodes : List Node) (node : Node) → is_blocked (put_node new nodes) node ≡ ((is_before node.task.key new && conflicts_with new.set node.set) || is_blocked nodes node)
+blocked_put new nodes node = any_put (is_before node.task.key) (λ other. conflicts_with other.set node.set) new nodes
+
+-- ---- conflicts and locations
+
+clash_named : (a b : Option Access) → clash a b ≡ true → is_some b ≡ true
+clash_named None b is = absurd (true≢false (sym is))
+clash_named (Some x) None is = absurd (true≢false (sym is))
+clash_named (Some x) (Some y) is = refl
+
+writer_clashes : (a b : Option Access) → allows_write a ≡ true → is_some b ≡ true → clash a b ≡ true
+writer_clashes None b is named = absurd (true≢false (sym is))
+writer_clashes (Some Read) b is named = absurd (true≢false (sym is))
+writer_clashes (Some Write) None is named = absurd (true≢false (sym named))
+writer_clashes (Some Write) (Some y) is named = refl
+
+-- a test of a location that a set names
+named_passes : (test : ℕ → Bool) (loc : ℕ) (set : Accesses) → allows_write (access_at set loc) ≡ true → test loc ≡ true → list_any (λ (p : ℕ × Access). test p.0) set ≡ true
+named_passes test loc [] is passes = absurd (true≢false (sym is))
+named_passes test loc (p ∷ set) is passes =
+    let by_case : (same : Bool) → (p.0 == loc) ≡ same → allows_write (cond same (Some p.1) (access_at set loc)) ≡ true → (test p.0 || list_any (λ (q : ℕ × Access). test q.0) set) ≡ true = elim [
+      | true ↦ λ same _. ap (λ b. b || list_any (λ (q : ℕ × Access). test q.0) set) (ap test (eqb-true p.0 loc same) ∙ passes)
+      | false ↦ λ _ later. elim (test p.0) as (λ b. (b || list_any (λ (q : ℕ × Access). test q.0) set) ≡ true) [ true ↦ refl | false ↦ named_passes test loc set later passes ]
+    ] in
+    by_case (p.0 == loc) refl is
+
+-- who writes a location is in conflict with all who name it
+pub writer_conflicts : (loc : ℕ) (writer set : Accesses) → writes writer loc ≡ true → is_some (access_at set loc) ≡ true → conflicts_with writer set ≡ true
+writer_conflicts loc writer set is named = named_passes (λ at. clash (access_at writer at) (access_at set at)) loc writer is (writer_clashes (access_at writer loc) (access_at set loc) is named)
+
+-- where two sets conflict, one of the pairs of the first clashes with the second
+abbrev ClashingPair : Accesses → Accesses → Type 0
+ClashingPair a b = (p : ℕ × Access) × Contains a p × (clash (Some p.1) (access_at b p.0) ≡ true)
+
+clashing_pair : (a b : Accesses) → conflicts_with a b ≡ true → ClashingPair a b
+clashing_pair a b is =
+    let met = some_passes (λ (p : ℕ × Access). clash (access_at a p.0) (access_at b p.0)) a is in
+    let loc : ℕ = met.0.0 in
+    let has = has_access (access_at a loc) (access_at b loc) met.2 in
+    ((loc, has.0), pair_of a loc has.0 has.1, ap (λ found. clash found (access_at b loc)) (sym has.1) ∙ met.2)
+
+-- ---- the front
+
+pub all_tasks : (P : Task → Type 0) (nodes : List Node) (node : Node) → AllByRecursion P (tasks_of nodes) → Contains nodes node → P node.task
+all_tasks P nodes node all has = all_at P (tasks_of nodes) node.task all (in_map (λ (n : Node). n.task) nodes node has)
+
+-- a writer that is earlier than the node
+abbrev EarlierWriter : ℕ → List Node → Node → Type 0
+EarlierWriter loc nodes node = (writer : Node) × Contains nodes writer × (writes writer.set loc ≡ true) × (key_cmp writer.task.key node.task.key ≡ Less)
+
+-- who isn't in the front has a writer before it
+front_or_writer : (loc : ℕ) (nodes : List Node) (node : Node) → IsAscending (tasks_of nodes) → Contains nodes node → Contains (up_to_writer loc nodes) node ⊎ EarlierWriter loc nodes node
+front_or_writer loc [] node up has = absurd (none node has)
+front_or_writer loc (first ∷ nodes) node up has =
+    let front : List Node = up_to_writer loc nodes in
+    let by_case : (test : Bool) → writes first.set loc ≡ test → (first ≡ node) ⊎ Contains nodes node → Contains (first ∷ cond test [] front) node ⊎ EarlierWriter loc (first ∷ nodes) node = elim [
+      | true ↦ λ is c. elim c [
+        | inl same ↦ inl (subst (λ (n : Node). Contains (first ∷ []) n) same (here first []))
+        | inr later ↦ inr (first, here first nodes, is, all_tasks (λ task. key_cmp first.task.key task.key ≡ Less) nodes node up.0 later)
+      ]
+      | false ↦ λ _ c. elim c [
+        | inl same ↦ inl (subst (λ (n : Node). Contains (first ∷ front) n) same (here first front))
+        | inr later ↦ elim (front_or_writer loc nodes node up.1 later) [
+          | inl among ↦ inl (there first node front among)
+          | inr behind ↦ inr (behind.0, there first behind.0 nodes behind.1, behind.2, behind.3)
+        ]
+      ]
+    ] in
+    by_case (writes first.set loc) refl (cases first node nodes has)
+
+in_left : {X : Type 0} (xs ys : List X) (x : X) → Contains xs x → Contains (xs ++ ys) x
+in_left [] ys x has = absurd (none x has)
+in_left {X} (y ∷ xs) ys x has = elim (cases y x xs has) [ inl same ↦ subst (λ (z : X). Contains (y ∷ xs ++ ys) z) same (here y (xs ++ ys)) | inr later ↦ there y x (xs ++ ys) (in_left xs ys x later) ]
+
+in_right : {X : Type 0} (xs ys : List X) (x : X) → Contains ys x → Contains (xs ++ ys) x
+in_right [] ys x has = has
+in_right (y ∷ xs) ys x has = there y x (xs ++ ys) (in_right xs ys x has)
+
+in_fronts : (set : Accesses) (p : ℕ × Access) (key : Key) (nodes : List Node) (node : Node) → Contains set p → Contains (front_after p.0 p.1 key nodes) node → Contains (fronts_after set key nodes) node
+in_fronts [] p key nodes node has among = absurd (none p has)
+in_fronts (q ∷ set) p key nodes node has among = elim (cases q p set has) [
+  | inl same ↦ in_left (front_after q.0 q.1 key nodes) (fronts_after set key nodes) node (subst (λ (r : ℕ × Access). Contains (front_after r.0 r.1 key nodes) node) (sym same) among)
+  | inr later ↦ in_right (front_after q.0 q.1 key nodes) (fronts_after set key nodes) node (in_fronts set p key nodes node later among)
+]
+
+among_ids : (nodes : List Node) (node : Node) → Contains nodes node → is_among (ids_of nodes) node ≡ true
+among_ids nodes node has = any_from (λ id. is_at id node) (ids_of nodes) node.id (in_map (λ (n : Node). n.id) nodes node has) (is_at-same node.id node refl)
+
+-- a later node in conflict is in the fronts, or else blocked by others
+conflict_in_front : (new : Node) (nodes : List Node) (node : Node) → IsAscending (tasks_of nodes) → Contains nodes node → is_among (ids_of (fronts_after new.set new.task.key nodes)) node ≡ false
+    → is_before node.task.key new ≡ true → conflicts_with new.set node.set ≡ true → is_blocked nodes node ≡ true
+conflict_in_front new nodes node up has outside later conflict =
+    let key : Key = new.task.key in
+    let met : ClashingPair new.set node.set = clashing_pair new.set node.set conflict in
+    let loc : ℕ = met.0.0 in
+    let access : Access = met.0.1 in
+    let is_later : Node → Bool = λ other. is_lt (key_cmp key other.task.key) in
+    let behind : List Node = later_than key nodes in
+    let clashing : List Node = clashing_at loc access behind in
+    let among : Contains clashing node = in_filter (clashes_at loc access) behind node (in_filter is_later nodes node has later) met.2 in
+    let ascends : IsAscending (tasks_of clashing) = ascending_filtered (clashes_at loc access) behind (ascending_filtered is_later nodes up) in
+    elim (front_or_writer loc clashing node ascends among) [
+      | inl front ↦ absurd (true≢false (sym (among_ids (fronts_after new.set key nodes) node (in_fronts new.set met.0 key nodes node met.1 front)) ∙ outside))
+      | inr writer ↦
+          let there_behind : Contains behind writer.0 = (from_filter (clashes_at loc access) behind writer.0 writer.1).0 in
+          let in_nodes : Contains nodes writer.0 = (from_filter is_later nodes writer.0 there_behind).0 in
+          let conflicts : conflicts_with writer.0.set node.set ≡ true = writer_conflicts loc writer.0.set node.set writer.2 (clash_named (Some access) (access_at node.set loc) met.2) in
+          any_from (λ (other : Node). conflicts_with other.set node.set) (earlier_than node.task.key nodes) writer.0 (in_filter (is_before node.task.key) nodes writer.0 in_nodes (ap is_lt writer.3)) conflicts
+    ]
+
+-- only the fronts behind a node see whether it is there
+pub blocked_outside : (new : Node) (nodes : List Node) (node : Node) → IsAscending (tasks_of nodes) → Contains nodes node → is_among (ids_of (fronts_after new.set new.task.key nodes)) node ≡ false → is_blocked (put_node new nodes) node ≡ is_blocked nodes node
+blocked_outside new nodes node up has outside =
+    let by_case : (later conflict : Bool) → is_before node.task.key new ≡ later → conflicts_with new.set node.set ≡ conflict → ((later && conflict) || is_blocked nodes node) ≡ is_blocked nodes node = elim [
+      | true ↦ elim [ true ↦ λ later conflict. sym (conflict_in_front new nodes node up has outside later conflict) | false ↦ λ _ _. refl ]
+      | false ↦ λ _ _ _. refl
+    ] in
+    blocked_put new nodes node ∙ by_case _ _ refl refl
+
+pub source_outside : (new : Node) (nodes : List Node) (node : Node) → IsAscending (tasks_of nodes) → Contains nodes node → is_among (ids_of (fronts_after new.set new.task.key nodes)) node ≡ false → is_source (put_node new nodes) node ≡ is_source nodes node
+source_outside new nodes node up has outside = ap (λ b. not node.running && not b) (blocked_outside new nodes node up has outside)

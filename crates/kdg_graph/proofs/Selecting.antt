@@ -1,0 +1,238 @@
+-- Ids of the nodes that pass a test, where one comes in or goes out.
+use Rattle.std.proofs.Common.{◌≡◌, ◌≢◌, ◌⊎◌, inl, inr, ℕ, zero, suc, ◌+◌, ◌-◌, ◌<◌, ◌≤◌, ◌||◌, ◌&&◌, ◌==◌, Bool, true, false, not, cond, List, [], ◌∷◌, ◌++◌, length, take, drop, get_or, append-nil, length-drop, Option, Some, None, refl, sym, ◌∙◌, ap, subst, arith, eqb-true, eq-eqb}
+use Rattle.std.specs.Prelude.{Contains, IfSome, IsSome}
+use Rattle.std.specs.List.{AllByRecursion, filter, flat_map}
+use Rattle.std.specs.Ordering.{is_lt}
+use Rattle.std.specs.declared.cmp.Ordering.TheVariants.{Less}
+use Rattle.std.proofs.lemmas.Bool.{true≢false}
+use Rattle.std.proofs.lemmas.List.{get_or-drop, map-append, take_more}
+use Rattle.std.proofs.lemmas.Grind.{flat_map-append}
+use Rattle.std.proofs.lemmas.List.Sums.{count_by-le-length, length-filter}
+use Rattle.task_order.specs.declared.key.Key.{Key}
+use Rattle.task_order.specs.Key.{key_cmp}
+use Rattle.task_order.specs.TaskList.{IsAscending}
+use Rattle.kdg_graph.specs.declared.node_id.NodeId.{NodeId}
+use Rattle.kdg_graph.specs.Node.{Node}
+use Rattle.kdg_graph.specs.Nodes.{HasNode, HaveOwnIds, IsGraph, ids_of, is_at, node_at, put_node, tasks_of}
+use Rattle.kdg_graph.specs.Edges.{is_source}
+use Rattle.kdg_graph.specs.Rewrite.{without}
+use Rattle.kdg_graph.specs.Lanes.{IsRank}
+use Rattle.rw_sets.specs.declared.access.Access.{Access}
+use Rattle.rw_sets.specs.Accesses.{Accesses}
+use Rattle.kdg_graph.specs.Locations.{IsLaneAmong, front_after}
+use Rattle.kdg_graph.specs.Fronts.{fronts_after}
+use Rattle.kdg_graph.specs.Selected.{ArePartOf, AreSelected, is_among, refreshed}
+use Rattle.kdg_graph.proofs.Members.{all_at, all_from, cases, from_filter, from_map, here, none, there}
+use Rattle.kdg_graph.proofs.Ordering.{insert_at_point, is_before, not_itself, turned}
+use Rattle.kdg_graph.proofs.Lanes.{length-ids}
+use Rattle.kdg_graph.proofs.Places.{is_at-same, not_at, same_id}
+use Rattle.kdg_graph.proofs.LookUps.{ids_find_nodes}
+use Rattle.kdg_graph.proofs.Neighbours.{found_some, same_found}
+use Rattle.kdg_graph.proofs.Filtered.{ascending_filtered, filter_twice, filters_commute, put_first, same_filter}
+use Rattle.kdg_graph.proofs.Fronts.{all_tasks}
+
+-- ---- one node more
+
+-- a node of the list comes in where the test comes to select it
+pub put_among : (test more : Node → Bool) (new : Node) (nodes : List Node) → IsAscending (tasks_of nodes) → HaveOwnIds nodes → Contains nodes new → test new ≡ false → more new ≡ true → ((node : Node) → is_at new.id node ≡ false → more node ≡ test node)
+    → put_node new (filter test nodes) ≡ filter more nodes
+put_among test more new [] up own has is_out is_in same = absurd (none new has)
+put_among test more new (node ∷ nodes) up own has is_out is_in same = elim (cases node new nodes has) [
+  | inl is ↦ put_here test more new node nodes up own is_out is_in same is
+  | inr later ↦
+      let earlier : is_before new.task.key node ≡ true = ap is_lt (all_tasks (λ task. key_cmp node.task.key task.key ≡ Less) nodes new up.0 later) in
+      let differs : is_at new.id node ≡ false = not_at new.id node (λ is. all_at (λ (n : Node). n.id ≢ node.id) nodes new own.0 later (sym is)) in
+      let rest : put_node new (filter test nodes) ≡ filter more nodes = put_among test more new nodes up.1 own.1 later is_out is_in same in
+      by_test test more new node nodes (test node) (same node differs) earlier rest
+]
+  where
+    put_here : (test more : Node → Bool) (new node : Node) (nodes : List Node) → IsAscending (tasks_of (node ∷ nodes)) → HaveOwnIds (node ∷ nodes) → test new ≡ false → more new ≡ true → ((other : Node) → is_at new.id other ≡ false → more other ≡ test other) → node ≡ new
+        → put_node new (filter test (node ∷ nodes)) ≡ filter more (node ∷ nodes)
+    put_here test more new node nodes up own is_out is_in same is =
+        let later : AllByRecursion (λ (other : Node). is_before new.task.key other ≡ false) (filter test nodes) =
+        all_from (λ (other : Node). is_before new.task.key other ≡ false) (filter test nodes) (λ other has.
+          ap (λ (n : Node). is_before n.task.key other) (sym is) ∙ turned node.task.key other.task.key (all_tasks (λ task. key_cmp node.task.key task.key ≡ Less) nodes other up.0 (from_filter test nodes other has).0)) in
+        let rest : filter test nodes ≡ filter more nodes = same_filter test more nodes (λ other has.
+        sym (same other (not_at new.id other (λ equal. all_at (λ (n : Node). n.id ≢ node.id) nodes other own.0 has (equal ∙ ap (λ (n : Node). n.id) (sym is)))))) in
+        ap (λ b. put_node new (cond b (node ∷ filter test nodes) (filter test nodes))) (ap test is ∙ is_out)
+        ∙ put_first new (filter test nodes) later
+        ∙ (λ i. sym is i ∷ rest i)
+        ∙ sym (ap (λ b. cond b (node ∷ filter more nodes) (filter more nodes)) (ap more is ∙ is_in))
+
+    by_test : (test more : Node → Bool) (new node : Node) (nodes : List Node) (here_is : Bool) → more node ≡ here_is → is_before new.task.key node ≡ true → put_node new (filter test nodes) ≡ filter more nodes
+        → put_node new (cond here_is (node ∷ filter test nodes) (filter test nodes)) ≡ cond (more node) (node ∷ filter more nodes) (filter more nodes)
+    by_test test more new node nodes true is earlier rest =
+        ap (λ b. cond b (node ∷ put_node new (filter test nodes)) (new ∷ node ∷ filter test nodes)) earlier ∙ ap (λ l. node ∷ l) rest ∙ sym (ap (λ b. cond b (node ∷ filter more nodes) (filter more nodes)) is)
+    by_test test more new node nodes false is earlier rest = rest ∙ sym (ap (λ b. cond b (node ∷ filter more nodes) (filter more nodes)) is)
+
+-- ---- the place of an id
+
+pub some_of_lane : (nodes : List Node) (test : Node → Bool) (ids : List NodeId) → IsAscending (tasks_of nodes) → AreSelected nodes test ids → IsLaneAmong nodes (filter test nodes) ids
+some_of_lane nodes test ids up is = record {
+  ids_are = is;
+  there = all_from (λ node. Contains nodes node) (filter test nodes) (λ node has. (from_filter test nodes node has).0);
+  ascending = ascending_filtered test nodes up;
+}
+
+-- ---- refreshing
+
+-- the test that answers anew for one node selects as any that answers so
+pub refreshed_as : (nodes : List Node) (id : NodeId) (node : Node) (test other : Node → Bool) (source : Bool) → IsGraph nodes → node_at nodes id ≡ Some node → is_source nodes node ≡ source → other node ≡ source → ((n : Node) → is_at id n ≡ false → other n ≡ test n)
+    → filter other nodes ≡ filter (refreshed nodes (id ∷ []) test) nodes
+refreshed_as nodes id node test other source graph is source_is answers same =
+    let by_case : (n : Node) → Contains nodes n → (at : Bool) → is_at id n ≡ at → other n ≡ cond (at || false) (is_source nodes n) (test n) = λ n has. elim [
+      | true ↦ λ at.
+          let node_is : n ≡ node = same_found nodes id node n graph has (same_id id n at) is in
+          ap other node_is ∙ answers ∙ sym source_is ∙ ap (is_source nodes) (sym node_is)
+      | false ↦ λ apart. same n apart
+    ] in
+    same_filter other (refreshed nodes (id ∷ []) test) nodes (λ n has. by_case n has (is_at id n) refl)
+
+pub at_some : (P : Node → Type 0) (found : Option Node) (node : Node) → found ≡ Some node → IfSome found P → P node
+at_some P found node is holds = subst (λ (o : Option Node). IfSome o P) is holds
+
+-- the ids without one of them
+pub select_without : (nodes : List Node) (test : Node → Bool) (id : NodeId) (ids : List NodeId) → ids ≡ ids_of (without id (filter test nodes)) → AreSelected nodes (λ node. test node && not (is_at id node)) ids
+select_without nodes test id ids is = is ∙ ap ids_of (filter_twice (λ node. not (is_at id node)) test nodes)
+
+and_false : (test : Bool) → (test && false) ≡ false
+and_false true = refl
+and_false false = refl
+
+and_true : (test : Bool) → (test && true) ≡ test
+and_true true = refl
+and_true false = refl
+
+-- the test that fails for the node with the id
+abbrev pub but : NodeId → (Node → Bool) → Node → Bool
+but id test node = test node && not (is_at id node)
+
+but_fails : (id : NodeId) (test : Node → Bool) (node : Node) → is_at id node ≡ true → but id test node ≡ false
+but_fails id test node at = ap (λ b. test node && not b) at ∙ and_false (test node)
+
+pub but_same : (id : NodeId) (test : Node → Bool) (node : Node) → is_at id node ≡ false → but id test node ≡ test node
+but_same id test node apart = ap (λ b. test node && not b) apart ∙ and_true (test node)
+
+-- a node that is refreshed and is no source
+pub refreshed_out : (nodes : List Node) (id : NodeId) (node : Node) (ids : List NodeId) (test : Node → Bool) → IsGraph nodes → node_at nodes id ≡ Some node → is_source nodes node ≡ false → ids ≡ ids_of (without id (filter test nodes))
+    → AreSelected nodes (refreshed nodes (id ∷ []) test) ids
+refreshed_out nodes id node ids test graph is source selected =
+    select_without nodes test id ids selected
+    ∙ ap ids_of (refreshed_as nodes id node test (but id test) false graph is source (but_fails id test node (is_at-same id node (ids_find_nodes nodes id node is).1)) (but_same id test))
+
+-- and one that is a source
+put_refreshed : (nodes : List Node) (id : NodeId) (node : Node) (test : Node → Bool) → IsGraph nodes → node_at nodes id ≡ Some node → is_source nodes node ≡ true → put_node node (filter (but id test) nodes) ≡ filter (refreshed nodes (id ∷ []) test) nodes
+put_refreshed nodes id node test graph is source =
+    let is_node : Contains nodes node × (node.id ≡ id) = ids_find_nodes nodes id node is in
+    let at : is_at id node ≡ true = is_at-same id node is_node.1 in
+    put_among (but id test) (refreshed nodes (id ∷ []) test) node nodes graph.ascending graph.own_ids is_node.0 (but_fails id test node at) (ap (λ b. cond (b || false) (is_source nodes node) (test node)) at ∙ source)
+    (λ other apart.
+    let differs : is_at id other ≡ false = ap (λ (i : NodeId). is_at i other) (sym is_node.1) ∙ apart in
+    ap (λ b. cond (b || false) (is_source nodes other) (test other)) differs ∙ sym (but_same id test other differs))
+
+pub refreshed_in : (nodes : List Node) (id : NodeId) (node : Node) (before ids : List NodeId) (test : Node → Bool) → IsGraph nodes → node_at nodes id ≡ Some node → is_source nodes node ≡ true → before ≡ ids_of (without id (filter test nodes))
+    → ((some : List Node) → IsLaneAmong nodes some before → IfSome (node_at nodes id) (λ (n : Node). ids ≡ ids_of (put_node n some))) → AreSelected nodes (refreshed nodes (id ∷ []) test) ids
+refreshed_in nodes id node before ids test graph is source selected puts =
+    let some : List Node = filter (but id test) nodes in
+    let among : IsLaneAmong nodes some before = some_of_lane nodes (but id test) before graph.ascending (select_without nodes test id before selected) in
+    at_some (λ (n : Node). ids ≡ ids_of (put_node n some)) (node_at nodes id) node is (puts some among) ∙ ap ids_of (put_refreshed nodes id node test graph is source)
+
+-- an id that comes in has room where each node has
+pub length-put : (node : Node) (nodes : List Node) → length (put_node node nodes) ≡ suc (length nodes)
+length-put node [] = refl
+length-put node (other ∷ nodes) = elim (is_before node.task.key other) as (λ b. length (cond b (other ∷ put_node node nodes) (node ∷ other ∷ nodes)) ≡ suc (suc (length nodes))) [ true ↦ ap suc (length-put node nodes) | false ↦ refl ]
+
+pub has_room : (nodes : List Node) (id : NodeId) (node : Node) (ids : List NodeId) (test : Node → Bool) (room : ℕ) → IsGraph nodes → node_at nodes id ≡ Some node → is_source nodes node ≡ true → ids ≡ ids_of (without id (filter test nodes)) → length nodes ≤ room → length ids < room
+has_room nodes id node ids test room graph is source selected fits =
+    let more : Node → Bool = refreshed nodes (id ∷ []) test in
+    omega (
+      arith,
+      fits,
+      ap length (select_without nodes test id ids selected),
+      length-ids (filter (but id test) nodes),
+      length-put node (filter (but id test) nodes),
+      ap length (put_refreshed nodes id node test graph is source),
+      length-filter more nodes,
+      count_by-le-length more nodes,
+    )
+
+pub found_node : (nodes : List Node) (id : NodeId) → HasNode nodes id → (node : Node) × (node_at nodes id ≡ Some node)
+found_node nodes id has = go (node_at nodes id) has
+  where
+    go : (found : Option Node) → IsSome found → (node : Node) × (found ≡ Some node)
+    go None has = cc
+    go (Some node) has = (node, refl)
+
+pub forgotten : (nodes : List Node) (id : NodeId) (test : Node → Bool) (ids : List NodeId) → ids ≡ ids_of (without id (filter test nodes)) → AreSelected (without id nodes) test ids
+forgotten nodes id test ids is = is ∙ ap ids_of (filters_commute (λ node. not (is_at id node)) test nodes)
+
+-- ---- several are refreshed
+
+pub among_append : (some more : List NodeId) (node : Node) → is_among (some ++ more) node ≡ (is_among some node || is_among more node)
+among_append [] more node = refl
+among_append (id ∷ some) more node = elim (is_at id node) as (λ b. (b || is_among (some ++ more) node) ≡ ((b || is_among some node) || is_among more node)) [ true ↦ refl | false ↦ among_append some more node ]
+
+pub refreshed_append : (nodes : List Node) (some more : List NodeId) (test : Node → Bool) (node : Node) → refreshed nodes more (refreshed nodes some test) node ≡ refreshed nodes (some ++ more) test node
+refreshed_append nodes some more test node =
+    by_tests (is_among some node) (is_among more node) ∙ sym (ap (λ b. cond b (is_source nodes node) (test node)) (among_append some more node))
+  where
+    by_tests : (first second : Bool) → cond second (is_source nodes node) (cond first (is_source nodes node) (test node)) ≡ cond (first || second) (is_source nodes node) (test node)
+    by_tests true true = refl
+    by_tests true false = refl
+    by_tests false true = refl
+    by_tests false false = refl
+
+pub select_append : (nodes : List Node) (some more : List NodeId) (test : Node → Bool) (ids : List NodeId) → AreSelected nodes (refreshed nodes more (refreshed nodes some test)) ids → AreSelected nodes (refreshed nodes (some ++ more) test) ids
+select_append nodes some more test ids is = is ∙ ap ids_of (same_filter _ _ nodes (λ node _. refreshed_append nodes some more test node))
+
+-- ---- the walks that refresh
+
+-- one place more of a front
+pub front_step : (lane : List NodeId) (start i : ℕ) (id : NodeId) → start ≤ i → i < length lane → id ≡ get_or lane i id → take (i + 1 - start) (drop start lane) ≡ take (i - start) (drop start lane) ++ id ∷ []
+front_step lane start i id ordered inside here =
+    let past : i + 1 - start ≡ i - start + 1 = omega (arith, ordered) in
+    let at : start + (i - start) ≡ i = omega (arith, ordered) in
+    let within : i - start < length (drop start lane) = omega (arith, ordered, inside, length-drop start lane) in
+    ap (λ n. take n (drop start lane)) past
+    ∙ take_more (drop start lane) (i - start) id within
+    ∙ ap (λ x. take (i - start) (drop start lane) ++ x ∷ []) (get_or-drop start lane (i - start) id ∙ ap (λ n. get_or lane n id) at ∙ sym here)
+
+pub front_done : (nodes : List Node) (lane : List NodeId) (start i : ℕ) (id : NodeId) (test : Node → Bool) (ids : List NodeId) → start ≤ i → i < length lane → id ≡ get_or lane i id → AreSelected nodes (refreshed nodes (id ∷ []) (refreshed nodes (take (i - start) (drop start lane)) test)) ids
+    → AreSelected nodes (refreshed nodes (take (i + 1 - start) (drop start lane)) test) ids
+front_done nodes lane start i id test ids ordered inside here is =
+    subst (λ (l : List NodeId). AreSelected nodes (refreshed nodes l test) ids) (sym (front_step lane start i id ordered inside here)) (select_append nodes (take (i - start) (drop start lane)) (id ∷ []) test ids is)
+
+-- the ids of a location are those of nodes
+pub lane_has : (nodes : List Node) (p : Node → Bool) (lane : List NodeId) (place : ℕ) (id : NodeId) → IsGraph nodes → lane ≡ ids_of (filter p nodes) → place < length lane → id ≡ get_or lane place id → HasNode nodes id
+lane_has nodes p lane place id graph is inside here =
+    let among : Contains (ids_of (filter p nodes)) id = subst (λ (l : List NodeId). Contains l id) is (place, inside, sym here) in
+    let found : (node : Node) × Contains (filter p nodes) node × (node.id ≡ id) = from_map (λ (n : Node). n.id) (filter p nodes) id among in
+    found_some nodes id found.0 graph (from_filter p nodes found.0 found.1).0 found.2
+
+-- one location more of a set
+fronts_step : (set : Accesses) (key : Key) (nodes : List Node) (i : ℕ) (d : ℕ × Access) → i < length set → ids_of (fronts_after (take (i + 1) set) key nodes) ≡ ids_of (fronts_after (take i set) key nodes) ++ ids_of (front_after (get_or set i d).0 (get_or set i d).1 key nodes)
+fronts_step set key nodes i d inside =
+    let front : ℕ × Access → List Node = λ (p : ℕ × Access). front_after p.0 p.1 key nodes in
+    let p : ℕ × Access = get_or set i d in
+    ap ids_of (ap (flat_map front) (take_more set i d inside) ∙ flat_map-append front (take i set) (p ∷ []) ∙ ap (λ l. flat_map front (take i set) ++ l) (append-nil (front p)))
+    ∙ map-append (λ (n : Node). n.id) (flat_map front (take i set)) (front p)
+
+pub fronts_done : (nodes : List Node) (items set : Accesses) (key : Key) (i : ℕ) (d : ℕ × Access) (test : Node → Bool) (ids : List NodeId) → items ≡ set → i < length items
+    → AreSelected nodes (refreshed nodes (ids_of (front_after (get_or items i d).0 (get_or items i d).1 key nodes)) (refreshed nodes (ids_of (fronts_after (take i set) key nodes)) test)) ids
+    → AreSelected nodes (refreshed nodes (ids_of (fronts_after (take (i + 1) set) key nodes)) test) ids
+fronts_done nodes items set key i d test ids same inside is =
+    let within : i < length set = subst (λ (s : Accesses). i < length s) same inside in
+    let before : List NodeId = ids_of (fronts_after (take i set) key nodes) in
+    let now = subst (λ (s : Accesses). AreSelected nodes (refreshed nodes (ids_of (front_after (get_or s i d).0 (get_or s i d).1 key nodes)) (refreshed nodes before test)) ids) same is in
+    subst (λ (l : List NodeId). AreSelected nodes (refreshed nodes l test) ids) (sym (fronts_step set key nodes i d within)) (select_append nodes before (ids_of (front_after (get_or set i d).0 (get_or set i d).1 key nodes)) test ids now)
+
+-- ---- the end of the walks
+
+-- once each node in doubt is refreshed, the sources are selected
+pub settled : (nodes : List Node) (done : List NodeId) (test : Node → Bool) (ids : List NodeId) → ((node : Node) → Contains nodes node → is_among done node ≡ false → test node ≡ is_source nodes node) → AreSelected nodes (refreshed nodes done test) ids → AreSelected nodes (is_source nodes) ids
+settled nodes done test ids same is =
+    let by_case : (node : Node) → Contains nodes node → (among : Bool) → is_among done node ≡ among → cond among (is_source nodes node) (test node) ≡ is_source nodes node = λ node has. elim [
+      | true ↦ λ _. refl
+      | false ↦ λ apart. same node has apart
+    ] in
+    is ∙ ap ids_of (same_filter _ _ nodes (λ node has. by_case node has (is_among done node) refl))

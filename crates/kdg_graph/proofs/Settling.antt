@@ -1,0 +1,215 @@
+-- The sources after a node came, went or changed, once the nodes in doubt are refreshed.
+use Rattle.std.proofs.Common.{◌≡◌, ◌≢◌, ℕ, suc, length, ◌||◌, ◌&&◌, Bool, true, false, not, cond, List, [], ◌∷◌, ◌++◌, map, Some, refl, sym, ◌∙◌, ap, subst}
+use Rattle.std.specs.Prelude.{Contains}
+use Rattle.std.specs.List.{AllByRecursion, filter, flat_map, list_any}
+use Rattle.std.specs.Ordering.{is_lt}
+use Rattle.task_order.specs.declared.key.Key.{Key}
+use Rattle.task_order.specs.Key.{key_cmp}
+use Rattle.task_order.specs.TaskList.{IsAscending}
+use Rattle.rw_sets.specs.Accesses.{Accesses, access_at, clash, conflicts_with}
+use Rattle.rw_sets.specs.declared.access.Access.{Access}
+use Rattle.kdg_graph.specs.declared.node_id.NodeId.{NodeId}
+use Rattle.kdg_graph.specs.declared.change.SetChange.{SetChange}
+use Rattle.kdg_graph.specs.Node.{Node}
+use Rattle.kdg_graph.specs.Nodes.{HaveOwnIds, IsGraph, earlier_than, ids_of, is_at, later_than, node_at, put_node, started, tasks_of}
+use Rattle.kdg_graph.specs.Edges.{is_blocked, is_source, sources_of}
+use Rattle.kdg_graph.specs.Fronts.{fronts_after}
+use Rattle.kdg_graph.specs.declared.location.Location.{Location}
+use Rattle.kdg_graph.specs.Locations.{AreFiled, clashes_at, clashing_at, up_to_writer}
+use Rattle.kdg_graph.specs.Rewrite.{with_sets, without}
+use Rattle.kdg_graph.specs.Selected.{AreSelected, is_among, refreshed}
+use Rattle.kdg_graph.proofs.Filtered.{ascending_filtered, filter_twice, filters_commute, put_dropped, put_without}
+use Rattle.kdg_graph.proofs.Fronts.{source_outside}
+use Rattle.kdg_graph.proofs.Keeping.{changed, start, start_keeps_id, start_keeps_task, with_set_if}
+use Rattle.kdg_graph.proofs.LookUps.{ids_find_nodes, nodes_have_ids}
+use Rattle.kdg_graph.proofs.Members.{all_from, from_filter, here, in_filter, there}
+use Rattle.kdg_graph.proofs.Ordering.{is_before, not_itself}
+use Rattle.kdg_graph.proofs.Places.{is_at-same, map_none, none_at, not_at, without_none}
+use Rattle.kdg_graph.proofs.Rewritten.{in_put_new}
+use Rattle.kdg_graph.proofs.Selecting.{among_append, but, but_same, select_append, settled}
+
+-- ---- the nodes but for one
+
+-- the ids that are selected among the others are selected among all
+pub select_but : (nodes : List Node) (test : Node → Bool) (id : NodeId) (ids : List NodeId) → AreSelected (without id nodes) test ids → AreSelected nodes (but id test) ids
+select_but nodes test id ids is = is ∙ ap ids_of (filters_commute test (λ node. not (is_at id node)) nodes ∙ filter_twice (λ node. not (is_at id node)) test nodes)
+
+-- a node that was put in is taken out again
+pub without_put : (new : Node) (nodes : List Node) → HaveOwnIds (put_node new nodes) → without new.id (put_node new nodes) ≡ nodes
+without_put new [] own = ap (λ b. cond (not b) (new ∷ []) []) (is_at-same new.id new refl)
+without_put new (node ∷ nodes) own =
+    let by_case : (past : Bool) → is_before new.task.key node ≡ past → HaveOwnIds (cond past (node ∷ put_node new nodes) (new ∷ node ∷ nodes)) → without new.id (cond past (node ∷ put_node new nodes) (new ∷ node ∷ nodes)) ≡ node ∷ nodes = elim [
+      | true ↦ λ _ owns.
+          let differs : is_at new.id node ≡ false = not_at new.id node (λ same. differs_put new node nodes owns.0 (sym same)) in
+          ap (λ b. cond (not b) (node ∷ without new.id (put_node new nodes)) (without new.id (put_node new nodes))) differs ∙ ap (λ l. node ∷ l) (without_put new nodes owns.1)
+      | false ↦ λ _ owns.
+          ap (λ b. cond (not b) (new ∷ without new.id (node ∷ nodes)) (without new.id (node ∷ nodes))) (is_at-same new.id new refl)
+          ∙ without_none new.id (node ∷ nodes) (none_at new.id new.id (node ∷ nodes) refl owns.0)
+    ] in
+    by_case (is_before new.task.key node) refl own
+  where
+    differs_put : (new node : Node) (nodes : List Node) → AllByRecursion (λ other. other.id ≢ node.id) (put_node new nodes) → new.id ≢ node.id
+    differs_put new node [] all = all.0
+    differs_put new node (other ∷ nodes) all =
+        elim (is_before new.task.key other) as (λ past. AllByRecursion (λ (n : Node). n.id ≢ node.id) (cond past (other ∷ put_node new nodes) (new ∷ other ∷ nodes)) → new.id ≢ node.id) [
+          | true ↦ λ rest. differs_put new node nodes rest.1
+          | false ↦ λ first. first.0
+        ] all
+
+-- it is found by its id
+pub found_put : (new : Node) (nodes now : List Node) → now ≡ put_node new nodes → IsGraph now → node_at now new.id ≡ Some new
+found_put new nodes now is graph = nodes_have_ids now new graph (subst (λ (l : List Node). Contains l new) (sym is) (in_put_new new nodes))
+
+pub same_found_put : (new found : Node) (nodes now : List Node) → now ≡ put_node new nodes → IsGraph now → node_at now new.id ≡ Some found → found ≡ new
+same_found_put new found nodes now is graph has = let same : Some found ≡ Some new = sym has ∙ found_put new nodes now is graph in cc
+
+-- ---- the fronts behind a node don't see it
+
+pub fronts_put : (set : Accesses) (new : Node) (nodes : List Node) → fronts_after set new.task.key (put_node new nodes) ≡ fronts_after set new.task.key nodes
+fronts_put set new nodes =
+    ap (λ behind. flat_map (λ p. up_to_writer p.0 (clashing_at p.0 p.1 behind)) set) (put_dropped (λ node. is_lt (key_cmp new.task.key node.task.key)) new nodes (not_itself new.task.key))
+
+-- ---- after a node came
+
+neither : (a b : Bool) → (a || b) ≡ false → (a ≡ false) × (b ≡ false)
+neither true b is = (is, elim b as (λ c. c ≡ false) [ true ↦ is | false ↦ refl ])
+neither false b is = (refl, is)
+
+-- where the others were tested right but for some that are refreshed as well
+pub settled_put : (new : Node) (rest now : List Node) (more : List NodeId) (test : Node → Bool) (ids : List NodeId) → IsAscending (tasks_of rest) → HaveOwnIds now → now ≡ put_node new rest → ((node : Node) → Contains rest node → is_among more node ≡ false → test node ≡ is_source rest node)
+    → AreSelected now (refreshed now (ids_of (fronts_after new.set new.task.key now)) (refreshed now more (refreshed now (new.id ∷ []) (but new.id test)))) ids → ids ≡ sources_of now
+settled_put new rest now more test ids up own is right selected =
+    let front : List NodeId = ids_of (fronts_after new.set new.task.key now) in
+    let first : Node → Bool = refreshed now (new.id ∷ []) (but new.id test) in
+    let all : AreSelected now (refreshed now (new.id ∷ more ++ front) (but new.id test)) ids = select_append now (new.id ∷ []) (more ++ front) (but new.id test) ids (select_append now more front first ids selected) in
+    let left : without new.id now ≡ rest = ap (without new.id) is ∙ without_put new rest (subst HaveOwnIds is own) in
+    settled now (new.id ∷ more ++ front) (but new.id test) ids (λ node has apart.
+      let tests = neither (is_at new.id node) (is_among (more ++ front) node) apart in
+      let fronts = neither (is_among more node) (is_among front node) (sym (among_append more front node) ∙ tests.1) in
+      let in_rest : Contains rest node = subst (λ (l : List Node). Contains l node) left (in_filter (λ n. not (is_at new.id n)) now node has (ap not tests.0)) in
+      let outside : is_among (ids_of (fronts_after new.set new.task.key rest)) node ≡ false = ap (λ l. is_among (ids_of l) node) (sym (ap (fronts_after new.set new.task.key) is ∙ fronts_put new.set new rest)) ∙ fronts.1 in
+      but_same new.id test node tests.0 ∙ right node in_rest fronts.0 ∙ sym (source_outside new rest node up in_rest outside) ∙ ap (λ l. is_source l node) (sym is)) all
+
+-- ---- after a node went
+
+-- the others are sources as before, but for the fronts
+pub source_without : (id : NodeId) (gone : Node) (nodes : List Node) (node : Node) → IsGraph nodes → node_at nodes id ≡ Some gone → Contains (without id nodes) node → is_among (ids_of (fronts_after gone.set gone.task.key (without id nodes))) node ≡ false
+    → is_source nodes node ≡ is_source (without id nodes) node
+source_without id gone nodes node graph is has outside =
+    ap (λ l. is_source l node) (sym (put_without id nodes gone graph is)) ∙ source_outside gone (without id nodes) node (ascending_filtered (λ n. not (is_at id n)) nodes graph.ascending) has outside
+
+pub settled_without : (id : NodeId) (gone : Node) (nodes now : List Node) (ids : List NodeId) → IsGraph nodes → node_at nodes id ≡ Some gone → now ≡ without id nodes → AreSelected now (refreshed now (ids_of (fronts_after gone.set gone.task.key now)) (is_source nodes)) ids → ids ≡ sources_of now
+settled_without id gone nodes now ids graph is are selected =
+    settled now (ids_of (fronts_after gone.set gone.task.key now)) (is_source nodes) ids (λ node has apart.
+      source_without id gone nodes node graph is (subst (λ (l : List Node). Contains l node) are has) (ap (λ l. is_among (ids_of (fronts_after gone.set gone.task.key l)) node) (sym are) ∙ apart) ∙ ap (λ l. is_source l node) (sym are)) selected
+
+-- ---- after a node's set changed
+
+map_put : (f : Node → Node) → ((node : Node) → (f node).task ≡ node.task) → (new : Node) (nodes : List Node) → map f (put_node new nodes) ≡ put_node (f new) (map f nodes)
+map_put f keeps new [] = refl
+map_put f keeps new (node ∷ nodes) =
+    let rest : List Node = map f nodes in
+    elim (is_before new.task.key node) as (λ b. map f (cond b (node ∷ put_node new nodes) (new ∷ node ∷ nodes)) ≡ cond b (f node ∷ put_node (f new) rest) (f new ∷ f node ∷ rest)) [
+      | true ↦ ap (λ l. f node ∷ l) (map_put f keeps new nodes)
+      | false ↦ refl
+    ]
+    ∙ (λ i. cond (is_lt (key_cmp (sym (keeps node) i).key (sym (keeps new) i).key)) (f node ∷ put_node (f new) rest) (f new ∷ f node ∷ rest))
+
+others : (id : NodeId) (nodes : List Node) → AllByRecursion (λ node. is_at id node ≡ false) (without id nodes)
+others id nodes = all_from (λ (n : Node). is_at id n ≡ false) (without id nodes) (λ node has. turned_back (is_at id node) (from_filter (λ n. not (is_at id n)) nodes node has).1)
+  where
+    turned_back : (test : Bool) → not test ≡ true → test ≡ false
+    turned_back true is = sym is
+    turned_back false is = refl
+
+-- it is as if the node had gone and come again
+pub changed_put : (id : NodeId) (gone : Node) (set : Accesses) (nodes : List Node) → IsGraph nodes → node_at nodes id ≡ Some gone → with_sets (record { node = id; set = set } ∷ []) nodes ≡ put_node (record gone { set = set }) (without id nodes)
+changed_put id gone set nodes graph is =
+    let f : Node → Node = changed (record { node = id; set = set } ∷ []) in
+    let rest : List Node = without id nodes in
+    let replaces : f gone ≡ record gone { set = set } = ap (λ test. with_set_if id set test gone) (is_at-same id gone (ids_find_nodes nodes id gone is).1) in
+    ap (map f) (sym (put_without id nodes gone graph is)) ∙ map_put f (λ node. refl) gone rest ∙ (λ i. put_node (replaces i) (map_none f id rest (λ other differs. ap (λ test. with_set_if id set test other) differs) (others id nodes) i))
+
+pub without_changed : (id : NodeId) (gone : Node) (set : Accesses) (nodes now : List Node) → IsGraph nodes → IsGraph now → node_at nodes id ≡ Some gone → now ≡ with_sets (record { node = id; set = set } ∷ []) nodes → without id now ≡ without id nodes
+without_changed id gone set nodes now graph after is are =
+    let put : now ≡ put_node (record gone { set = set }) (without id nodes) = are ∙ changed_put id gone set nodes graph is in
+    ap (λ (i : NodeId). without i now) (sym (ids_find_nodes nodes id gone is).1) ∙ ap (without gone.id) put ∙ without_put (record gone { set = set }) (without id nodes) (subst HaveOwnIds put after.own_ids)
+
+pub found_changed : (id : NodeId) (gone : Node) (set : Accesses) (nodes now : List Node) → IsGraph nodes → IsGraph now → node_at nodes id ≡ Some gone → now ≡ with_sets (record { node = id; set = set } ∷ []) nodes → node_at now id ≡ Some (record gone { set = set })
+found_changed id gone set nodes now graph after is are =
+    ap (node_at now) (sym (ids_find_nodes nodes id gone is).1) ∙ found_put (record gone { set = set }) (without id nodes) now (are ∙ changed_put id gone set nodes graph is) after
+
+pub length-changed : (changes : List SetChange) (nodes : List Node) → length (with_sets changes nodes) ≡ length nodes
+length-changed changes [] = refl
+length-changed changes (node ∷ nodes) = ap suc (length-changed changes nodes)
+
+pub settled_changed : (id : NodeId) (gone : Node) (set : Accesses) (nodes now : List Node) (ids : List NodeId) → IsGraph nodes → IsGraph now → node_at nodes id ≡ Some gone → now ≡ with_sets (record { node = id; set = set } ∷ []) nodes
+    → AreSelected now (refreshed now (ids_of (fronts_after set gone.task.key now)) (refreshed now (ids_of (fronts_after gone.set gone.task.key now)) (refreshed now (id ∷ []) (but id (is_source nodes))))) ids → ids ≡ sources_of now
+settled_changed id gone set nodes now ids graph after is are selected =
+    let rest : List Node = without id nodes in
+    let new : Node = record gone { set = set } in
+    let more : List NodeId = ids_of (fronts_after gone.set gone.task.key now) in
+    let same : gone.id ≡ id = (ids_find_nodes nodes id gone is).1 in
+    let put : now ≡ put_node new rest = are ∙ changed_put id gone set nodes graph is in
+    settled_put new rest now more (is_source nodes) ids (ascending_filtered (λ n. not (is_at id n)) nodes graph.ascending) after.own_ids put
+    (λ node has apart. source_without id gone nodes node graph is has (ap (λ l. is_among (ids_of l) node) (sym (ap (fronts_after gone.set gone.task.key) put ∙ fronts_put gone.set new rest)) ∙ apart))
+    (subst (λ (i : NodeId). AreSelected now (refreshed now (ids_of (fronts_after set gone.task.key now)) (refreshed now more (refreshed now (i ∷ []) (but i (is_source nodes))))) ids) (sym same) selected)
+
+-- ---- after a node started
+
+start_same : (id : NodeId) (node : Node) → is_at id node ≡ false → start id node ≡ node
+start_same id node apart = ap (λ b. let n : Node = cond b (record node { running = true }) node in n) apart
+
+start_runs : (id : NodeId) (node : Node) → is_at id node ≡ true → (start id node).running ≡ true
+start_runs id node at = ap (λ b. let n : Node = cond b (record node { running = true }) node in n.running) at
+
+same_set : (id : NodeId) (node : Node) → (start id node).set ≡ node.set
+same_set id node = elim (is_at id node) as (λ test. (let n : Node = cond test (record node { running = true }) node in n.set) ≡ node.set) [ true ↦ refl | false ↦ refl ]
+
+any_started : (id : NodeId) (key : Key) (set : Accesses) (nodes : List Node) → list_any (λ other. conflicts_with other.set set) (earlier_than key (started id nodes)) ≡ list_any (λ other. conflicts_with other.set set) (earlier_than key nodes)
+any_started id key set [] = refl
+any_started id key set (node ∷ nodes) =
+    let rest = any_started id key set nodes in
+    let test : Node → Bool = λ other. conflicts_with other.set set in
+    let behind : List Node = earlier_than key (started id nodes) in
+    (λ i. list_any test (cond (is_lt (key_cmp (start_keeps_task id node i).key key)) (start id node ∷ behind) behind))
+    ∙ elim (is_before key node) as (λ b. list_any test (cond b (start id node ∷ behind) behind) ≡ list_any test (cond b (node ∷ earlier_than key nodes) (earlier_than key nodes))) [
+      | true ↦ λ i. conflicts_with (same_set id node i) set || rest i
+      | false ↦ rest
+    ]
+
+-- its start makes it no source and changes no other
+pub sources_started : (id : NodeId) (nodes : List Node) (ids : List NodeId) → AreSelected (without id nodes) (is_source nodes) ids → ids ≡ sources_of (started id nodes)
+sources_started id nodes ids is = is ∙ ap ids_of (sym (each nodes))
+  where
+    each : (some : List Node) → filter (is_source (started id nodes)) (started id some) ≡ filter (is_source nodes) (without id some)
+    each [] = refl
+    each (node ∷ some) =
+        let now : List Node = started id nodes in
+        let rest : List Node = started id some in
+        let by_case : (at : Bool) → is_at id node ≡ at → filter (is_source now) (start id node ∷ rest) ≡ filter (is_source nodes) (cond (not at) (node ∷ without id some) (without id some)) = elim [
+          | true ↦ λ at. ap (λ b. cond (not b && not (is_blocked now (start id node))) (start id node ∷ filter (is_source now) rest) (filter (is_source now) rest)) (start_runs id node at) ∙ each some
+          | false ↦ λ apart.
+              let blocked : is_blocked now node ≡ is_blocked nodes node = any_started id node.task.key node.set nodes in
+              ap (λ n. filter (is_source now) (n ∷ rest)) (start_same id node apart) ∙ (λ i. cond (not node.running && not (blocked i)) (node ∷ each some i) (each some i))
+        ] in
+        by_case (is_at id node) refl
+
+-- and leaves it where it is filed
+clashing_started : (id : NodeId) (loc : ℕ) (access : Access) (nodes : List Node) → ids_of (clashing_at loc access (started id nodes)) ≡ ids_of (clashing_at loc access nodes)
+clashing_started id loc access [] = refl
+clashing_started id loc access (node ∷ nodes) =
+    let rest = clashing_started id loc access nodes in
+    let now : List Node = clashing_at loc access (started id nodes) in
+    (λ i. ids_of (cond (clash (Some access) (access_at (same_set id node i) loc)) (start id node ∷ now) now))
+    ∙ elim (clashes_at loc access node) as (λ b. ids_of (cond b (start id node ∷ now) now) ≡ ids_of (cond b (node ∷ clashing_at loc access nodes) (clashing_at loc access nodes))) [
+      | true ↦ λ i. start_keeps_id id node i ∷ rest i
+      | false ↦ rest
+    ]
+
+pub filed_started : (id : NodeId) (nodes : List Node) (locations : List Location) → AreFiled nodes locations → AreFiled (started id nodes) locations
+filed_started id nodes locations filed loc access = filed loc access ∙ sym (clashing_started id loc access nodes)
+
+pub length-started : (id : NodeId) (nodes : List Node) → length (started id nodes) ≡ length nodes
+length-started id [] = refl
+length-started id (node ∷ nodes) = ap suc (length-started id nodes)

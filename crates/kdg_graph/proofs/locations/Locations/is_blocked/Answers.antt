@@ -1,0 +1,40 @@
+use Rattle.std.proofs.Common.{◌≡◌, ℕ, ◌∙◌, List, Option, Some, true, false, ap, arith, get_or, length, subst, sym, take}
+use Rattle.std.proofs.Math.Seq.{take-length}
+use Rattle.std.proofs.lemmas.List.Elements.{Contains-get_or}
+use Rattle.std.specs.Prelude.{IfSome}
+use Rattle.std.specs.List.{list_any}
+use Rattle.rw_sets.specs.declared.access.Access.{Access}
+use Rattle.rw_sets.specs.declared.access.Access.TheVariants.{Read}
+use Rattle.rw_sets.specs.Accesses.{Accesses}
+use Rattle.kdg_graph.specs.Edges.{is_blocked}
+use Rattle.kdg_graph.specs.Locations.{is_blocked_at}
+use Rattle.kdg_graph.specs.Node.{Node}
+use Rattle.kdg_graph.specs.Nodes.{node_at}
+use Rattle.kdg_graph.proofs.Blocking.{any_from, blocked_by_first}
+use Rattle.kdg_graph.proofs.locations.Locations.is_blocked.Goals as goal
+
+pub returns-then-is_blocked_at : goal.returns-then-is_blocked_at
+returns-then-is_blocked_at c =
+    let nodes : List Node = c.args.nodes.now.nodes in
+    let node : Node = record { id = c.node.inside.id; task = c.node.inside.task; set = c.node.inside.set; running = c.node.inside.running } in
+    let found : node_at nodes c.args.id ≡ Some node = c.entry-node.ensures ∙ ap (λ (n : Node). Some n) (sym c.node.view_is) in
+    let ps : Accesses = c.items-pair-items.result.now in
+    let i : ℕ = c.loop-pair.pair-index in
+    let p : ℕ × Access = get_or ps i (0, Read) in
+    let any : list_any (is_blocked_at nodes node) ps ≡ true = any_from (is_blocked_at nodes node) ps p (Contains-get_or ps i (0, Read) c.loop-pair-test.true) (sym c.is_blocked_at.ensures ∙ c.if-is_blocked_at.true) in
+    let is : true ≡ is_blocked nodes node =
+    sym (blocked_by_first c.conflict_laws.ensures.decided c.conflict_laws.ensures.mutual nodes node c.len-graph.ensures.graph.ascending c.items-pair-items.ensures.ascending ∙ ap (list_any (is_blocked_at nodes node)) (sym c.items-pair-items.ensures.all) ∙ any) in
+    subst (λ (o : Option Node). IfSome o (λ (n : Node). true ≡ is_blocked nodes n)) (sym found) is
+
+pub returns : goal.returns
+returns c =
+    let nodes : List Node = c.args.nodes.now.nodes in
+    let node : Node = record { id = c.node.inside.id; task = c.node.inside.task; set = c.node.inside.set; running = c.node.inside.running } in
+    let found : node_at nodes c.args.id ≡ Some node = c.entry-node.ensures ∙ ap (λ (n : Node). Some n) (sym c.node.view_is) in
+    let ps : Accesses = c.items-pair-items.result.now in
+    let i : ℕ = c.loop-pair.pair-index in
+    let end : i ≡ length ps = omega (arith, c.loop-pair-test.false, c.loop-pair.auto.pair-index-end) in
+    let all : take i ps ≡ node.set = ap (λ n. take n ps) end ∙ take-length ps ∙ c.items-pair-items.ensures.all in
+    let is : false ≡ is_blocked nodes node =
+    sym (blocked_by_first c.conflict_laws.ensures.decided c.conflict_laws.ensures.mutual nodes node c.len-graph.ensures.graph.ascending c.items-pair-items.ensures.ascending ∙ ap (list_any (is_blocked_at nodes node)) (sym all) ∙ c.loop-pair.invariant) in
+    subst (λ (o : Option Node). IfSome o (λ (n : Node). false ≡ is_blocked nodes n)) (sym found) is

@@ -1,0 +1,54 @@
+use Rattle.std.proofs.Common.{rules, ◌≡◌, ℕ, ◌<◌, ◌∙◌, List, Some, cond, add-one, ap, arith, get_or, length, refl, subst, sym}
+use Rattle.std.specs.Prelude.{is_some}
+use Rattle.rw_sets.specs.declared.access.Access.{Access}
+use Rattle.rw_sets.specs.declared.access.Access.TheVariants.{Read}
+use Rattle.rw_sets.specs.Accesses.{Accesses, IsAscending as IsAscendingSet, access_at}
+use Rattle.kdg_graph.specs.Locations.{clashing_at}
+use Rattle.kdg_graph.specs.Node.{Node}
+use Rattle.kdg_graph.specs.Nodes.{ids_of, node_at}
+use Rattle.kdg_graph.specs.Rewrite.{without}
+use Rattle.kdg_graph.proofs.Filing.{again, filed_part, leave_step, no_less_step, within_left}
+use Rattle.kdg_graph.proofs.locations.Locations.leave.Goals as goal
+
+pub loop-pair-init : goal.loop-pair-init
+loop-pair-init c =
+    let nodes : List Node = c.args.nodes.now.nodes in
+    let node : Node = record { id = c.node.inside.id; task = c.node.inside.task; set = c.node.inside.set; running = c.node.inside.running } in
+    let found : node_at nodes c.args.id ≡ Some node = c.entry-node.ensures ∙ ap (λ (n : Node). Some n) (sym c.node.view_is) in
+    record {
+      filed = λ loc access.
+          c.requires.filed loc access ∙ ap ids_of (filed_part nodes c.args.id node loc access (access_at node.set loc) c.len-graph.ensures.graph found refl)
+          ∙ ap (λ (l : Accesses). ids_of (clashing_at loc access (cond (is_some (access_at l loc)) nodes (without c.args.id nodes)))) (sym c.items-pair-items.ensures.all);
+      no_less = λ loc. omega arith;
+    }
+
+pub index_mut-requires : goal.index_mut-requires
+index_mut-requires c =
+    let nodes : List Node = c.args.nodes.now.nodes in
+    let node : Node = record { id = c.node.inside.id; task = c.node.inside.task; set = c.node.inside.set; running = c.node.inside.running } in
+    let found : node_at nodes c.args.id ≡ Some node = c.entry-node.ensures ∙ ap (λ (n : Node). Some n) (sym c.node.view_is) in
+    let ps : Accesses = c.items-pair-items.result.now in
+    let up : IsAscendingSet ps = subst IsAscendingSet (sym c.items-pair-items.ensures.all) c.items-pair-items.ensures.ascending in
+    let i : ℕ = c.loop-pair.pair-index in
+    let inside : i < length ps = c.loop-pair-test.true in
+    let p : ℕ × Access = get_or ps i (0, Read) in
+    let at : p ≡ get_or ps i p = again ps i (0, Read) p inside in
+    let within = within_left nodes c.args.id node ps i p c.loop-pair.self.locations.items c.len-graph.ensures.graph found c.items-pair-items.ensures.all up inside at c.loop-pair.invariant.filed in
+    search (rules, within)
+
+pub loop-pair-preserved : goal.loop-pair-preserved
+loop-pair-preserved c =
+    let nodes : List Node = c.args.nodes.now.nodes in
+    let node : Node = record { id = c.node.inside.id; task = c.node.inside.task; set = c.node.inside.set; running = c.node.inside.running } in
+    let found : node_at nodes c.args.id ≡ Some node = c.entry-node.ensures ∙ ap (λ (n : Node). Some n) (sym c.node.view_is) in
+    let ps : Accesses = c.items-pair-items.result.now in
+    let up : IsAscendingSet ps = subst IsAscendingSet (sym c.items-pair-items.ensures.all) c.items-pair-items.ensures.ascending in
+    let i : ℕ = c.loop-pair.pair-index in
+    let inside : i < length ps = c.loop-pair-test.true in
+    let p : ℕ × Access = get_or ps i (0, Read) in
+    let at : p ≡ get_or ps i p = again ps i (0, Read) p inside in
+    let within = within_left nodes c.args.id node ps i p c.loop-pair.self.locations.items c.len-graph.ensures.graph found c.items-pair-items.ensures.all up inside at c.loop-pair.invariant.filed in
+    record {
+      filed = rw add-one (leave_step nodes c.args.id node ps i p c.loop-pair.self.locations.items c.index_mut.result.now c.leave.new.self c.len-graph.ensures.graph found c.items-pair-items.ensures.all up inside at within c.index_mut.ensures.value c.leave.ensures.lanes c.loop-pair.invariant.filed);
+      no_less = no_less_step p.0 c.args.self.now.locations.items c.loop-pair.self.locations.items c.index_mut.result.now c.leave.new.self within c.index_mut.ensures.value c.leave.ensures.no_less c.loop-pair.invariant.no_less;
+    }

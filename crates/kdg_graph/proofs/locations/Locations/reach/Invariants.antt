@@ -1,0 +1,13 @@
+use Rattle.std.proofs.Common.{suc, ◌-◌, length}
+use Rattle.kdg_graph.specs.Locations.{HaveNoLess, HaveSameLanes, rooms_of}
+use Rattle.kdg_graph.proofs.locations.Locations.reach.Given as goal
+
+-- a location that is added has no nodes
+abbrev pub invariant-loop-alloc : goal.invariant-loop-alloc
+invariant-loop-alloc l = record {
+  no_less : HaveNoLess (rooms_of l.initial.self.locations.items) (rooms_of l.self.locations.items);
+  lanes : HaveSameLanes l.initial.self.locations.items l.self.locations.items;
+}
+
+abbrev pub decreases-loop-alloc : goal.decreases-loop-alloc
+decreases-loop-alloc l = suc l.loc - length l.self.locations.items

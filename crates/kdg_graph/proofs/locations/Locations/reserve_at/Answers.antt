@@ -1,0 +1,35 @@
+use Rattle.std.proofs.Common.{◌≡◌, ◌≤◌, ◌∙◌, List, ap, inl, inr, subst, sym, set}
+use Rattle.std.specs.Prelude.{OnOk}
+use Rattle.std.proofs.lemmas.Bool.{cases_eq}
+use Rattle.rw_sets.specs.declared.access.Access.{Access}
+use Rattle.rw_sets.specs.declared.access.Access.TheVariants.{Read, Write}
+use Rattle.kdg_graph.specs.declared.location.Location.{Location}
+use Rattle.kdg_graph.specs.Locations.{ids_for, lane_of}
+use Rattle.kdg_graph.proofs.Filing.{no_less_step}
+use Rattle.kdg_graph.proofs.Shelving.{lane_at, lane_changed, lane_other, room_changed}
+use Rattle.kdg_graph.proofs.locations.Locations.reserve_at.Goals as goal
+
+pub returns-clause-room : goal.returns-clause-room
+returns-clause-room c =
+    subst (λ n. OnOk c.reserve.result (c.args.additional ≤ n)) (sym (room_changed c.reach.new.self.locations.items c.args.loc c.reserve.new.self c.in_ok-reach.ensures.reached)) c.reserve.ensures.room
+
+pub returns-clause-no_less : goal.returns-clause-no_less
+returns-clause-no_less c =
+    no_less_step c.args.loc c.args.self.now.locations.items c.reach.new.self.locations.items c.index_mut.result.now c.reserve.new.self c.in_ok-reach.ensures.reached c.index_mut.ensures.value c.reserve.ensures.no_less c.reach.ensures.no_less
+
+same_for : (before after : Location) (access : Access) → ids_for Write after ≡ ids_for Write before → ids_for Read after ≡ ids_for Read before → ids_for access after ≡ ids_for access before
+same_for before after Read named writers = writers
+same_for before after Write named writers = named
+
+pub returns-clause-lanes : goal.returns-clause-lanes
+returns-clause-lanes c loc access =
+    let before : List Location = c.reach.new.self.locations.items in
+    let now : Location = c.reserve.new.self in
+    let changed : lane_of (set before c.args.loc now) c.args.loc access ≡ lane_of before c.args.loc access =
+    lane_changed before c.args.loc now access c.in_ok-reach.ensures.reached ∙ same_for c.index_mut.result.now now access c.reserve.ensures.named c.reserve.ensures.writers
+    ∙ ap (ids_for access) c.index_mut.ensures.value ∙ sym (lane_at before c.args.loc access c.index_mut.result.now c.in_ok-reach.ensures.reached) in
+    let same : lane_of (set before c.args.loc now) loc access ≡ lane_of before loc access = elim (cases_eq c.args.loc loc) [
+      | inl here ↦ subst (λ n. lane_of (set before c.args.loc now) n access ≡ lane_of before n access) here changed
+      | inr differs ↦ lane_other before c.args.loc loc now access differs
+    ] in
+    same ∙ c.reach.ensures.lanes loc access

@@ -1,0 +1,24 @@
+use Rattle.std.proofs.Common.{List, ℕ, subst}
+use Rattle.kdg_graph.specs.declared.change.SetChange.{SetChange}
+use Rattle.kdg_graph.specs.Locations.{HasRoom, rooms_of}
+use Rattle.kdg_graph.proofs.Rooms.{all_mapped, all_more, no_less_twice, room_kept, same_lanes_twice}
+use Rattle.kdg_graph.proofs.room.reserve_changed.Goals as goal
+
+pub loop-change-preserved : goal.loop-change-preserved
+loop-change-preserved c =
+    let before : List ℕ = rooms_of c.loop-change.locations.locations.items in
+    let after : List ℕ = rooms_of c.reserve.new.self.locations.items in
+    let item : SetChange = c.change-item.result in
+    record {
+      room = all_more (λ (x : SetChange). HasRoom c.args.coming x.set after) c.args.changed.now c.loop-change.change-index item c.loop-change-test.true
+          (all_mapped (λ (x : SetChange). HasRoom c.args.coming x.set before) (λ (x : SetChange). HasRoom c.args.coming x.set after) _ (λ x has. room_kept c.args.coming x.set before after c.reserve.ensures.no_less has) c.loop-change.invariant.room)
+          (subst (λ (x : SetChange). HasRoom c.args.coming x.set after) c.change-item.is c.in_ok-reserve.ensures.room);
+      no_less = no_less_twice _ before after c.loop-change.invariant.no_less c.reserve.ensures.no_less;
+      lanes = same_lanes_twice _ _ _ c.loop-change.invariant.lanes c.reserve.ensures.lanes;
+    }
+
+pub returns-in_err-reserve-clause-no_less : goal.returns-in_err-reserve-clause-no_less
+returns-in_err-reserve-clause-no_less c = no_less_twice _ (rooms_of c.loop-change.locations.locations.items) _ c.loop-change.invariant.no_less c.reserve.ensures.no_less
+
+pub returns-in_err-reserve-clause-lanes : goal.returns-in_err-reserve-clause-lanes
+returns-in_err-reserve-clause-lanes c = same_lanes_twice _ c.loop-change.locations.locations.items _ c.loop-change.invariant.lanes c.reserve.ensures.lanes

@@ -1,0 +1,104 @@
+-- The nodes of each location, and which of them stand in the way of which.
+use Rattle.std.specs.Prelude.{◌≡◌, ℕ, zero, suc, ◌-◌, ◌≤◌, ◌≢◌, Bool, false, min, if◌then◌else◌, List, [], ◌∷◌, map, take, drop, length}
+use Rattle.std.specs.List.{AllByRecursion, filter}
+use Rattle.std.specs.Ordering.{is_lt}
+use Rattle.std.specs.VecDeque.{deque_capacity, deque_len}
+use Rattle.rw_sets.specs.declared.access.Access.{Access}
+use Rattle.rw_sets.specs.declared.access.Access.TheVariants.{Read, Write}
+use Rattle.rw_sets.specs.Accesses.{Accesses, access_at, clash, excludes, writes}
+use Rattle.std.specs.Prelude.{Some}
+use Rattle.task_order.specs.declared.key.Key.{Key}
+use Rattle.task_order.specs.Key.{key_cmp}
+use Rattle.task_order.specs.TaskList.{IsAscending}
+use Rattle.std.specs.Prelude.{Contains}
+use Rattle.kdg_graph.specs.declared.node_id.NodeId.{NodeId}
+use Rattle.kdg_graph.specs.declared.location.Location.{Location}
+use Rattle.kdg_graph.specs.Node.{Node}
+use Rattle.kdg_graph.specs.Nodes.{ids_of, later_than, put_node, tasks_of}
+use Rattle.kdg_graph.specs.Rewrite.{without}
+
+-- ---- the nodes of a location
+
+-- whether an access to the location clashes with the node's: a write with any, a read with a write
+abbrev pub clashes_at : ℕ → Access → Node → Bool
+clashes_at loc access node = clash (Some access) (access_at node.set loc)
+
+-- the nodes that it clashes with: for a write all that name the location, for a read those that write it
+abbrev pub clashing_at : ℕ → Access → List Node → List Node
+clashing_at loc access nodes = filter (clashes_at loc access) nodes
+
+-- the first of the nodes that clash with an access of the node to the location is earlier than the node
+abbrev pub is_first_before : Key → List Node → Bool
+is_first_before key [] = false
+is_first_before key (first ∷ nodes) = is_lt (key_cmp first.task.key key)
+
+-- whether some earlier node stands in the way of the node at the location
+abbrev pub is_blocked_at : List Node → Node → ℕ × Access → Bool
+is_blocked_at nodes node p = is_first_before node.task.key (clashing_at p.0 p.1 nodes)
+
+-- the nodes up to the first that writes the location, and this one
+abbrev pub up_to_writer : ℕ → List Node → List Node
+up_to_writer loc [] = []
+up_to_writer loc (node ∷ nodes) = node ∷ (if writes node.set loc then [] else up_to_writer loc nodes)
+
+-- of the nodes later than the key that clash with the access to the location, those that it may block alone: a writer blocks all behind it
+abbrev pub front_after : ℕ → Access → Key → List Node → List Node
+front_after loc access key nodes = up_to_writer loc (clashing_at loc access (later_than key nodes))
+
+-- ---- some nodes of a graph by their ids
+
+-- the ids are those of some of the nodes, in key order
+pub record IsLaneAmong (nodes some : List Node) (ids : List NodeId) : Type 0 where
+  pub ids_are : ids ≡ ids_of some
+  pub there : AllByRecursion (λ node. Contains nodes node) some
+  pub ascending : IsAscending (tasks_of some)
+
+-- the nodes with one more, or with one less, where the test says so
+abbrev pub put_if : Bool → Node → List Node → List Node
+put_if test node nodes = if test then put_node node nodes else nodes
+
+abbrev pub without_if : Bool → NodeId → List Node → List Node
+without_if test id nodes = if test then without id nodes else nodes
+
+-- ---- locations by their numbers
+
+-- the ids that are kept for an access to the location
+abbrev pub ids_for : Access → Location → List NodeId
+ids_for Read location = location.writers.ids.items
+ids_for Write location = location.named.ids.items
+
+-- the same by the number of the location, where no ids are kept for those beyond the list
+abbrev pub lane_of : List Location → ℕ → Access → List NodeId
+lane_of [] loc access = []
+lane_of (location ∷ locations) zero access = ids_for access location
+lane_of (location ∷ locations) (suc loc) access = lane_of locations loc access
+
+-- the nodes that clash with each access to each location are kept, in key order
+abbrev pub AreFiled : List Node → List Location → Type 0
+AreFiled nodes locations = (loc : ℕ) (access : Access) → lane_of locations loc access ≡ ids_of (clashing_at loc access nodes)
+
+-- the same ids are kept
+abbrev pub HaveSameLanes : List Location → List Location → Type 0
+HaveSameLanes before after = (loc : ℕ) (access : Access) → lane_of after loc access ≡ lane_of before loc access
+
+-- ---- room
+
+-- for so many more nodes there is room at a location
+abbrev pub room_in : Location → ℕ
+room_in location = min (deque_capacity location.named.ids - deque_len location.named.ids) (deque_capacity location.writers.ids - deque_len location.writers.ids)
+
+abbrev pub rooms_of : List Location → List ℕ
+rooms_of locations = map room_in locations
+
+abbrev pub room_at : List ℕ → ℕ → ℕ
+room_at [] loc = zero
+room_at (room ∷ rooms) zero = room
+room_at (room ∷ rooms) (suc loc) = room_at rooms loc
+
+-- at each location of the set there is room for so many more
+abbrev pub HasRoom : ℕ → Accesses → List ℕ → Type 0
+HasRoom count set rooms = AllByRecursion (λ p. count ≤ room_at rooms p.0) set
+
+-- no location has less room
+abbrev pub HaveNoLess : List ℕ → List ℕ → Type 0
+HaveNoLess before after = (loc : ℕ) → room_at before loc ≤ room_at after loc

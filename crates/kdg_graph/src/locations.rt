@@ -1,0 +1,215 @@
+ghost use Rattle.std.specs.Prelude.{◌≡◌, ◌-◌, ◌≤◌, ◌<◌, ◌+◌, ℕ, [], take, drop, filter, length, slice_index_or, OnOk, IfNone, IfSome};
+ghost use Rattle.rw_sets.specs.Accesses.{conflicts_with};
+ghost use Rattle.kdg_graph.specs.Nodes.{HasNode, IsGraph, ids_of, least_of, later_than, node_at};
+ghost use Rattle.kdg_graph.specs.Edges.{is_blocked};
+ghost use Rattle.kdg_graph.specs.Locations.{AreFiled, HasRoom, HaveNoLess, HaveSameLanes, clashing_at, front_after, is_first_before, lane_of, room_at, rooms_of};
+ghost use Rattle.kdg_graph.specs.Rewrite.{without};
+
+use crate::NodeId;
+use crate::lane::Lane;
+use crate::location::Location;
+use crate::ordered_nodes::OrderedNodes;
+use kdg_text::NoRoom;
+use rw_sets::{Access, RwSet, conflict_laws};
+use std::alloc::Global;
+use std::ops::Range;
+use task_order::Key;
+
+/// The nodes of each location by the number of the location, which each have their place in key
+/// order. A location beyond the last has no nodes.
+#[derive(Drop)]
+pub(crate) struct Locations {
+    locations: Vec<Location>,
+}
+
+impl Locations {
+    /// No locations, which take no memory.
+    pub(crate) fn new(alloc: Global) -> Locations
+        ensures { result.locations.items ≡ [] }
+    {
+        Locations {
+            locations: Vec::new(alloc),
+        }
+    }
+
+    /// Makes room for so many more nodes at each location of a set.
+    pub(crate) fn reserve(&mut self, set: &RwSet, additional: usize) -> Result<(), NoRoom>
+        ensures room { OnOk result (HasRoom additional set.now (rooms_of self.new.locations.items)) }
+        ensures no_less { HaveNoLess (rooms_of self.old.locations.items) (rooms_of self.new.locations.items) }
+        ensures lanes { HaveSameLanes self.old.locations.items self.new.locations.items }
+    {
+        for pair in set.items() {
+            self.reserve_at(pair.0, additional)?;
+        }
+        Ok(())
+    }
+
+    /// Files a node that stands among the nodes, where `reserve` made room at each location of its
+    /// set. It takes no memory.
+    pub(crate) fn enter(&mut self, nodes: &OrderedNodes, id: NodeId)
+        requires there { HasNode nodes.now.nodes id }
+        requires room { IfSome (node_at nodes.now.nodes id) (λ node. HasRoom 1 node.set (rooms_of self.old.locations.items)) }
+        requires filed { AreFiled (without id nodes.now.nodes) self.old.locations.items }
+        ensures filed { AreFiled nodes.now.nodes self.new.locations.items }
+        ensures room { (loc : ℕ) → room_at (rooms_of self.old.locations.items) loc ≤ room_at (rooms_of self.new.locations.items) loc + 1 }
+    {
+        let _graph = nodes.len();
+        let node = nodes.entry(id);
+        for pair in node.set.items() {
+            self.locations[pair.0 as usize].enter(nodes, id, pair.1);
+        }
+    }
+
+    /// Files a node that stands among the nodes no more. It takes no memory.
+    pub(crate) fn leave(&mut self, nodes: &OrderedNodes, id: NodeId)
+        requires there { HasNode nodes.now.nodes id }
+        requires filed { AreFiled nodes.now.nodes self.old.locations.items }
+        ensures filed { AreFiled (without id nodes.now.nodes) self.new.locations.items }
+        ensures no_less { HaveNoLess (rooms_of self.old.locations.items) (rooms_of self.new.locations.items) }
+    {
+        let _graph = nodes.len();
+        let node = nodes.entry(id);
+        for pair in node.set.items() {
+            self.locations[pair.0 as usize].leave(nodes, id, pair.1);
+        }
+    }
+
+    /// Whether an earlier node is in conflict with a node, by the first nodes of the locations of its
+    /// set.
+    pub(crate) fn is_blocked(&self, nodes: &OrderedNodes, id: NodeId) -> bool
+        requires there { HasNode nodes.now.nodes id }
+        requires filed { AreFiled nodes.now.nodes self.now.locations.items }
+        ensures { IfSome (node_at nodes.now.nodes id) (λ node. result ≡ is_blocked nodes.now.nodes node) }
+    {
+        conflict_laws();
+        let _graph = nodes.len();
+        let node = nodes.entry(id);
+        for pair in node.set.items() {
+            if self.is_blocked_at(nodes, pair.0, pair.1, &node.task.key) {
+                return true;
+            }
+        }
+        false
+    }
+
+    /// The places, among the nodes that an access to a location clashes with, of those later than the
+    /// key up to the first that writes the location, and this one.
+    pub(crate) fn front(
+        &self,
+        nodes: &OrderedNodes,
+        loc: u32,
+        access: Access,
+        key: &Key,
+    ) -> Range<usize>
+        requires filed { AreFiled nodes.now.nodes self.now.locations.items }
+        ensures ordered { result.start ≤ result.end }
+        ensures inside { result.end ≤ length (lane_of self.now.locations.items loc access) }
+        ensures ids { take (result.end - result.start) (drop result.start (lane_of self.now.locations.items loc access)) ≡ ids_of (front_after loc access key.now nodes.now.nodes) }
+    {
+        let Some(lane) = self.lane(loc, access) else {
+            return 0..0;
+        };
+        let start = nodes.rank_past(lane, key);
+        let end = match self.first_after(nodes, loc, Access::Read, key) {
+            Some(writer) => nodes.rank_past(lane, &nodes.entry(writer).task.key),
+            None => lane.len(),
+        };
+        start..end
+    }
+
+    /// The id at a place among the nodes that an access to a location clashes with.
+    pub(crate) fn at(&self, loc: u32, access: Access, place: usize) -> NodeId
+        requires { place < length (lane_of self.now.locations.items loc access) }
+        ensures { result ≡ slice_index_or (lane_of self.now.locations.items loc access) place result }
+    {
+        match self.lane(loc, access) {
+            Some(lane) => lane.at(place),
+            None => unreachable!(),
+        }
+    }
+
+    /// The first node later than the key that an access to a location clashes with.
+    pub(crate) fn first_after(
+        &self,
+        nodes: &OrderedNodes,
+        loc: u32,
+        access: Access,
+        key: &Key,
+    ) -> Option<NodeId>
+        requires filed { AreFiled nodes.now.nodes self.now.locations.items }
+        ensures { result ≡ least_of (clashing_at loc access (later_than key.now nodes.now.nodes)) }
+    {
+        let lane = self.lane(loc, access)?;
+        let place = nodes.rank_past(lane, key);
+        if place == lane.len() {
+            return None;
+        }
+        Some(lane.at(place))
+    }
+
+    /// The first node later than the key whose recorded set conflicts with a set.
+    pub(crate) fn first_in_conflict(
+        &self,
+        nodes: &OrderedNodes,
+        set: &RwSet,
+        key: &Key,
+    ) -> Option<NodeId>
+        requires filed { AreFiled nodes.now.nodes self.now.locations.items }
+        ensures first { result ≡ least_of (filter (λ other. conflicts_with set.now other.set) (later_than key.now nodes.now.nodes)) }
+        ensures graph { IsGraph nodes.now.nodes }
+    {
+        let _graph = nodes.len();
+        let mut first = None;
+        for pair in set.items() {
+            let other = self.first_after(nodes, pair.0, pair.1, key);
+            first = nodes.earlier(first, other);
+        }
+        first
+    }
+
+    /// Whether the first node that an access to a location clashes with is earlier than the key.
+    fn is_blocked_at(&self, nodes: &OrderedNodes, loc: u32, access: Access, key: &Key) -> bool
+        requires { AreFiled nodes.now.nodes self.now.locations.items }
+        ensures { result ≡ is_first_before key.now (clashing_at loc access nodes.now.nodes) }
+    {
+        match self.lane(loc, access) {
+            Some(lane) => nodes.starts_before(lane, key),
+            None => false,
+        }
+    }
+
+    /// The nodes that an access to a location clashes with, if the location is kept.
+    fn lane(&self, loc: u32, access: Access) -> Option<&Lane>
+        ensures kept { IfSome result (λ lane. lane.now.ids.items ≡ lane_of self.now.locations.items loc access) }
+        ensures beyond { IfNone result (lane_of self.now.locations.items loc access ≡ []) }
+    {
+        match self.locations.get(loc as usize) {
+            Some(location) => Some(location.clashing(access)),
+            None => None,
+        }
+    }
+
+    /// Makes room for so many more nodes at a location.
+    fn reserve_at(&mut self, loc: u32, additional: usize) -> Result<(), NoRoom>
+        ensures room { OnOk result (additional ≤ room_at (rooms_of self.new.locations.items) loc) }
+        ensures no_less { HaveNoLess (rooms_of self.old.locations.items) (rooms_of self.new.locations.items) }
+        ensures lanes { HaveSameLanes self.old.locations.items self.new.locations.items }
+    {
+        let loc = loc as usize;
+        self.reach(loc)?;
+        self.locations[loc].reserve(additional)
+    }
+
+    /// Keeps each location up to one.
+    fn reach(&mut self, loc: usize) -> Result<(), NoRoom>
+        ensures reached { OnOk result (loc < length self.new.locations.items) }
+        ensures no_less { HaveNoLess (rooms_of self.old.locations.items) (rooms_of self.new.locations.items) }
+        ensures lanes { HaveSameLanes self.old.locations.items self.new.locations.items }
+    {
+        let alloc = *self.locations.allocator();
+        while self.locations.len() <= loc {
+            self.locations.push(Location::new(alloc))?;
+        }
+        Ok(())
+    }
+}
