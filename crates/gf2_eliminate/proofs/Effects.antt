@@ -1,28 +1,26 @@
 -- What is written leaves the lines that the operator gives.
-use Rattle.std.specs.Prelude.{◌≡◌, ℕ, zero, suc, ◌+◌, ◌-◌, ◌<◌, ◌≤◌, Bool, true, false, not, ◌&&◌, ◌||◌, ◌==◌, if◌then◌else◌, List, [], ◌∷◌, ◌++◌, length, map, filter, Option, Some, None, IsSome, IsTrue, ◌≢◌, slice_get, slice_set, unwrap_or, option_map, refl}
-use Rattle.std.specs.List.{AllByRecursion, list_any}
+use Rattle.std.specs.Prelude.{◌≡◌, ℕ, suc, ◌+◌, ◌-◌, ◌<◌, Bool, true, false, not, ◌&&◌, ◌||◌, ◌==◌, if◌then◌else◌, List, [], ◌∷◌, length, map, filter, Option, Some, None, IsSome, IsTrue, ◌≢◌, slice_get, slice_set, unwrap_or, option_map, refl}
+use Rattle.std.specs.List.{AllByRecursion}
 use Rattle.std.proofs.Common.{◌⊎◌, inl, inr, arith, sym, ap, ◌∙◌, subst, length-set}
-use Rattle.std.proofs.lemmas.Bool.{and_parts, and_from, cases_lt, cases_eq, cases_Bool, eqb-true, eqb-false, eq-eqb, ne_eqb, true≢false, false_from_ne_true, cond-true, cond-false}
+use Rattle.std.proofs.lemmas.Bool.{and_parts, and_from, cases_eq, cases_Bool, eqb-true, eq-eqb, ne_eqb, true≢false, false_from_ne_true}
 use Rattle.std.proofs.lemmas.List.{get_or-set_same, get_or-set_other}
 use Rattle.std.proofs.lemmas.Option.{slice_get-get_or}
 use Rattle.rw_sets.specs.Accesses.{Accesses, IsAscending, access_at, writes}
-use Rattle.rw_sets.specs.declared.access.Access.TheVariants.{Write}
-use Rattle.cell_store.specs.declared.cell.Cell.{Cell}
 use Rattle.cell_store.specs.declared.cell.Cell.TheVariants.{Home, Out}
 use Rattle.cell_store.specs.Part.{Part}
-use Rattle.cell_store.specs.Cells.{cell_at, cell_in, part_of, with_value}
+use Rattle.cell_store.specs.Cells.{cell_at, part_of, with_value}
 use Rattle.cell_store.specs.Values.{homes}
 use Rattle.cell_store.specs.Laws.{PartsByLocation, HomesByLocation}
 use Rattle.app_laws.specs.declared.app.Effect.{Effect}
 use Rattle.app_laws.specs.declared.child.Child.{Child}
-use Rattle.mtx_reader.specs.Ascending.{IsIn, numbers_from, all_in, all_from_in, in_left, in_right, in_either, in_map, from_map, in_filter, from_filter, from_numbers}
+use Rattle.mtx_reader.specs.Ascending.{IsIn, numbers_from, all_from_in, in_left, in_right, in_either, in_map, from_map, in_filter, from_filter}
 use Rattle.gf2_eliminate.specs.declared.line.Line2.{Line2}
 use Rattle.gf2_eliminate.specs.declared.line.Line2.TheVariants.{Row, Col}
-use Rattle.gf2_eliminate.specs.Lines.{no_line, numbers_in, is_used, has, line_at, holds, is_held, listed, IsListTo, IsRow, IsColumn, AreLines}
-use Rattle.gf2_eliminate.specs.Elimination.{first_of, exactly_one, writing, is_touched, set_of, shown, pivot_of, holds_after, line_after, lines_after, free_line, pivot_line, outcome_with, eliminated}
-use Rattle.gf2_eliminate.specs.Plans.{line_in, sum_to, locations, locations_behind, pivot_among, row_then, column_then, planned_rows, planned_columns, planned_with, planned, without, text_with, IsHeld, with_lines}
-use Rattle.gf2_eliminate.specs.Membership.{same_tests, filter_same, has_listed, in_has, has_in, listed_same, list_is_listed, in_written, written_in}
-use Rattle.gf2_eliminate.specs.Lawful.{IsNamed, OfRow, OfItself, OfColumn, named_from_some, set_ascending, after_row, after_column, get_after, row_stays, column_stays, pivot_found, writes_from_named}
+use Rattle.gf2_eliminate.specs.Lines.{no_line, numbers_in, is_used, has, line_at, holds, listed, IsListTo, IsRow, IsColumn}
+use Rattle.gf2_eliminate.specs.Elimination.{first_of, exactly_one, writing, is_touched, set_of, pivot_of, holds_after, line_after, lines_after, outcome_with, eliminated}
+use Rattle.gf2_eliminate.specs.Plans.{line_in, sum_to, locations, pivot_among, row_then, column_then, planned_rows, planned_columns, planned_with, planned, without, text_with, IsHeld, with_lines}
+use Rattle.gf2_eliminate.specs.Membership.{same_tests, filter_same, has_listed, in_has, has_in, listed_same, list_is_listed, written_in}
+use Rattle.gf2_eliminate.specs.Lawful.{IsNamed, OfRow, OfItself, OfColumn, named_from_some, set_ascending, after_row, after_column, get_after, column_stays, writes_from_named}
 use Rattle.gf2_eliminate.proofs.Held.{line_in_is, column_is_in, holder, holder_at, pivot_is, pivot_line_is, added_column}
 
 -- a list of lines with these written into it

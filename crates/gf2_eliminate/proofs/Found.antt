@@ -1,10 +1,10 @@
 -- The set of a column is what was found of it.
-use Rattle.std.specs.Prelude.{◌≡◌, ℕ, suc, ◌+◌, ◌-◌, ◌<◌, ◌≤◌, Bool, true, false, ◌||◌, ◌==◌, List, [], ◌∷◌, ◌++◌, length, map, filter, None, refl}
+use Rattle.std.specs.Prelude.{◌≡◌, ℕ, suc, ◌+◌, ◌-◌, ◌<◌, ◌≤◌, true, ◌==◌, List, [], ◌∷◌, length, map, filter, None, refl}
 use Rattle.std.specs.List.{AllByRecursion, list_any}
 use Rattle.std.specs.Ordering.{nat_cmp}
-use Rattle.std.proofs.Common.{◌⊎◌, inl, inr, arith, sym, ap, ◌∙◌, subst}
-use Rattle.std.proofs.lemmas.Bool.{or_cases, or_left, or_right, eqb-true, eq-eqb, true≢false}
-use Rattle.rw_sets.specs.Accesses.{access_at, merged}
+use Rattle.std.proofs.Common.{inl, inr, arith, sym, ap, ◌∙◌, subst}
+use Rattle.std.proofs.lemmas.Bool.{or_cases, or_left, or_right, eqb-true, eq-eqb}
+use Rattle.rw_sets.specs.Accesses.{merged}
 use Rattle.rw_sets.specs.MergeLaws.{merged_none}
 use Rattle.cell_store.specs.declared.cell.Cell.{Cell}
 use Rattle.cell_store.specs.declared.cell.Cell.TheVariants.{Home, Out}
@@ -13,10 +13,10 @@ use Rattle.cell_store.specs.Values.{AgreesWith}
 use Rattle.mtx_reader.specs.Ascending.{IsAscendingBy, IsIn, numbers_from, all_from_in, in_left, in_right, in_either, in_map, from_map, in_filter, from_filter, ascending_append, ascending_filter, ascending_map, nat_less, less_from_cmp, same_numbers, in_numbers, from_numbers, ascending_numbers}
 use Rattle.gf2_eliminate.specs.declared.line.Line2.{Line2}
 use Rattle.gf2_eliminate.specs.declared.line.Line2.TheVariants.{Row, Col}
-use Rattle.gf2_eliminate.specs.Lines.{numbers_in, has, line_at, holds, listed, IsListTo, IsRow, IsColumn, AreLines}
+use Rattle.gf2_eliminate.specs.Lines.{numbers_in, has, line_at, holds, IsListTo, IsRow, IsColumn, AreLines}
 use Rattle.gf2_eliminate.specs.Elimination.{first_of, writing, is_touched, set_of, shown, is_out}
 use Rattle.gf2_eliminate.specs.Touched.{ones_at, is_marked, touched_locs, AreRowsTo, HaveColumns}
-use Rattle.gf2_eliminate.specs.Membership.{any_found, any_from, in_has, list_is_listed, in_written, written_in, ascending_writing}
+use Rattle.gf2_eliminate.specs.Membership.{any_found, any_from, list_is_listed, in_written, written_in, ascending_writing}
 use Rattle.gf2_eliminate.specs.Lawful.{IsNamed, OfRow, OfItself, OfColumn, number_within, named_from_some, some_from_named, home_is, shown_is, row_shown, needed_row, row_needed, row_home, shown_set}
 
 pred_suc : (ns : List ℕ) → map (λ n. n - 1) (map suc ns) ≡ ns

@@ -1,19 +1,18 @@
 -- What the task of a column finds in its bundle.
-use Rattle.std.specs.Prelude.{◌≡◌, ℕ, suc, ◌+◌, ◌-◌, ◌<◌, ◌≤◌, ◌^◌, Bool, true, false, not, ◌&&◌, ◌==◌, List, [], ◌∷◌, ◌++◌, length, map, filter, Option, Some, None, IsSome, refl}
+use Rattle.std.specs.Prelude.{◌≡◌, ℕ, suc, ◌+◌, ◌-◌, ◌<◌, ◌≤◌, true, not, ◌==◌, List, ◌++◌, Some, IsSome, refl}
 use Rattle.std.specs.List.{AllByRecursion}
 use Rattle.std.specs.Ordering.{nat_cmp}
-use Rattle.std.proofs.Common.{◌⊎◌, inl, inr, arith, sym, ap, ◌∙◌, subst}
-use Rattle.std.proofs.lemmas.Bool.{and_parts, cases_lt}
+use Rattle.std.proofs.Common.{arith, sym, ap, ◌∙◌, subst}
 use Rattle.rw_sets.specs.Accesses.{access_at}
 use Rattle.cell_store.specs.Part.{Part}
-use Rattle.cell_store.specs.Cells.{cell_in, part_of}
+use Rattle.cell_store.specs.Cells.{cell_in}
 use Rattle.cell_store.specs.Values.{homes}
 use Rattle.cell_store.specs.Laws.{PartsByLocation, HomesByLocation}
-use Rattle.mtx_reader.specs.Ascending.{IsIn, all_in, all_from_in, in_map, from_map, from_filter, ascending_filter}
+use Rattle.mtx_reader.specs.Ascending.{IsIn, all_in, all_from_in, from_map, from_filter, ascending_filter}
 use Rattle.gf2_eliminate.specs.declared.line.Line2.{Line2}
 use Rattle.gf2_eliminate.specs.declared.line.Line2.TheVariants.{Row, Col}
-use Rattle.gf2_eliminate.specs.Lines.{no_line, numbers_in, is_used, has, line_at, holds, IsListTo, IsRow, IsColumn, AreLines}
-use Rattle.gf2_eliminate.specs.Elimination.{first_of, set_of, shown}
+use Rattle.gf2_eliminate.specs.Lines.{no_line, numbers_in, is_used, has, line_at, holds, IsListTo, IsRow, IsColumn}
+use Rattle.gf2_eliminate.specs.Elimination.{set_of, shown}
 use Rattle.gf2_eliminate.specs.Plans.{line_in, locations, locations_behind, pivot_among, planned_rows, planned_columns, planned_with, planned, without, HasRow, HasColumn, AreListsTo, IsHeld}
 use Rattle.gf2_eliminate.specs.Membership.{first_found, has_in}
 use Rattle.gf2_eliminate.specs.Lawful.{IsNamed, OfRow, OfItself, OfColumn, number_within, some_from_named}

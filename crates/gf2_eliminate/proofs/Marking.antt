@@ -1,7 +1,7 @@
 -- Marks of columns, and the pairs of a set, one after another.
-use Rattle.std.specs.Prelude.{◌≡◌, ℕ, zero, suc, ◌+◌, ◌-◌, ◌<◌, ◌≤◌, Bool, true, false, ◌||◌, ◌==◌, List, [], ◌∷◌, ◌++◌, length, map, filter, take, refl}
+use Rattle.std.specs.Prelude.{◌≡◌, ℕ, zero, suc, ◌+◌, ◌<◌, Bool, true, false, ◌||◌, List, [], ◌∷◌, ◌++◌, length, map, filter, take, refl}
 use Rattle.std.specs.List.{list_any}
-use Rattle.std.proofs.Common.{arith, sym, ap, ◌∙◌, subst, append_assoc, append-nil, add-one, get_or}
+use Rattle.std.proofs.Common.{arith, sym, ap, ◌∙◌, append_assoc, append-nil, add-one, get_or}
 use Rattle.std.proofs.lemmas.List.{map-append, take_more}
 use Rattle.std.proofs.lemmas.List.Elements.{filter-append}
 use Rattle.rw_sets.specs.declared.access.Access.TheVariants.{Write}

@@ -1,8 +1,6 @@
 -- What is printed and made number by number.
-use Rattle.std.specs.Prelude.{◌≡◌, ℕ, zero, suc, ◌+◌, ◌<◌, ◌≤◌, Bool, true, false, List, [], ◌∷◌, ◌++◌, length, map, filter, drop, if◌then◌else◌, refl}
-use Rattle.std.specs.Fmt.{decimal}
-use Rattle.std.proofs.Common.{arith, sym, ap, ◌∙◌, append_assoc, append-nil, add-one, get_or, length-append}
-use Rattle.std.proofs.Math.Seq.{drop-cons}
+use Rattle.std.specs.Prelude.{◌≡◌, ℕ, ◌+◌, ◌<◌, Bool, true, false, List, [], ◌∷◌, ◌++◌, length, map, filter, if◌then◌else◌}
+use Rattle.std.proofs.Common.{arith, sym, ap, ◌∙◌, append_assoc, append-nil, length-append}
 use Rattle.std.proofs.lemmas.List.{map-append}
 use Rattle.std.proofs.lemmas.List.Elements.{filter-append}
 use Rattle.cell_store.specs.declared.cell.Cell.{Cell}
@@ -14,7 +12,7 @@ use Rattle.task_order.specs.declared.start.Start.{Start}
 use Rattle.mtx_reader.specs.Ascending.{numbers_from}
 use Rattle.gf2_eliminate.specs.declared.line.Line2.{Line2}
 use Rattle.gf2_eliminate.specs.Lines.{no_line, numbers_in, is_used, line_at}
-use Rattle.gf2_eliminate.specs.Start.{spaced, row_text, row_texts, used_among, start_task}
+use Rattle.gf2_eliminate.specs.Start.{row_text, row_texts, used_among, start_task}
 use Rattle.gf2_eliminate.proofs.Marking.{numbers_to}
 
 row_texts-append : (cells : List Line2) (rows : List ℕ) (row : ℕ) → row_texts cells (rows ++ row ∷ []) ≡ row_texts cells rows ++ row_text row (numbers_in (line_at cells row))

@@ -1,14 +1,14 @@
 -- The sum of two ascending lists, as it is merged.
-use Rattle.std.specs.Prelude.{◌≡◌, ℕ, zero, suc, ◌+◌, ◌-◌, ◌<◌, ◌≤◌, Bool, true, false, ◌||◌, ◌==◌, List, [], ◌∷◌, ◌++◌, length, take, drop, refl}
-use Rattle.std.specs.List.{AllByRecursion}
+use Rattle.std.specs.Prelude.{◌≡◌, ℕ, zero, suc, ◌+◌, ◌-◌, ◌<◌, ◌≤◌, Bool, true, false, ◌||◌, ◌==◌, List, [], ◌∷◌, ◌++◌, length, take, drop, slice_set, leb, eqb, not, min, refl}
+use Rattle.std.specs.Int.{from_bool}
 use Rattle.std.specs.Ordering.{nat_cmp}
 use Rattle.std.specs.declared.cmp.Ordering.TheVariants.{Less}
-use Rattle.std.proofs.Common.{◌⊎◌, inl, inr, arith, sym, ap, ◌∙◌, subst, append_assoc, append-nil, add-one, get_or, length-drop}
-use Rattle.std.proofs.lemmas.List.{take_all}
+use Rattle.std.proofs.Common.{◌⊎◌, inl, inr, arith, sym, ap, ◌∙◌, subst, append_assoc, append-nil, add-one, add-zero, get_or, length-drop}
+use Rattle.std.proofs.lemmas.List.{take_all, take-set, take_more_set}
 use Rattle.std.proofs.Math.Seq.{drop-cons}
-use Rattle.std.proofs.lemmas.Bool.{eqb-true, false_from_ne_true, ne_eqb, or_from}
+use Rattle.std.proofs.lemmas.Bool.{cases_order, eq-eqb, eqb-true, false_from_ne_true, le-leb, lt-leb, ne_eqb}
 use Rattle.mtx_reader.specs.Ascending.{IsAscendingBy, IsIn, all_in, all_from_in, in_left, in_right, in_either, ascending_append, nat_less, less_from_cmp}
-use Rattle.gf2_eliminate.specs.Lines.{has, listed, IsListTo}
+use Rattle.gf2_eliminate.specs.Lines.{has, IsListTo}
 use Rattle.gf2_eliminate.specs.Elimination.{exactly_one}
 use Rattle.gf2_eliminate.specs.Plans.{sum_to}
 use Rattle.gf2_eliminate.specs.Membership.{in_has, has_in, list_is_listed}
@@ -194,18 +194,66 @@ module _ (left right sum : List ℕ) (i j : ℕ) where
     uncut-right : get_or right j 0 ∷ drop (j + 1) right ≡ drop j right
     uncut-right = sym (rw add-one (drop-cons right j 0 j-below))
 
-    pub step_left : get_or left i 0 < get_or right j 0 → IsMerging left right (sum ++ get_or left i 0 ∷ []) (drop (i + 1) left) (drop j right)
+    step_left : get_or left i 0 < get_or right j 0 → IsMerging left right (sum ++ get_or left i 0 ∷ []) (drop (i + 1) left) (drop j right)
     step_left less = subst (λ other. IsMerging left right (sum ++ get_or left i 0 ∷ []) (drop (i + 1) left) other) uncut-right
         (merging_left left right sum (get_or left i 0) (drop (i + 1) left) (get_or right j 0) (drop (j + 1) right) cut less)
 
-    pub step_right : get_or right j 0 < get_or left i 0 → IsMerging left right (sum ++ get_or right j 0 ∷ []) (drop i left) (drop (j + 1) right)
+    step_right : get_or right j 0 < get_or left i 0 → IsMerging left right (sum ++ get_or right j 0 ∷ []) (drop i left) (drop (j + 1) right)
     step_right less = subst (λ rest. IsMerging left right (sum ++ get_or right j 0 ∷ []) rest (drop (j + 1) right)) uncut-left
         (merging_right left right sum (get_or left i 0) (drop (i + 1) left) (get_or right j 0) (drop (j + 1) right) cut less)
 
-    pub step_both : get_or left i 0 ≡ get_or right j 0 → IsMerging left right sum (drop (i + 1) left) (drop (j + 1) right)
+    step_both : get_or left i 0 ≡ get_or right j 0 → IsMerging left right sum (drop (i + 1) left) (drop (j + 1) right)
     step_both same = merging_both left right sum (get_or left i 0) (drop (i + 1) left) (get_or right j 0) (drop (j + 1) right) cut same
 
   pub sum_at_end : (bound : ℕ) → (IsAscendingBy nat_cmp left → IsAscendingBy nat_cmp right → IsMerging left right sum (drop i left) (drop j right)) → (length left ≤ i) ⊎ (length right ≤ j) → IsListTo bound left → IsListTo bound right
       → (sum ++ drop i left) ++ drop j right ≡ sum_to bound left right
   sum_at_end bound merging (inl past) in-left in-right = merged-is_sum left right sum (drop i left) (drop j right) bound (merging in-left.ascending in-right.ascending) (inl (drop_past left i past)) in-left in-right
   sum_at_end bound merging (inr past) in-left in-right = merged-is_sum left right sum (drop i left) (drop j right) bound (merging in-left.ascending in-right.ascending) (inr (drop_past right j past)) in-left in-right
+
+-- a step from places in both lists to the next ones, which puts the lesser number behind the sum
+pub record IsStep (left right cells : List ℕ) (i j count next-i next-j next-count lesser : ℕ) : Type 0 where
+  pub left_within : next-i ≤ length left
+  pub right_within : next-j ≤ length right
+  pub few : next-count ≤ next-i + next-j
+  pub merging : IsMerging left right (take count cells) (drop i left) (drop j right) → IsMerging left right (take next-count (slice_set cells count lesser)) (drop next-i left) (drop next-j right)
+
+-- the number stays unless both are equal, and each list goes on that has it
+module _ (left right cells : List ℕ) (i j count : ℕ) (i-below : i < length left) (j-below : j < length right) (few : count ≤ i + j) (room : length cells ≡ length left + length right) where
+  pub step_by_tests : (x y next-i next-j next-count lesser : ℕ) → x ≡ get_or left i 0 → y ≡ get_or right j 0 → next-i ≡ i + from_bool (leb x y) → next-j ≡ j + from_bool (leb y x)
+      → next-count ≡ count + from_bool (not (eqb x y)) → lesser ≡ min x y → IsStep left right cells i j count next-i next-j next-count lesser
+  step_by_tests x y next-i next-j next-count lesser x-is y-is i-is j-is count-is lesser-is = elim (cases_order x y) [
+    | inl same ↦
+        let i-then : next-i ≡ i + 1 = i-is ∙ ap (λ b. i + from_bool b) (le-leb x y (omega (arith, same))) in
+        let j-then : next-j ≡ j + 1 = j-is ∙ ap (λ b. j + from_bool b) (le-leb y x (omega (arith, same))) in
+        let count-then : next-count ≡ count = count-is ∙ ap (λ b. count + from_bool (not b)) (eq-eqb x y same) ∙ add-zero count in
+        record {
+          left_within = omega (arith, i-then, i-below);
+          right_within = omega (arith, j-then, j-below);
+          few = omega (arith, i-then, j-then, count-then, few);
+          merging = λ merging. rw (i-then, j-then, count-then, take-set cells count lesser) (step_both left right (take count cells) i j i-below j-below merging (sym x-is ∙ same ∙ y-is));
+        }
+    | inr (inl less) ↦
+        let i-then : next-i ≡ i + 1 = i-is ∙ ap (λ b. i + from_bool b) (le-leb x y (omega (arith, less))) in
+        let j-then : next-j ≡ j = j-is ∙ ap (λ b. j + from_bool b) (lt-leb y x less) ∙ add-zero j in
+        let count-then : next-count ≡ count + 1 = count-is ∙ ap (λ b. count + from_bool (not b)) (ne_eqb x y (λ same. omega (arith, same, less))) in
+        let lesser-then : lesser ≡ get_or left i 0 = omega (arith, lesser-is, less, x-is) in
+        record {
+          left_within = omega (arith, i-then, i-below);
+          right_within = omega (arith, j-then, j-below);
+          few = omega (arith, i-then, j-then, count-then, few);
+          merging = λ merging. rw (i-then, j-then, count-then, lesser-then, take_more_set cells count (get_or left i 0) (omega (arith, few, room, i-below, j-below)))
+              (step_left left right (take count cells) i j i-below j-below merging (subst (λ n. get_or left i 0 < n) y-is (subst (λ n. n < y) x-is less)));
+        }
+    | inr (inr less) ↦
+        let i-then : next-i ≡ i = i-is ∙ ap (λ b. i + from_bool b) (lt-leb x y less) ∙ add-zero i in
+        let j-then : next-j ≡ j + 1 = j-is ∙ ap (λ b. j + from_bool b) (le-leb y x (omega (arith, less))) in
+        let count-then : next-count ≡ count + 1 = count-is ∙ ap (λ b. count + from_bool (not b)) (ne_eqb x y (λ same. omega (arith, same, less))) in
+        let lesser-then : lesser ≡ get_or right j 0 = omega (arith, lesser-is, less, y-is) in
+        record {
+          left_within = omega (arith, i-then, i-below);
+          right_within = omega (arith, j-then, j-below);
+          few = omega (arith, i-then, j-then, count-then, few);
+          merging = λ merging. rw (i-then, j-then, count-then, lesser-then, take_more_set cells count (get_or right j 0) (omega (arith, few, room, i-below, j-below)))
+              (step_right left right (take count cells) i j i-below j-below merging (subst (λ n. get_or right j 0 < n) x-is (subst (λ n. n < x) y-is less)));
+        }
+  ]

@@ -3,7 +3,6 @@ use Rattle.std.specs.Prelude.{◌≡◌, ℕ, suc, ◌+◌, ◌-◌, ◌<◌, Bo
 use Rattle.std.specs.Fmt.{decimal}
 use Rattle.std.specs.List.{list_any}
 use Rattle.task_order.specs.declared.task.Body.{Body}
-use Rattle.task_order.specs.declared.task.Task.{Task}
 use Rattle.rw_sets.specs.Accesses.{Accesses}
 use Rattle.rw_sets.specs.declared.access.Access.TheVariants.{Write}
 use Rattle.cell_store.specs.declared.cell.Cell.{Cell}

@@ -1,13 +1,12 @@
 -- The laws of elimination.
-use Rattle.std.specs.Prelude.{◌≡◌, ◌≢◌, ℕ, suc, ◌+◌, ◌-◌, ◌<◌, ◌≤◌, Bool, true, false, not, ◌&&◌, ◌||◌, ◌==◌, nat_lt, List, [], ◌∷◌, ◌++◌, length, map, filter, Option, Some, None, IsSome, IsTrue, IsFalse, slice_get, codes, refl}
+use Rattle.std.specs.Prelude.{◌≡◌, ℕ, suc, ◌+◌, ◌-◌, ◌<◌, ◌≤◌, Bool, true, false, not, ◌&&◌, ◌||◌, ◌==◌, List, [], ◌++◌, map, filter, Option, Some, None, IsSome, IsTrue, slice_get, codes, refl}
 use Rattle.std.specs.Fmt.{decimal}
-use Rattle.std.specs.List.{AllByRecursion, list_any}
+use Rattle.std.specs.List.{AllByRecursion}
 use Rattle.std.specs.Ordering.{nat_cmp}
 use Rattle.std.proofs.Common.{◌⊎◌, inl, inr, arith, sym, ap, ◌∙◌, subst, lit<}
 use Rattle.std.proofs.lemmas.Bool.{and_parts, and_from, or_cases, or_left, or_right, eqb-true, eq-eqb, ne_eqb, lt-ltb, le-ltb, cases_Bool, cases_lt, true≢false, false_from_ne_true}
 use Rattle.std.proofs.lemmas.List.{get_or-map}
 use Rattle.std.proofs.lemmas.Option.{slice_get-get_or, slice_get_past}
-use Rattle.task_order.specs.declared.task.Task.{Task}
 use Rattle.rw_sets.specs.Accesses.{Accesses, IsAscending, access_at, writes, allows_write, merged, Conflicts, IsWithin}
 use Rattle.rw_sets.specs.declared.access.Access.{Access}
 use Rattle.rw_sets.specs.declared.access.Access.TheVariants.{Write}
@@ -17,16 +16,15 @@ use Rattle.cell_store.specs.declared.cell.Cell.{Cell}
 use Rattle.cell_store.specs.declared.cell.Cell.TheVariants.{Home, Out}
 use Rattle.cell_store.specs.Home.{IsHome}
 use Rattle.cell_store.specs.Cells.{cell_at}
-use Rattle.cell_store.specs.Values.{AgreesWith, homes}
-use Rattle.app_laws.specs.declared.app.SetAnswer.TheVariants as answer
-use Rattle.app_laws.specs.Applications.{AgreeOn, set_in, CellsAreCounted, SetsAreInRange, IsFitOutcome, ActsAreFit, SetsAreLocal, IsSameOutcome, ActsAreLocal, ChildrenComeNoEarlier, SetsStayWithin, IsTrueAnswer, WalksAreTrue, FixedSetsAreKnown, IsSafeAlone, SafeTasksStaySafe, IsLawful, tasks_before}
+use Rattle.cell_store.specs.Values.{AgreesWith}
+use Rattle.app_laws.specs.Applications.{AgreeOn, CellsAreCounted, SetsAreInRange, IsFitOutcome, ActsAreFit, SetsAreLocal, IsSameOutcome, ActsAreLocal, ChildrenComeNoEarlier, SetsStayWithin, IsTrueAnswer, WalksAreTrue, FixedSetsAreKnown, IsSafeAlone, SafeTasksStaySafe, IsLawful, tasks_before}
 use Rattle.app_laws.specs.Execution.{children_from}
 use Rattle.mtx_reader.specs.Ascending.{IsIn, numbers_from, all_in, in_map, from_map, in_filter, from_filter, ascending_filter, in_numbers, from_numbers, ascending_numbers}
 use Rattle.gf2_eliminate.specs.declared.line.Line2.{Line2}
 use Rattle.gf2_eliminate.specs.declared.line.Line2.TheVariants.{Row, Col}
-use Rattle.gf2_eliminate.specs.Lines.{no_line, numbers_in, is_used, has, line_at, holds, is_held, listed, IsListTo, IsRow, IsColumn, AreLines}
-use Rattle.gf2_eliminate.specs.Elimination.{first_of, exactly_one, IsElimination, writing, is_shared, is_touched, set_of, shown, is_out, unless_out, walk_from, pivot_of, holds_after, line_after, lines_after, free_line, pivot_line, outcome_with, eliminated, elimination}
-use Rattle.gf2_eliminate.specs.Membership.{same_tests, any_found, any_from, any_same, filter_same, first_found, none_found, in_has, has_in, has_listed, listed_list, listed_same, row_is, column_is, length_numbers, get_numbers, line_same, line_numbers, written_in, in_written, ascending_writing, ends_with_line_feed}
+use Rattle.gf2_eliminate.specs.Lines.{no_line, numbers_in, is_used, has, line_at, holds, is_held, listed, IsRow, IsColumn, AreLines}
+use Rattle.gf2_eliminate.specs.Elimination.{first_of, exactly_one, writing, is_shared, is_touched, set_of, shown, is_out, unless_out, walk_from, pivot_of, holds_after, line_after, lines_after, outcome_with, eliminated, elimination}
+use Rattle.gf2_eliminate.specs.Membership.{any_found, any_from, any_same, filter_same, first_found, none_found, in_has, has_in, has_listed, listed_list, listed_same, row_is, column_is, length_numbers, get_numbers, line_same, line_numbers, written_in, in_written, ascending_writing, ends_with_line_feed}
 
 one_or_none : (b : Bool) → exactly_one b false ≡ b
 one_or_none true = refl

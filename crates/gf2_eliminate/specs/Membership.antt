@@ -1,12 +1,12 @@
 -- What lists have, and which lists of numbers and which lines are known by what they have.
-use Rattle.std.specs.Prelude.{◌≡◌, ℕ, zero, suc, ◌+◌, ◌-◌, ◌<◌, ◌≤◌, Bool, true, false, ◌==◌, ◌||◌, List, [], ◌∷◌, ◌++◌, length, map, filter, Option, Some, None, IsSome, IsTrue, slice_get, unwrap_or, refl}
+use Rattle.std.specs.Prelude.{◌≡◌, ℕ, zero, suc, ◌+◌, ◌-◌, ◌<◌, ◌≤◌, Bool, true, false, ◌==◌, List, [], ◌∷◌, ◌++◌, length, map, filter, Some, None, IsSome, slice_get, unwrap_or, refl}
 use Rattle.std.specs.List.{AllByRecursion, list_any}
 use Rattle.std.specs.Ordering.{nat_cmp}
 use Rattle.std.specs.declared.cmp.Ordering.TheVariants.{Less}
-use Rattle.std.proofs.Common.{◌⊎◌, inl, inr, arith, sym, ap, ◌∙◌, subst, add-zero}
-use Rattle.std.proofs.lemmas.Bool.{cond_both, or_cases, or_left, or_right, eqb-true, eq-eqb, cases_Bool, true≢false, false_from_ne_true}
+use Rattle.std.proofs.Common.{inl, inr, arith, sym, ap, ◌∙◌, subst, add-zero}
+use Rattle.std.proofs.lemmas.Bool.{or_cases, or_left, or_right, eqb-true, eq-eqb, cases_Bool, true≢false, false_from_ne_true}
 use Rattle.std.proofs.lemmas.Option.{same_Some, unwrap_or-slice_get}
-use Rattle.rw_sets.specs.Accesses.{Accesses, IsAscending, AllBeyond, access_at, writes}
+use Rattle.rw_sets.specs.Accesses.{IsAscending, AllBeyond, access_at}
 use Rattle.rw_sets.specs.AccessLaws.{ascending_none, ascending_cons}
 use Rattle.rw_sets.specs.declared.access.Access.TheVariants.{Write}
 use Rattle.app_laws.specs.Applications.{IsWholeLines}

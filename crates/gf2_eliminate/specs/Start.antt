@@ -1,10 +1,10 @@
 -- The cells and tasks that elimination begins with, and what is printed of the cells at its end.
-use Rattle.std.specs.Prelude.{ℕ, suc, ◌+◌, ◌-◌, Bool, false, ◌==◌, nat_lt, if◌then◌else◌, List, [], ◌∷◌, ◌++◌, length, map, filter, codes}
+use Rattle.std.specs.Prelude.{ℕ, suc, ◌+◌, ◌-◌, false, nat_lt, if◌then◌else◌, List, [], ◌∷◌, ◌++◌, length, map, filter, codes}
 use Rattle.std.specs.Fmt.{decimal}
 use Rattle.task_order.specs.declared.start.Start.{Start}
 use Rattle.mtx_reader.specs.declared.pattern.Pattern.{Pattern}
 use Rattle.mtx_reader.specs.Ascending.{numbers_from}
-use Rattle.mtx_reader.specs.Places.{Place, is_among}
+use Rattle.mtx_reader.specs.Places.{is_among}
 use Rattle.gf2_eliminate.specs.declared.line.Line2.{Line2}
 use Rattle.gf2_eliminate.specs.declared.line.Line2.TheVariants.{Row, Col}
 use Rattle.gf2_eliminate.specs.Lines.{numbers_in, is_used, line_at, listed}

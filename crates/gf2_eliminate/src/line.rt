@@ -74,21 +74,17 @@ pub(crate) fn sum(alloc: Global, left: &[u32], right: &[u32]) -> Result<NumList,
     ensures { (bound : ℕ) → IsListTo bound left.now → IsListTo bound right.now →
         IfOk result (λ sum. sum ≡ sum_to bound left.now right.now) }
 {
-    let mut sum = Vec::new(alloc);
-    let (mut i, mut j) = (0, 0);
+    let mut sum = vec![in alloc; 0; left.len() + right.len()]?;
+    let (mut i, mut j, mut count) = (0, 0, 0);
+    // Which of the two is less can't be foretold, so no branch asks it.
     while i < left.len() && j < right.len() {
         let (x, y) = (left[i], right[j]);
-        if x < y {
-            sum.push(x)?;
-            i += 1;
-        } else if y < x {
-            sum.push(y)?;
-            j += 1;
-        } else {
-            i += 1;
-            j += 1;
-        }
+        sum[count] = x.min(y);
+        i += usize::from(x <= y);
+        j += usize::from(y <= x);
+        count += usize::from(x != y);
     }
+    sum.truncate(count);
     sum.extend_from_slice(&left[i..])?;
     sum.extend_from_slice(&right[j..])?;
     Ok(NumList::from_vec(sum))

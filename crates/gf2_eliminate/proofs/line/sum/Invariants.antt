@@ -1,4 +1,4 @@
-use Rattle.std.proofs.Common.{◌≤◌, ◌+◌, ◌-◌, length, drop}
+use Rattle.std.proofs.Common.{◌≡◌, ◌≤◌, ◌+◌, ◌-◌, length, drop, take}
 use Rattle.std.specs.Ordering.{nat_cmp}
 use Rattle.mtx_reader.specs.Ascending.{IsAscendingBy}
 use Rattle.gf2_eliminate.proofs.Sums.{IsMerging}
@@ -8,7 +8,9 @@ abbrev pub invariant-loop-i : goal.invariant-loop-i
 invariant-loop-i l = record {
   left_within : l.i ≤ length l.left;
   right_within : l.j ≤ length l.right;
-  merging : IsAscendingBy nat_cmp l.left → IsAscendingBy nat_cmp l.right → IsMerging l.left l.right l.sum.items (drop l.i l.left) (drop l.j l.right);
+  room : length l.sum.items ≡ length l.left + length l.right;
+  few : l.count ≤ l.i + l.j;
+  merging : IsAscendingBy nat_cmp l.left → IsAscendingBy nat_cmp l.right → IsMerging l.left l.right (take l.count l.sum.items) (drop l.i l.left) (drop l.j l.right);
 }
 
 abbrev pub decreases-loop-i : goal.decreases-loop-i

@@ -1,4 +1,4 @@
-use Rattle.std.specs.Prelude.{ℕ, ◌+◌, ◌-◌}
+use Rattle.std.specs.Prelude.{◌+◌, ◌-◌}
 use Rattle.std.proofs.Common.{get_or, subst, sym, ap, ◌∙◌}
 use Rattle.gf2_eliminate.specs.declared.line.Line2.TheVariants.{Col}
 use Rattle.gf2_eliminate.specs.Lines.{numbers_in, IsListTo}

@@ -1,4 +1,4 @@
-use Rattle.std.specs.Prelude.{ℕ, ◌-◌}
+use Rattle.std.specs.Prelude.{◌-◌}
 use Rattle.std.proofs.Common.{get_or}
 use Rattle.gf2_eliminate.specs.Lines.{numbers_in, IsListTo}
 use Rattle.gf2_eliminate.specs.Plans.{line_in, row_then}

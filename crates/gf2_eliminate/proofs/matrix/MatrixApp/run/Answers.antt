@@ -1,4 +1,4 @@
-use Rattle.std.specs.Prelude.{◌≡◌, ℕ, ◌+◌, [], map, List, IsTrue}
+use Rattle.std.specs.Prelude.{ℕ, ◌+◌, map, IsTrue}
 use Rattle.std.specs.List.{AllByRecursion}
 use Rattle.std.proofs.Common.{arith, sym, ap, ◌∙◌, subst}
 use Rattle.rw_sets.specs.Accesses.{writes}
