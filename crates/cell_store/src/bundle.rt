@@ -1,4 +1,4 @@
-ghost use Rattle.std.specs.Prelude.{◌≡◌, IsTrue, IsSome};
+ghost use Rattle.std.specs.Prelude.{◌≡◌, length, IsTrue, IsSome};
 ghost use Rattle.std.specs.Borrow.{sem};
 ghost use Rattle.rw_sets.specs.Accesses.{access_at, writes};
 ghost use Rattle.cell_store.specs.declared.cell.Cell.TheVariants.{Home};
@@ -30,6 +30,13 @@ impl<V> Model for Bundle<V> {
 }
 
 impl<V> Bundle<V> {
+    /// How many cells it has, as many as locations in its set.
+    pub fn len(&self) -> usize
+        ensures { result ≡ length self.now.set }
+    {
+        self.cells.len()
+    }
+
     /// The value at a location of the set.
     pub fn get(&self, loc: u32) -> &V
         requires { IsSome (access_at self.now.set loc) }

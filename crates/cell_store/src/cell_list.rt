@@ -17,6 +17,15 @@ pub(crate) enum CellList<V> {
 }
 
 impl<V> CellList<V> {
+    pub(crate) fn len(&self) -> usize
+        ensures { result ≡ length (cells_of self.now) }
+    {
+        match self {
+            CellList::InPlace(few) => few.len(),
+            CellList::InMemory(cells) => cells.len(),
+        }
+    }
+
     pub(crate) fn at(&self, i: usize) -> &Cell<V>
         requires { i < length (cells_of self.now) }
         ensures { result.now ≡ slice_index_or (cells_of self.now) i result.now }

@@ -17,7 +17,7 @@ pub(crate) struct FewCells<V> {
 }
 
 impl<V> FewCells<V> {
-    ghost use Rattle.std.specs.Prelude.{◌≡◌, ◌<◌, replicate, slice_index_or};
+    ghost use Rattle.std.specs.Prelude.{◌≡◌, ◌<◌, length, replicate, slice_index_or};
     ghost use Rattle.std.specs.Borrow.{sem};
     ghost use Rattle.cell_store.specs.declared.cell.Cell.TheVariants.{Out};
     ghost use Rattle.cell_store.specs.Storage.{cells_in};
@@ -35,6 +35,12 @@ impl<V> FewCells<V> {
             fourth: Cell::Out,
             len,
         }
+    }
+
+    pub(crate) fn len(&self) -> usize
+        ensures { result ≡ length (cells_in self.now) }
+    {
+        self.len
     }
 
     pub(crate) fn at(&self, i: usize) -> &Cell<V>

@@ -1,6 +1,6 @@
 //! How the jobs of a round are performed by some workers.
 
-ghost use Rattle.std.specs.Prelude.{◌≡◌, ◌≤◌, IfOk, IsPermutation, reverse};
+ghost use Rattle.std.specs.Prelude.{◌≡◌, ◌-◌, ◌≤◌, ◌^◌, min, length, sum_by, IfOk, IsPermutation, reverse};
 ghost use Rattle.std.specs.List.{All, AllByRecursion};
 ghost use Rattle.task_order.specs.TaskList.{IsAscending};
 ghost use Rattle.graph_update.specs.Engine.{MayRun};
@@ -16,9 +16,11 @@ use std::alloc::Global;
 use std::thread::{self, Threads};
 use task_order::{ascending_laws, earlier_laws};
 
-/// From so many jobs on a round is taken to be worth the threads that it starts. It is a first
-/// guess, which no measurement stands behind.
-const MANY_JOBS: usize = 256;
+/// From so many cells on, which the jobs of a round have in all, the threads for it are worth their
+/// start, which took 21, 39 and 57 microseconds for 2, 3 and 4 workers. A job of a circuit has one or
+/// two cells and took some 190 nanoseconds, by samples on a busy machine, so this is about 130
+/// microseconds of work there. Where a cell is a line of a matrix, it is more.
+const MANY_CELLS: usize = 1024;
 
 /// A worker's number and the jobs that are dealt to it.
 #[derive(Drop)]
@@ -28,7 +30,7 @@ struct Hand<V: Held> {
 }
 
 /// Performs the jobs of a round: job number `i` is worker `i mod workers`'s, and each worker
-/// performs its jobs in order. A round with few jobs, or one worker, starts no thread: the caller
+/// performs its jobs in order. A round with few cells, or one worker, starts no thread: the caller
 /// performs the workers' jobs, one worker after the other. Gives what was done in descending order
 /// of keys, so that the earliest is the last one of the list.
 pub(crate) fn perform_jobs<R: Threads + Sync, A: App + Sync, G: Gate + Sync>(
@@ -47,11 +49,22 @@ pub(crate) fn perform_jobs<R: Threads + Sync, A: App + Sync, G: Gate + Sync>(
 {
     ascending_laws();
     earlier_laws();
-    let alone = workers == 1 || jobs.len() < MANY_JOBS;
+    let alone = workers == 1 || cells_in(&jobs) < MANY_CELLS;
     let hands = deal(alloc, workers, jobs)?;
     let mut dones = perform_hands(rt, alloc, app, gate, alone, hands)?;
     sort_latest_first(&mut dones);
     Ok(dones)
+}
+
+/// How many cells the jobs have in all, or the greatest number where that is more.
+fn cells_in<V: Held>(jobs: &[Job<V>]) -> usize
+    ensures { result ≡ min (sum_by (λ job. length job.bundle.set) jobs.now) (2 ^ 64 - 1) }
+{
+    let mut cells = 0usize;
+    for job in jobs {
+        cells = cells.saturating_add(job.bundle.len());
+    }
+    cells
 }
 
 /// Deals the jobs out among the workers in turn.
