@@ -1,9 +1,11 @@
 ghost use Rattle.std.specs.Prelude.{◌≡◌, ◌<◌, ◌≤◌, length};
+ghost use Rattle.outer_edge.specs.Edge.{pull_by, push_by};
 ghost use Rattle.outer_edge.specs.Memory.{faults_after_read, faults_after_write};
 ghost use Rattle.outer_edge.specs.Reading.{CountsFailedRead, ReadGives};
 ghost use Rattle.outer_edge.specs.Writing.{CountsFailedWrite, WriteTakes};
 
 use crate::{Pull, Push, Sink, Source};
+use std::io;
 use std::io::{Read, Write};
 use std::marker::Model;
 
@@ -44,14 +46,22 @@ impl<R: Read> Source for ReadEdge<R> {
         ensures never_falls { self.old.faults ≤ self.new.faults }
         ensures count { self.new.faults ≡ faults_after_read self.old.faults result }
     {
-        match self.inner.read(buf) {
-            Ok(0) => Pull::End,
-            Ok(count) => Pull::Got(count),
-            Err(_) => {
-                self.faults = self.faults.saturating_add(1);
-                Pull::Failed
-            }
+        let pull = pull_by(self.inner.read(buf));
+        if let Pull::Failed = pull {
+            self.faults = self.faults.saturating_add(1);
         }
+        pull
+    }
+}
+
+/// What a reader's answer to a read with room for a byte says.
+fn pull_by(answer: io::Result<usize>) -> Pull
+    ensures { result ≡ pull_by answer }
+{
+    match answer {
+        Ok(0) => Pull::End,
+        Ok(count) => Pull::Got(count),
+        Err(_) => Pull::Failed,
     }
 }
 
@@ -93,12 +103,23 @@ impl<W: Write> Sink for WriteEdge<W> {
         ensures never_falls { self.old.faults ≤ self.new.faults }
         ensures count { self.new.faults ≡ faults_after_write self.old.faults result }
     {
-        match self.inner.write(piece) {
-            Ok(count) if count > 0 && self.inner.flush().is_ok() => Push::Took(count),
-            _ => {
-                self.faults = self.faults.saturating_add(1);
-                Push::Failed
-            }
+        let push = match self.inner.write(piece) {
+            Ok(count) if count > 0 => push_by(count, self.inner.flush()),
+            _ => Push::Failed,
+        };
+        if let Push::Failed = push {
+            self.faults = self.faults.saturating_add(1);
         }
+        push
+    }
+}
+
+/// What a write of so many bytes comes to, by the writer's answer to the flush after it.
+fn push_by(count: usize, flushed: io::Result<()>) -> Push
+    ensures { result ≡ push_by count flushed }
+{
+    match flushed {
+        Ok(()) => Push::Took(count),
+        Err(_) => Push::Failed,
     }
 }
