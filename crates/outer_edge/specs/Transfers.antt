@@ -39,5 +39,6 @@ pub record ReadsAll (limit : ℕ) (source : Transfer) (result : Result (List ℕ
   pub too_large : IsErrOf result faults.TooLarge → BringsMore limit source
   pub read_fault : IsErrOf result faults.ReadFault → HasFailed source
   pub before : IsErrOf result faults.ReadFault → BringsAtMost limit source
+  pub room : IsErrOf result faults.NoRoom → BringsAtMost limit source
   pub no_fault : IsErrOf result faults.ReadFault ⊎ (source.faults_after ≡ source.faults_before)
   pub never_falls : source.faults_before ≤ source.faults_after

@@ -48,6 +48,7 @@ pub fn read_all_counted<S: Source, L: Ledger>(
     steps: &mut Steps<L>,
 ) -> Result<Text, ReadAllFault>
     ensures reads_all { ReadsAll limit (transfer_of S.remaining S.faults source.old source.new) result }
+    ensures some_read { steps.old < steps.new }
     ensures few_reads { steps.new ≤ steps.old + limit + 1 }
 {
     let mut text = Text::new(alloc);

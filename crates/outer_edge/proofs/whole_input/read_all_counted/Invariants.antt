@@ -8,6 +8,7 @@ invariant-loop-count g l = record {
   within : length l.text ≤ l.limit;
   faults : g.S.Source.faults l.source ≡ g.S.Source.faults l.initial.source;
   some : length l.buffer ≡ 8192;
+  counted : l.initial.steps ≤ l.steps;
   reads : l.steps ≤ l.initial.steps + length l.text;
 }
 
