@@ -1,4 +1,4 @@
-//! Worked examples through the top call, over sources and sinks in memory, and through the engine.
+//! Worked examples through the top call, over sources and sinks in memory.
 //! There is no code here but tests.
 #![tactic(auto)]
 
@@ -6,8 +6,6 @@
 mod answering;
 #[cfg(test)]
 mod decks;
-#[cfg(test)]
-mod engine;
 #[cfg(test)]
 mod examples;
 #[cfg(test)]

@@ -1,7 +1,16 @@
 //! The engine by its calls: what each of them answers, whatever order tasks are claimed and end in.
+//! There is no code here but tests.
+#![tactic(auto)]
 
+#[cfg(test)]
 mod circuits;
+#[cfg(test)]
+mod decks;
+#[cfg(test)]
 mod driving;
+#[cfg(test)]
 mod meetings;
+#[cfg(test)]
 mod rounds;
+#[cfg(test)]
 mod trials;

@@ -3,7 +3,7 @@
 ghost use Rattle.std.specs.Prelude.{◌≡◌, ◌≤◌, ◌<◌};
 
 use super::circuits::circuit_of;
-use crate::decks::C17;
+use super::decks::C17;
 use app_laws::Finals;
 use graph_update::Engine;
 use kdg_text::Steps;

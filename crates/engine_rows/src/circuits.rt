@@ -2,13 +2,13 @@
 
 ghost use Rattle.std.specs.Prelude.{◌≤◌, [], IfOk};
 ghost use Rattle.logic_sim.specs.Meaning.{simulation};
-ghost use Rattle.kdg_rows.specs.InHand.{AreInHand};
+ghost use Rattle.engine_rows.specs.InHand.{AreInHand};
 
+use super::decks::C17;
 use super::driving::{Answer, begin};
 use super::trials::{
     answer_after, answer_given_up, counts_after, end_at_once, first_done, first_end,
 };
-use crate::decks::C17;
 use app_laws::{Child, Effect};
 use bench_reader::read_deck;
 use graph_update::{BeginFault, Counts, Engine, FinishFault, OverCause};

@@ -5,8 +5,8 @@ use Rattle.rw_sets.specs.declared.access.Access.{Access}
 use Rattle.rw_sets.specs.Accesses.{Accesses, access_at}
 use Rattle.kdg_graph.specs.Node.{Node}
 use Rattle.kdg_graph.specs.Nodes.{node_with_key, set_at}
-use Rattle.kdg_rows.proofs.Hands.{set_left}
-use Rattle.kdg_rows.proofs.engine.driving.value_left.Goals as goal
+use Rattle.engine_rows.proofs.Hands.{set_left}
+use Rattle.engine_rows.proofs.driving.value_left.Goals as goal
 
 pub get-requires : goal.get-requires
 get-requires g c =

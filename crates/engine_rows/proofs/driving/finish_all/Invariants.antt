@@ -1,6 +1,6 @@
 use Rattle.std.proofs.Common.{length}
-use Rattle.kdg_rows.specs.InHand.{AreInHand}
-use Rattle.kdg_rows.proofs.engine.driving.finish_all.Given as goal
+use Rattle.engine_rows.specs.InHand.{AreInHand}
+use Rattle.engine_rows.proofs.driving.finish_all.Given as goal
 
 abbrev pub invariant-loop-engine : goal.invariant-loop-engine
 invariant-loop-engine g l = AreInHand (g.A.App.meaning l.engine.app) l.engine.progress l.jobs.items

@@ -1,8 +1,8 @@
 use Rattle.std.proofs.Common.{sym, subst}
 use Rattle.app_laws.specs.Applications.{IsEffect}
 use Rattle.graph_update.specs.Engine.{MayRun}
-use Rattle.kdg_rows.proofs.Hands.{done_beside, is_done, may_run_at}
-use Rattle.kdg_rows.proofs.engine.driving.perform_at.Goals as goal
+use Rattle.engine_rows.proofs.Hands.{done_beside, is_done, may_run_at}
+use Rattle.engine_rows.proofs.driving.perform_at.Goals as goal
 
 pub perform-requires-after_bounds : goal.perform-requires-after_bounds
 perform-requires-after_bounds g c κs within =

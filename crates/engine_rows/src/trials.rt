@@ -1,7 +1,7 @@
 //! Whole trials: an engine that has begun is driven, and what there is to see is handed out.
 
 ghost use Rattle.std.specs.Prelude.{[]};
-ghost use Rattle.kdg_rows.specs.InHand.{AreInHand};
+ghost use Rattle.engine_rows.specs.InHand.{AreInHand};
 
 use super::driving::{
     Answer, answer_of, claim, finish, finish_all, give_first_tasks, gives, perform_next, value_left,

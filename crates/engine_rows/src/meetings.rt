@@ -3,7 +3,7 @@
 ghost use Rattle.std.specs.Prelude.{◌≡◌, ◌<◌, ◌^◌, [], length, true, IfOk};
 ghost use Rattle.app_laws.specs.Applications.{AreFitStarts};
 ghost use Rattle.example_app.specs.Introduction.{AreContacts, introductions};
-ghost use Rattle.kdg_rows.specs.InHand.{AreInHand};
+ghost use Rattle.engine_rows.specs.InHand.{AreInHand};
 
 use super::driving::{Answer, begin, claims_answer, finish_at};
 use app_laws::App;

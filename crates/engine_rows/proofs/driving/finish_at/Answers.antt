@@ -1,7 +1,7 @@
 use Rattle.std.proofs.Common.{sym, subst}
-use Rattle.kdg_rows.specs.InHand.{AreInHand}
-use Rattle.kdg_rows.proofs.Hands.{after_finish}
-use Rattle.kdg_rows.proofs.engine.driving.finish_at.Goals as goal
+use Rattle.engine_rows.specs.InHand.{AreInHand}
+use Rattle.engine_rows.proofs.Hands.{after_finish}
+use Rattle.engine_rows.proofs.driving.finish_at.Goals as goal
 
 pub returns-in-Ok-finish-clause-in_hand : goal.returns-in-Ok-finish-clause-in_hand
 returns-in-Ok-finish-clause-in_hand g c =

@@ -21,7 +21,7 @@ use Rattle.graph_update.specs.Engine.{FinishStaysSound, IsDone, MayRun, StaysSou
 use Rattle.graph_update.specs.Jobs.{JobsMayRun}
 use Rattle.graph_update.specs.Progress.{Progress}
 use Rattle.graph_update.specs.Sound.{IsOfNode}
-use Rattle.kdg_rows.specs.InHand.{AreInHand, IsDoneBeside}
+use Rattle.engine_rows.specs.InHand.{AreInHand, IsDoneBeside}
 
 -- ---- lists
 

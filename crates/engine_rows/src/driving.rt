@@ -3,7 +3,7 @@
 ghost use Rattle.std.specs.Prelude.{◌≡◌, ◌+◌, ◌<◌, ◌≤◌, ◌^◌, [], length, IfOk, IfErr, IfSome, OnOk};
 ghost use Rattle.app_laws.specs.Applications.{AreFitStarts};
 ghost use Rattle.graph_update.specs.Engine.{FinishStaysSound, IsBeginFault, IsDone};
-ghost use Rattle.kdg_rows.specs.InHand.{AreInHand, IsDoneBeside};
+ghost use Rattle.engine_rows.specs.InHand.{AreInHand, IsDoneBeside};
 
 use app_laws::App;
 use cell_store::Held;
