@@ -9,7 +9,11 @@ mod decks;
 #[cfg(test)]
 mod driving;
 #[cfg(test)]
+mod matrices;
+#[cfg(test)]
 mod meetings;
+#[cfg(test)]
+mod recorded_sets;
 #[cfg(test)]
 mod rounds;
 #[cfg(test)]

@@ -1,17 +1,16 @@
 //! The engine on introductions, whose sets move.
 
-ghost use Rattle.std.specs.Prelude.{◌≡◌, ◌<◌, ◌^◌, [], length, true, IfOk};
+ghost use Rattle.std.specs.Prelude.{◌≡◌, ◌<◌, ◌^◌, [], length, IfOk};
 ghost use Rattle.app_laws.specs.Applications.{AreFitStarts};
 ghost use Rattle.example_app.specs.Introduction.{AreContacts, introductions};
 ghost use Rattle.engine_rows.specs.InHand.{AreInHand};
 
-use super::driving::{Answer, begin, claims_answer, finish_at};
-use app_laws::App;
+use super::driving::begin;
+use super::recorded_sets::{Accesses, Turn, has_sets_in_turn};
 use example_app::Introductions;
-use graph_update::{BeginFault, Engine, Job};
-use kdg_graph::Graph;
+use graph_update::{BeginFault, Engine};
 use kdg_text::NoRoom;
-use rw_sets::Access::{self, Read, Write};
+use rw_sets::Access::{Read, Write};
 use std::alloc::Global;
 use std::test::Fail;
 use task_order::{Body, Key, Path, Start, StartList};
@@ -59,20 +58,11 @@ fn begin_meetings(
     begin(alloc, app, contacts(alloc)?, first, 1000)
 }
 
-/// Whether this is the recorded set of the last of the three meetings, which is pending.
-fn is_last_set(graph: &Graph, alloc: Global, set: &[(u32, Access)]) -> Result<bool, NoRoom> {
-    let path = Path::root(alloc, 2)?;
-    match graph.find(&Key { prio: 1, path }) {
-        Some(node) => Ok(graph.set(node).items() == set),
-        None => Ok(false),
-    }
-}
-
 /// The set that the third meeting declares at first.
-const DECLARED: [(u32, Access); 4] = [(4, Read), (6, Read), (8, Write), (9, Write)];
+const DECLARED: Accesses = &[(4, Read), (6, Read), (8, Write), (9, Write)];
 
 /// The same, merged with the set of the first meeting.
-const MERGED: [(u32, Access); 7] = [
+const MERGED: Accesses = &[
     (0, Read),
     (1, Read),
     (4, Write),
@@ -83,51 +73,19 @@ const MERGED: [(u32, Access); 7] = [
 ];
 
 /// The set that the third meeting declares once the others have ended.
-const MOVED: [(u32, Access); 4] = [(4, Read), (5, Write), (6, Read), (7, Write)];
+const MOVED: Accesses = &[(4, Read), (5, Write), (6, Read), (7, Write)];
 
-/// Two tasks are claimed and no third is given; then the first ends, and then the second. Whether
-/// meanwhile the third meeting's recorded set is each of these in turn.
-fn has_sets_in_turn<A: App>(
-    alloc: Global,
-    engine: Engine<'_, A>,
-    sets: [&[(u32, Access)]; 3],
-) -> Result<bool, NoRoom>
-    requires { AreInHand (A.meaning engine.app) engine.progress [] }
-{
-    let mut engine = engine;
-    let mut jobs = Vec::new(alloc);
-    let answers = [Answer::Job, Answer::Job, Answer::NotYet];
-    if !claims_answer(&mut engine, &mut jobs, &answers)? {
-        return Ok(false);
-    }
-    if !is_last_set(engine.graph(), alloc, sets[0])? {
-        return Ok(false);
-    }
-    if !ends(&mut engine, &mut jobs, 1) {
-        return Ok(false);
-    }
-    if !is_last_set(engine.graph(), alloc, sets[1])? {
-        return Ok(false);
-    }
-    if !ends(&mut engine, &mut jobs, 0) {
-        return Ok(false);
-    }
-    is_last_set(engine.graph(), alloc, sets[2])
-}
-
-/// Whether there is a job at a place among those in hand, and its task ends.
-fn ends<A: App>(engine: &mut Engine<'_, A>, jobs: &mut Vec<Job<A::Val>>, place: usize) -> bool
-    requires { AreInHand (A.meaning engine.old.app) engine.old.progress jobs.old.items }
-    ensures { result ≡ true → AreInHand (A.meaning engine.new.app) engine.new.progress jobs.new.items }
-{
-    if place >= jobs.len() {
-        return false;
-    }
-    match finish_at(engine, jobs, place) {
-        Ok(()) => true,
-        Err(_) => false,
-    }
-}
+/// The first meeting ends, and then the second.
+const TURNS: [Turn; 2] = [
+    Turn {
+        place: 1,
+        sets: &[MERGED],
+    },
+    Turn {
+        place: 0,
+        sets: &[MOVED],
+    },
+];
 
 /// The third meeting waits for both others. Where the first one ends while the second has the cell
 /// of a host away, its recorded set is merged; where the second one ends, it is the declared set.
@@ -135,7 +93,10 @@ fn ends<A: App>(engine: &mut Engine<'_, A>, jobs: &mut Vec<Job<A::Val>>, place: 
 fn sets_are_merged_while_a_cell_is_away(rt: HostRuntime) -> Result<(), Fail> {
     let app = Introductions::new(rt.alloc(), 10);
     let engine = begin_meetings(rt.alloc(), &app, three_meetings(rt.alloc())?)?;
-    let sets = [DECLARED.as_slice(), MERGED.as_slice(), MOVED.as_slice()];
-    assert!(rt; has_sets_in_turn(rt.alloc(), engine, sets)?);
+    let third = Key {
+        prio: 1,
+        path: Path::root(rt.alloc(), 2)?,
+    };
+    assert!(rt; has_sets_in_turn(rt.alloc(), engine, &[third], &[DECLARED], &TURNS)?);
     Ok(())
 }
