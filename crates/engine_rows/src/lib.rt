@@ -13,6 +13,8 @@ mod matrices;
 #[cfg(test)]
 mod meetings;
 #[cfg(test)]
+mod random_runs;
+#[cfg(test)]
 mod recorded_sets;
 #[cfg(test)]
 mod rounds;

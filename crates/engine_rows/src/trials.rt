@@ -6,7 +6,7 @@ ghost use Rattle.engine_rows.specs.InHand.{AreInHand};
 use super::driving::{
     Answer, answer_of, claim, finish, finish_all, give_first_tasks, gives, perform_next, value_left,
 };
-use app_laws::App;
+use app_laws::{App, Finals};
 use cell_store::Held;
 use graph_update::{Counts, Done, Engine, FinishFault};
 use kdg_text::{NoRoom, Text};
@@ -114,8 +114,16 @@ pub fn end_at_once<A: App>(engine: Engine<'_, A>) -> Result<(Answer, Text, Optio
 
 /// How many tasks have ended, where none is pending.
 fn end_count<A: App>(engine: Engine<'_, A>) -> Option<u64> {
+    match finals_of(engine) {
+        Some(finals) => Some(finals.count),
+        None => None,
+    }
+}
+
+/// What an engine comes to, where no task is pending.
+pub fn finals_of<A: App>(engine: Engine<'_, A>) -> Option<Finals<A::Val>> {
     match engine.graph().least() {
         Some(_) => None,
-        None => Some(engine.end().count),
+        None => Some(engine.end()),
     }
 }
