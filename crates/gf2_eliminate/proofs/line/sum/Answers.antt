@@ -11,8 +11,8 @@ loop-i-preserved c =
     let right = c.args.right.now in
     let loop = c.loop-i in
     let step = step_by_tests left right loop.sum.items loop.i loop.j loop.count c.loop-i-test.true c.if-j-right.true loop.invariant.few loop.invariant.room (get_or left loop.i 0) (get_or right loop.j 0)
-        (loop.i + c.from-i.result) (loop.j + c.from-j.result) (loop.count + c.from-count.result) c.min.result refl refl
-        (ap (λ n. loop.i + n) c.from-i.ensures) (ap (λ n. loop.j + n) c.from-j.ensures) (ap (λ n. loop.count + n) c.from-count.ensures) c.min.ensures in
+    (loop.i + c.from-i.result) (loop.j + c.from-j.result) (loop.count + c.from-count.result) c.min.result refl refl
+    (ap (λ n. loop.i + n) c.from-i.ensures) (ap (λ n. loop.j + n) c.from-j.ensures) (ap (λ n. loop.count + n) c.from-count.ensures) c.min.ensures in
     record {
       left_within = step.left_within;
       right_within = step.right_within;
