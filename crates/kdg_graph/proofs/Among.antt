@@ -1,5 +1,5 @@
 -- Some nodes of a graph by their ids, in key order.
-use Rattle.std.proofs.Common.{◌≡◌, ◌≢◌, ℕ, zero, suc, ◌<◌, ◌≤◌, Bool, true, false, not, cond, List, [], ◌∷◌, length, get_or, Option, Some, None, refl, sym, ◌∙◌, ap, subst, arith}
+use Rattle.std.proofs.Common.{◌≡◌, ◌≢◌, ℕ, zero, suc, ◌<◌, Bool, true, false, cond, List, [], ◌∷◌, length, get_or, Option, Some, None, refl, sym, ◌∙◌, ap, subst, arith}
 use Rattle.std.specs.Prelude.{Contains, IsSome}
 use Rattle.std.specs.Cmp.{tied_itself}
 use Rattle.std.specs.List.{AllByRecursion, filter, insert, remove}
@@ -8,7 +8,7 @@ use Rattle.slab.specs.Slab.{Slab, get}
 use Rattle.task_order.specs.Key.{key_cmp, key_cmp_total}
 use Rattle.task_order.specs.TaskList.{IsAscending}
 use Rattle.kdg_graph.specs.declared.node_id.NodeId.{NodeId}
-use Rattle.kdg_graph.specs.Lanes.{AreStored, IsLane, IsRank, IsStored, nodes_in}
+use Rattle.kdg_graph.specs.Lanes.{IsLane, IsRank, IsStored, nodes_in}
 use Rattle.kdg_graph.specs.Locations.{IsLaneAmong}
 use Rattle.kdg_graph.specs.Node.{Node}
 use Rattle.kdg_graph.specs.NodeStock.{IsPlaceOf}
@@ -18,10 +18,10 @@ use Rattle.kdg_graph.proofs.Filtered.{ascending_filtered}
 use Rattle.kdg_graph.proofs.Keeping.{ids-insert, ids-remove}
 use Rattle.kdg_graph.proofs.Lanes.{id_there, length-ids, some_node}
 use Rattle.kdg_graph.proofs.LookUps.{found_by_id, ids_find_nodes, nodes_have_ids}
-use Rattle.kdg_graph.proofs.Members.{all_at, all_from, from_filter, in_map, there as later_too}
+use Rattle.kdg_graph.proofs.Members.{all_at, all_from, from_filter, there as later_too}
 use Rattle.kdg_graph.proofs.Neighbours.{same_found}
 use Rattle.kdg_graph.proofs.Ordering.{insert_at_point}
-use Rattle.kdg_graph.proofs.Places.{id_at-place, is_at-same, place_inside, same_id, without-place, without_none}
+use Rattle.kdg_graph.proofs.Places.{id_at-place, place_inside, without-place, without_none}
 use Rattle.kdg_graph.proofs.Storing.{place_by_rank}
 
 pub graph_among : (nodes : List Node) → IsGraph nodes → IsLaneAmong nodes nodes (ids_of nodes)

@@ -1,12 +1,11 @@
 -- A node is blocked where the first of the nodes at some location of its set is earlier.
-use Rattle.std.proofs.Common.{◌≡◌, ℕ, Bool, true, false, ◌||◌, List, [], ◌∷◌, Option, Some, None, refl, sym, ◌∙◌, ap, subst, arith, inl, inr}
+use Rattle.std.proofs.Common.{◌≡◌, ℕ, Bool, true, false, List, [], ◌∷◌, Option, Some, None, refl, sym, ◌∙◌, ap, subst, arith, inl, inr}
 use Rattle.std.specs.Prelude.{Contains}
-use Rattle.std.specs.List.{AllByRecursion, list_any}
+use Rattle.std.specs.List.{list_any}
 use Rattle.std.specs.Ordering.{is_lt}
-use Rattle.std.specs.declared.cmp.Ordering.TheVariants.{Less}
 use Rattle.std.proofs.lemmas.Bool.{cases_eq, false≢true, or_cases, or_left, or_right}
 use Rattle.task_order.specs.declared.key.Key.{Key}
-use Rattle.task_order.specs.Key.{key_cmp, key_cmp_total}
+use Rattle.task_order.specs.Key.{key_cmp_total}
 use Rattle.task_order.specs.TaskList.{IsAscending}
 use Rattle.rw_sets.specs.declared.access.Access.{Access}
 use Rattle.rw_sets.specs.AccessLaws.{access_first, access_other, absent_beyond, ascending_first, ascending_rest}

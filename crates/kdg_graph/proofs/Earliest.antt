@@ -1,5 +1,5 @@
 -- The first of the nodes that pass one test or another.
-use Rattle.std.proofs.Common.{◌≡◌, ℕ, suc, ◌<◌, Bool, true, false, ◌||◌, cond, List, [], ◌∷◌, ◌++◌, length, take, get_or, Option, Some, None, refl, sym, ◌∙◌, ap, subst, arith}
+use Rattle.std.proofs.Common.{◌≡◌, ℕ, suc, ◌<◌, Bool, true, false, ◌||◌, cond, List, [], ◌∷◌, length, take, get_or, Option, Some, None, refl, sym, ◌∙◌, ap, subst}
 use Rattle.std.specs.Prelude.{Contains, IfSome, IsSome}
 use Rattle.std.specs.List.{AllByRecursion, filter, list_any}
 use Rattle.std.proofs.Math.Seq.{take-suc}
@@ -18,7 +18,7 @@ use Rattle.kdg_graph.specs.Nodes.{HasNode, IsGraph, ids_of, later_than, least_of
 use Rattle.kdg_graph.proofs.Among.{among_filtered, graph_among}
 use Rattle.kdg_graph.proofs.Blocking.{access_of}
 use Rattle.kdg_graph.proofs.Filtered.{ascending_filtered, dropped, filters_commute, kept, same_filter}
-use Rattle.kdg_graph.proofs.Fronting.{filter_within, none_first, some_first}
+use Rattle.kdg_graph.proofs.Fronting.{filter_within, some_first}
 use Rattle.kdg_graph.proofs.LookUps.{key_later, nodes_have_ids}
 use Rattle.kdg_graph.proofs.Members.{all_at, from_filter, here, there}
 use Rattle.kdg_graph.proofs.Ordering.{Less_from_test, all_later, filter-all, is_before, not_itself, turned}

@@ -12,11 +12,10 @@ use Rattle.task_order.specs.TaskList.{IsAscending}
 use Rattle.kdg_graph.specs.declared.node_id.NodeId.{NodeId}
 use Rattle.kdg_graph.specs.Locations.{put_if}
 use Rattle.kdg_graph.specs.Node.{Node}
-use Rattle.kdg_graph.specs.Nodes.{HaveSets, IsGraph, is_at, node_at, put_node, tasks_of}
+use Rattle.kdg_graph.specs.Nodes.{IsGraph, is_at, node_at, put_node, tasks_of}
 use Rattle.kdg_graph.specs.Rewrite.{without}
 use Rattle.kdg_graph.proofs.LookUps.{ids_find_nodes, key_later}
 use Rattle.kdg_graph.proofs.Members.{here, there}
-use Rattle.kdg_graph.proofs.Neighbours.{own_filtered}
 use Rattle.kdg_graph.proofs.Ordering.{Less_from_test, is_before, not_itself}
 use Rattle.kdg_graph.proofs.Places.{none_at, same_id, without_none}
 

@@ -1,5 +1,5 @@
 -- The places of the nodes that one node may block alone.
-use Rattle.std.proofs.Common.{◌≡◌, ℕ, zero, suc, ◌+◌, ◌-◌, ◌<◌, ◌≤◌, Bool, true, false, ◌||◌, cond, List, [], ◌∷◌, length, take, drop, get_or, Option, Some, None, refl, sym, ◌∙◌, ap, subst, arith}
+use Rattle.std.proofs.Common.{◌≡◌, ℕ, zero, suc, ◌+◌, ◌-◌, ◌<◌, ◌≤◌, Bool, true, false, cond, List, [], ◌∷◌, length, take, drop, get_or, Option, Some, None, refl, sym, ◌∙◌, ap, subst, arith}
 use Rattle.std.specs.Prelude.{Contains}
 use Rattle.std.specs.List.{AllByRecursion, filter}
 use Rattle.std.specs.declared.cmp.Ordering.TheVariants.{Less}
@@ -19,7 +19,7 @@ use Rattle.kdg_graph.specs.Nodes.{IsGraph, ids_of, later_than, least_of, node_at
 use Rattle.kdg_graph.proofs.Filtered.{ascending_filtered, dropped, filters_commute, kept}
 use Rattle.kdg_graph.proofs.LookUps.{key_later, nodes_have_ids}
 use Rattle.kdg_graph.proofs.Members.{from_filter, here}
-use Rattle.kdg_graph.proofs.Ordering.{Less_from_test, earlier_at, not_itself, turned}
+use Rattle.kdg_graph.proofs.Ordering.{Less_from_test, not_itself, turned}
 use Rattle.kdg_graph.proofs.Pasts.{drop_past, is_past}
 
 -- ---- the nodes behind a place

@@ -13,7 +13,6 @@ use Rattle.task_order.specs.TaskList.{IsAscending}
 use Rattle.rw_sets.specs.declared.access.Access.{Access}
 use Rattle.rw_sets.specs.declared.access.Access.TheVariants.{Read, Write}
 use Rattle.rw_sets.specs.Accesses.{Accesses, access_at, allows_write, clash, conflicts_with, writes}
-use Rattle.kdg_graph.specs.declared.node_id.NodeId.{NodeId}
 use Rattle.kdg_graph.specs.Node.{Node}
 use Rattle.kdg_graph.specs.Nodes.{earlier_than, ids_of, is_at, later_than, put_node, tasks_of}
 use Rattle.kdg_graph.specs.Edges.{is_blocked, is_source}
@@ -22,7 +21,7 @@ use Rattle.kdg_graph.specs.Fronts.{fronts_after}
 use Rattle.kdg_graph.specs.Selected.{is_among}
 use Rattle.kdg_graph.proofs.Blocking.{any_from, has_access, pair_of, some_passes}
 use Rattle.kdg_graph.proofs.Filtered.{ascending_filtered}
-use Rattle.kdg_graph.proofs.Members.{all_at, all_from, cases, from_filter, here, in_filter, in_map, none, none_passes, there}
+use Rattle.kdg_graph.proofs.Members.{all_at, cases, from_filter, here, in_filter, in_map, none, there}
 use Rattle.kdg_graph.proofs.Ordering.{is_before}
 use Rattle.kdg_graph.proofs.Places.{is_at-same}
 

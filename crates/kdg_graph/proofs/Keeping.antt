@@ -1,5 +1,5 @@
 -- What a list of nodes keeps, whatever is done to it.
-use Rattle.std.proofs.Common.{◌≡◌, ◌≢◌, ℕ, zero, suc, Bool, true, false, cond, unwrap_or, Some, None, List, [], ◌∷◌, map, get_or, set, refl, sym, ◌∙◌, ap, subst}
+use Rattle.std.proofs.Common.{◌≡◌, ◌≢◌, ℕ, zero, suc, Bool, true, false, cond, unwrap_or, Some, None, List, [], ◌∷◌, map, set, refl, sym, ◌∙◌, ap, subst}
 use Rattle.std.specs.List.{AllByRecursion, insert, remove}
 use Rattle.std.specs.Option.{option_map}
 use Rattle.std.specs.Ordering.{is_lt}
@@ -14,9 +14,7 @@ use Rattle.kdg_graph.specs.declared.node_id.NodeId.{NodeId}
 use Rattle.kdg_graph.specs.declared.change.SetChange.{SetChange}
 use Rattle.kdg_graph.specs.Node.{Node}
 use Rattle.kdg_graph.specs.Nodes.{IsGraph, HaveOwnIds, HaveSets, ids_of, is_at, put_node, started, tasks_of}
-use Rattle.kdg_graph.specs.NodeStock.{IsPlaceOf}
 use Rattle.kdg_graph.specs.Rewrite.{set_after, with_sets}
-use Rattle.kdg_graph.proofs.Places.{is_at-same, id_at-place}
 use Rattle.kdg_graph.proofs.Ordering.{tasks-put_node}
 
 -- ---- a change that keeps each node's id and task

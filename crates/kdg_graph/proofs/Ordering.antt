@@ -1,8 +1,7 @@
 -- Nodes in key order.
-use Rattle.std.proofs.Common.{◌≡◌, ℕ, zero, suc, ◌+◌, ◌<◌, ◌≤◌, Bool, true, false, cond, List, [], ◌∷◌, length, take, drop, get_or, Option, Some, None, refl, sym, ◌∙◌, ap, subst, arith, add-one, not, ◌&&◌, ◌==◌}
-use Rattle.std.specs.List.{AllByRecursion, filter, insert, list_any}
+use Rattle.std.proofs.Common.{◌≡◌, ℕ, zero, suc, ◌<◌, ◌≤◌, Bool, true, false, cond, List, [], ◌∷◌, length, get_or, Option, Some, None, refl, sym, ◌∙◌, ap, arith}
+use Rattle.std.specs.List.{AllByRecursion, filter, insert}
 use Rattle.std.specs.Cmp.{tied_itself}
-use Rattle.std.proofs.Math.Seq.{drop-cons}
 use Rattle.std.specs.List.Sorted.{IsPartitionedBy, IsPartitionPoint}
 use Rattle.std.specs.declared.cmp.Ordering.{Ordering}
 use Rattle.std.specs.declared.cmp.Ordering.TheVariants.{Less, Equal, Greater}
@@ -12,10 +11,7 @@ use Rattle.task_order.specs.declared.task.Task.{Task}
 use Rattle.task_order.specs.Key.{key_cmp, key_cmp_total}
 use Rattle.task_order.specs.TaskList.{IsAscending, put_in}
 use Rattle.kdg_graph.specs.Node.{Node}
-use Rattle.kdg_graph.specs.Nodes.{earlier_than, ids_of, later_than, node_with_key, put_node, tasks_of}
-use Rattle.rw_sets.specs.Accesses.{conflicts_with}
-use Rattle.kdg_graph.specs.Edges.{is_source, laters_of}
-use Rattle.kdg_graph.proofs.Places.{get_or-there}
+use Rattle.kdg_graph.specs.Nodes.{node_with_key, put_node, tasks_of}
 
 -- the tasks of the nodes with one more
 pub tasks-put_node : (node : Node) (nodes : List Node) → tasks_of (put_node node nodes) ≡ put_in node.task (tasks_of nodes)

@@ -1,10 +1,9 @@
 -- Ids of the nodes that pass a test, where one comes in or goes out.
-use Rattle.std.proofs.Common.{◌≡◌, ◌≢◌, ◌⊎◌, inl, inr, ℕ, zero, suc, ◌+◌, ◌-◌, ◌<◌, ◌≤◌, ◌||◌, ◌&&◌, ◌==◌, Bool, true, false, not, cond, List, [], ◌∷◌, ◌++◌, length, take, drop, get_or, append-nil, length-drop, Option, Some, None, refl, sym, ◌∙◌, ap, subst, arith, eqb-true, eq-eqb}
+use Rattle.std.proofs.Common.{◌≡◌, ◌≢◌, inl, inr, ℕ, suc, ◌+◌, ◌-◌, ◌<◌, ◌≤◌, ◌||◌, ◌&&◌, Bool, true, false, not, cond, List, [], ◌∷◌, ◌++◌, length, take, drop, get_or, append-nil, length-drop, Option, Some, None, refl, sym, ◌∙◌, ap, subst, arith}
 use Rattle.std.specs.Prelude.{Contains, IfSome, IsSome}
 use Rattle.std.specs.List.{AllByRecursion, filter, flat_map}
 use Rattle.std.specs.Ordering.{is_lt}
 use Rattle.std.specs.declared.cmp.Ordering.TheVariants.{Less}
-use Rattle.std.proofs.lemmas.Bool.{true≢false}
 use Rattle.std.proofs.lemmas.List.{get_or-drop, map-append, take_more}
 use Rattle.std.proofs.lemmas.Grind.{flat_map-append}
 use Rattle.std.proofs.lemmas.List.Sums.{count_by-le-length, length-filter}
@@ -16,14 +15,13 @@ use Rattle.kdg_graph.specs.Node.{Node}
 use Rattle.kdg_graph.specs.Nodes.{HasNode, HaveOwnIds, IsGraph, ids_of, is_at, node_at, put_node, tasks_of}
 use Rattle.kdg_graph.specs.Edges.{is_source}
 use Rattle.kdg_graph.specs.Rewrite.{without}
-use Rattle.kdg_graph.specs.Lanes.{IsRank}
 use Rattle.rw_sets.specs.declared.access.Access.{Access}
 use Rattle.rw_sets.specs.Accesses.{Accesses}
 use Rattle.kdg_graph.specs.Locations.{IsLaneAmong, front_after}
 use Rattle.kdg_graph.specs.Fronts.{fronts_after}
-use Rattle.kdg_graph.specs.Selected.{ArePartOf, AreSelected, is_among, refreshed}
-use Rattle.kdg_graph.proofs.Members.{all_at, all_from, cases, from_filter, from_map, here, none, there}
-use Rattle.kdg_graph.proofs.Ordering.{insert_at_point, is_before, not_itself, turned}
+use Rattle.kdg_graph.specs.Selected.{AreSelected, is_among, refreshed}
+use Rattle.kdg_graph.proofs.Members.{all_at, all_from, cases, from_filter, from_map, here, none}
+use Rattle.kdg_graph.proofs.Ordering.{is_before, turned}
 use Rattle.kdg_graph.proofs.Lanes.{length-ids}
 use Rattle.kdg_graph.proofs.Places.{is_at-same, not_at, same_id}
 use Rattle.kdg_graph.proofs.LookUps.{ids_find_nodes}
@@ -51,7 +49,7 @@ put_among test more new (node ∷ nodes) up own has is_out is_in same = elim (ca
     put_here test more new node nodes up own is_out is_in same is =
         let later : AllByRecursion (λ (other : Node). is_before new.task.key other ≡ false) (filter test nodes) =
         all_from (λ (other : Node). is_before new.task.key other ≡ false) (filter test nodes) (λ other has.
-          ap (λ (n : Node). is_before n.task.key other) (sym is) ∙ turned node.task.key other.task.key (all_tasks (λ task. key_cmp node.task.key task.key ≡ Less) nodes other up.0 (from_filter test nodes other has).0)) in
+        ap (λ (n : Node). is_before n.task.key other) (sym is) ∙ turned node.task.key other.task.key (all_tasks (λ task. key_cmp node.task.key task.key ≡ Less) nodes other up.0 (from_filter test nodes other has).0)) in
         let rest : filter test nodes ≡ filter more nodes = same_filter test more nodes (λ other has.
         sym (same other (not_at new.id other (λ equal. all_at (λ (n : Node). n.id ≢ node.id) nodes other own.0 has (equal ∙ ap (λ (n : Node). n.id) (sym is)))))) in
         ap (λ b. put_node new (cond b (node ∷ filter test nodes) (filter test nodes))) (ap test is ∙ is_out)

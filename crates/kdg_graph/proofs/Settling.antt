@@ -11,7 +11,7 @@ use Rattle.rw_sets.specs.declared.access.Access.{Access}
 use Rattle.kdg_graph.specs.declared.node_id.NodeId.{NodeId}
 use Rattle.kdg_graph.specs.declared.change.SetChange.{SetChange}
 use Rattle.kdg_graph.specs.Node.{Node}
-use Rattle.kdg_graph.specs.Nodes.{HaveOwnIds, IsGraph, earlier_than, ids_of, is_at, later_than, node_at, put_node, started, tasks_of}
+use Rattle.kdg_graph.specs.Nodes.{HaveOwnIds, IsGraph, earlier_than, ids_of, is_at, node_at, put_node, started, tasks_of}
 use Rattle.kdg_graph.specs.Edges.{is_blocked, is_source, sources_of}
 use Rattle.kdg_graph.specs.Fronts.{fronts_after}
 use Rattle.kdg_graph.specs.declared.location.Location.{Location}
@@ -22,7 +22,7 @@ use Rattle.kdg_graph.proofs.Filtered.{ascending_filtered, filter_twice, filters_
 use Rattle.kdg_graph.proofs.Fronts.{source_outside}
 use Rattle.kdg_graph.proofs.Keeping.{changed, start, start_keeps_id, start_keeps_task, with_set_if}
 use Rattle.kdg_graph.proofs.LookUps.{ids_find_nodes, nodes_have_ids}
-use Rattle.kdg_graph.proofs.Members.{all_from, from_filter, here, in_filter, there}
+use Rattle.kdg_graph.proofs.Members.{all_from, from_filter, in_filter}
 use Rattle.kdg_graph.proofs.Ordering.{is_before, not_itself}
 use Rattle.kdg_graph.proofs.Places.{is_at-same, map_none, none_at, not_at, without_none}
 use Rattle.kdg_graph.proofs.Rewritten.{in_put_new}
@@ -84,11 +84,11 @@ settled_put new rest now more test ids up own is right selected =
     let all : AreSelected now (refreshed now (new.id ∷ more ++ front) (but new.id test)) ids = select_append now (new.id ∷ []) (more ++ front) (but new.id test) ids (select_append now more front first ids selected) in
     let left : without new.id now ≡ rest = ap (without new.id) is ∙ without_put new rest (subst HaveOwnIds is own) in
     settled now (new.id ∷ more ++ front) (but new.id test) ids (λ node has apart.
-      let tests = neither (is_at new.id node) (is_among (more ++ front) node) apart in
-      let fronts = neither (is_among more node) (is_among front node) (sym (among_append more front node) ∙ tests.1) in
-      let in_rest : Contains rest node = subst (λ (l : List Node). Contains l node) left (in_filter (λ n. not (is_at new.id n)) now node has (ap not tests.0)) in
-      let outside : is_among (ids_of (fronts_after new.set new.task.key rest)) node ≡ false = ap (λ l. is_among (ids_of l) node) (sym (ap (fronts_after new.set new.task.key) is ∙ fronts_put new.set new rest)) ∙ fronts.1 in
-      but_same new.id test node tests.0 ∙ right node in_rest fronts.0 ∙ sym (source_outside new rest node up in_rest outside) ∙ ap (λ l. is_source l node) (sym is)) all
+    let tests = neither (is_at new.id node) (is_among (more ++ front) node) apart in
+    let fronts = neither (is_among more node) (is_among front node) (sym (among_append more front node) ∙ tests.1) in
+    let in_rest : Contains rest node = subst (λ (l : List Node). Contains l node) left (in_filter (λ n. not (is_at new.id n)) now node has (ap not tests.0)) in
+    let outside : is_among (ids_of (fronts_after new.set new.task.key rest)) node ≡ false = ap (λ l. is_among (ids_of l) node) (sym (ap (fronts_after new.set new.task.key) is ∙ fronts_put new.set new rest)) ∙ fronts.1 in
+    but_same new.id test node tests.0 ∙ right node in_rest fronts.0 ∙ sym (source_outside new rest node up in_rest outside) ∙ ap (λ l. is_source l node) (sym is)) all
 
 -- ---- after a node went
 
@@ -101,7 +101,7 @@ source_without id gone nodes node graph is has outside =
 pub settled_without : (id : NodeId) (gone : Node) (nodes now : List Node) (ids : List NodeId) → IsGraph nodes → node_at nodes id ≡ Some gone → now ≡ without id nodes → AreSelected now (refreshed now (ids_of (fronts_after gone.set gone.task.key now)) (is_source nodes)) ids → ids ≡ sources_of now
 settled_without id gone nodes now ids graph is are selected =
     settled now (ids_of (fronts_after gone.set gone.task.key now)) (is_source nodes) ids (λ node has apart.
-      source_without id gone nodes node graph is (subst (λ (l : List Node). Contains l node) are has) (ap (λ l. is_among (ids_of (fronts_after gone.set gone.task.key l)) node) (sym are) ∙ apart) ∙ ap (λ l. is_source l node) (sym are)) selected
+    source_without id gone nodes node graph is (subst (λ (l : List Node). Contains l node) are has) (ap (λ l. is_among (ids_of (fronts_after gone.set gone.task.key l)) node) (sym are) ∙ apart) ∙ ap (λ l. is_source l node) (sym are)) selected
 
 -- ---- after a node's set changed
 

@@ -1,13 +1,11 @@
 -- Lists of locations by the locations' numbers, and sets by their pairs.
-use Rattle.std.proofs.Common.{◌≡◌, ◌≢◌, ℕ, zero, suc, ◌+◌, ◌<◌, ◌≤◌, Bool, true, false, cond, List, [], ◌∷◌, ◌++◌, length, take, drop, get_or, set, Option, Some, None, refl, sym, ◌∙◌, ap, subst, arith}
+use Rattle.std.proofs.Common.{◌≡◌, ◌≢◌, ℕ, zero, suc, ◌<◌, ◌≤◌, cond, List, [], ◌∷◌, ◌++◌, length, take, drop, get_or, set, Some, None, refl, sym, ◌∙◌, ap, subst, arith}
 use Rattle.std.specs.Prelude.{◌==◌}
-use Rattle.std.specs.List.{AllByRecursion}
 use Rattle.rw_sets.specs.declared.access.Access.{Access}
-use Rattle.rw_sets.specs.declared.access.Access.TheVariants.{Read, Write}
 use Rattle.rw_sets.specs.Accesses.{Accesses, AllBeyond, IsAscending as IsAscendingSet, access_at}
 use Rattle.rw_sets.specs.AccessLaws.{absent_beyond, access_first, access_other, ascending_first, ascending_rest}
 use Rattle.kdg_graph.specs.declared.location.Location.{Location}
-use Rattle.kdg_graph.specs.Locations.{HaveNoLess, HaveSameLanes, ids_for, lane_of, room_at, room_in, rooms_of}
+use Rattle.kdg_graph.specs.Locations.{ids_for, lane_of, room_at, room_in, rooms_of}
 
 -- ---- the location at a number
 

@@ -15,10 +15,9 @@ use Rattle.kdg_graph.specs.declared.node_id.NodeId.{NodeId}
 use Rattle.kdg_graph.specs.Node.{Node}
 use Rattle.kdg_graph.specs.Nodes.{HasNode, IsGraph, ids_of, is_at, node_at, put_node, started, tasks_of}
 use Rattle.kdg_graph.specs.NodeStock.{IsPlaceOf}
-use Rattle.kdg_graph.specs.Edges.{laters_of}
 use Rattle.kdg_graph.specs.Rewrite.{with_sets}
 use Rattle.kdg_graph.specs.Lanes.{AreStored, IsRank, IsStored, nodes_in}
-use Rattle.kdg_graph.proofs.Places.{get_or-there, is_at-same, node_at-place, place_inside}
+use Rattle.kdg_graph.proofs.Places.{is_at-same}
 use Rattle.kdg_graph.proofs.Ordering.{insert_at_point, is_before, not_itself}
 use Rattle.kdg_graph.proofs.Lanes.{graph_of_stored, id_there, length-ids, new_id, nodes_of_ids, some_node, stored_at, stored_has, stored_key, stored_left, stored_map, stored_of_graph, stored_put, stored_same}
 use Rattle.kdg_graph.proofs.Keeping.{changed, graph_put, graph_removed, graph_started, graph_with_set, ids-insert, ids-map, ids-remove, start, start_keeps_id, with_set_if}

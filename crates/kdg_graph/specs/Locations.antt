@@ -1,16 +1,14 @@
 -- The nodes of each location, and which of them stand in the way of which.
-use Rattle.std.specs.Prelude.{◌≡◌, ℕ, zero, suc, ◌-◌, ◌≤◌, ◌≢◌, Bool, false, min, if◌then◌else◌, List, [], ◌∷◌, map, take, drop, length}
+use Rattle.std.specs.Prelude.{◌≡◌, ℕ, zero, suc, ◌-◌, ◌≤◌, Bool, false, min, if◌then◌else◌, List, [], ◌∷◌, map, Some, Contains}
 use Rattle.std.specs.List.{AllByRecursion, filter}
 use Rattle.std.specs.Ordering.{is_lt}
 use Rattle.std.specs.VecDeque.{deque_capacity, deque_len}
 use Rattle.rw_sets.specs.declared.access.Access.{Access}
 use Rattle.rw_sets.specs.declared.access.Access.TheVariants.{Read, Write}
-use Rattle.rw_sets.specs.Accesses.{Accesses, access_at, clash, excludes, writes}
-use Rattle.std.specs.Prelude.{Some}
+use Rattle.rw_sets.specs.Accesses.{Accesses, access_at, clash, writes}
 use Rattle.task_order.specs.declared.key.Key.{Key}
 use Rattle.task_order.specs.Key.{key_cmp}
 use Rattle.task_order.specs.TaskList.{IsAscending}
-use Rattle.std.specs.Prelude.{Contains}
 use Rattle.kdg_graph.specs.declared.node_id.NodeId.{NodeId}
 use Rattle.kdg_graph.specs.declared.location.Location.{Location}
 use Rattle.kdg_graph.specs.Node.{Node}
@@ -27,12 +25,12 @@ clashes_at loc access node = clash (Some access) (access_at node.set loc)
 abbrev pub clashing_at : ℕ → Access → List Node → List Node
 clashing_at loc access nodes = filter (clashes_at loc access) nodes
 
--- the first of the nodes that clash with an access of the node to the location is earlier than the node
+-- whether the first of the nodes is earlier than the key
 abbrev pub is_first_before : Key → List Node → Bool
 is_first_before key [] = false
 is_first_before key (first ∷ nodes) = is_lt (key_cmp first.task.key key)
 
--- whether some earlier node stands in the way of the node at the location
+-- whether some earlier node stands in the way of the node at the location: the first that its access there clashes with does, if any
 abbrev pub is_blocked_at : List Node → Node → ℕ × Access → Bool
 is_blocked_at nodes node p = is_first_before node.task.key (clashing_at p.0 p.1 nodes)
 

@@ -1,15 +1,13 @@
-use Rattle.std.proofs.Common.{rules, ◌≡◌, ◌∙◌, ℕ, Bool, List, [], ◌∷◌, Option, Some, ap, length, refl, subst, sym, arith}
+use Rattle.std.proofs.Common.{◌≡◌, ◌∙◌, ℕ, Bool, List, [], ◌∷◌, Option, Some, ap, length, refl, subst, sym, arith}
 use Rattle.std.specs.Prelude.{IfSome, IsSome}
 use Rattle.std.specs.Option.{option_map}
-use Rattle.kdg_graph.specs.declared.node_id.NodeId.{NodeId}
 use Rattle.rw_sets.specs.Accesses.{Accesses}
 use Rattle.kdg_graph.specs.Node.{Node}
 use Rattle.kdg_graph.specs.NodeStock.{NodeStock}
-use Rattle.kdg_graph.specs.Nodes.{HasNode, ids_of, node_at}
+use Rattle.kdg_graph.specs.Nodes.{HasNode, ids_of}
 use Rattle.kdg_graph.specs.Edges.{is_source}
 use Rattle.kdg_graph.specs.Fronts.{fronts_after}
 use Rattle.kdg_graph.specs.Locations.{AreFiled, HasRoom, rooms_of}
-use Rattle.kdg_graph.specs.Rewrite.{without}
 use Rattle.kdg_graph.specs.Selected.{AreSelected, refreshed}
 use Rattle.kdg_graph.proofs.Rooms.{room_kept}
 use Rattle.kdg_graph.proofs.Selecting.{but, found_node}
