@@ -139,6 +139,11 @@ pub found_changed : (id : NodeId) (gone : Node) (set : Accesses) (nodes now : Li
 found_changed id gone set nodes now graph after is are =
     ap (node_at now) (sym (ids_find_nodes nodes id gone is).1) ∙ found_put (record gone { set = set }) (without id nodes) now (are ∙ changed_put id gone set nodes graph is) after
 
+-- the set that the node has changes nothing
+pub same_set_changes_none : (id : NodeId) (node : Node) (set : Accesses) (nodes : List Node) → IsGraph nodes → node_at nodes id ≡ Some node → node.set ≡ set → with_sets (record { node = id; set = set } ∷ []) nodes ≡ nodes
+same_set_changes_none id node set nodes graph is same =
+    changed_put id node set nodes graph is ∙ ap (λ (s : Accesses). put_node (record node { set = s }) (without id nodes)) (sym same) ∙ put_without id nodes node graph is
+
 pub length-changed : (changes : List SetChange) (nodes : List Node) → length (with_sets changes nodes) ≡ length nodes
 length-changed changes [] = refl
 length-changed changes (node ∷ nodes) = ap suc (length-changed changes nodes)

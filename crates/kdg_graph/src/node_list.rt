@@ -14,7 +14,7 @@ use crate::room::{reserve_changed, reserve_fresh};
 use crate::source_lane::SourceLane;
 use crate::{Fresh, NodeId, SetChange};
 use kdg_text::NoRoom;
-use rw_sets::RwSet;
+use rw_sets::{RwSet, lookup_laws};
 use std::alloc::Global;
 use std::marker::Model;
 use task_order::Task;
@@ -170,8 +170,27 @@ impl NodeList {
         node.task
     }
 
-    /// Replaces the set of a node, where `reserve` made room. It takes no memory.
+    /// Replaces the set of a node, where `reserve` made room. It takes no memory, and no time where
+    /// the set is the one that the node has.
     pub(crate) fn set_set(&mut self, id: NodeId, set: RwSet)
+        requires there { HasNode self.old.nodes id }
+        requires rooms { HasRoom 1 set self.old.rooms }
+        ensures nodes { self.new.nodes ≡ with_sets (record { node = id; set = set } ∷ []) self.old.nodes }
+        ensures places { self.old.places ≤ self.new.places }
+        ensures numbers { self.old.numbers ≤ self.new.numbers }
+        ensures marks { self.old.marks ≤ self.new.marks }
+        ensures rooms { (loc : ℕ) → room_at self.old.rooms loc ≤ room_at self.new.rooms loc + 1 }
+        ensures graph { IsGraph self.new.nodes }
+    {
+        lookup_laws();
+        if self.nodes().entry(id).set == set {
+            return;
+        }
+        self.exchange_set(id, set);
+    }
+
+    /// Replaces the set of a node by any.
+    fn exchange_set(&mut self, id: NodeId, set: RwSet)
         requires there { HasNode self.old.nodes id }
         requires rooms { HasRoom 1 set self.old.rooms }
         ensures nodes { self.new.nodes ≡ with_sets (record { node = id; set = set } ∷ []) self.old.nodes }

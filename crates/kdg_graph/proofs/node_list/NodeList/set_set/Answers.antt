@@ -1,101 +1,16 @@
-use Rattle.std.proofs.Common.{◌≡◌, ◌∙◌, ℕ, Bool, List, [], ◌∷◌, Option, Some, ap, length, refl, subst, sym, arith}
-use Rattle.std.specs.Prelude.{IfSome, IsSome}
-use Rattle.std.specs.Option.{option_map}
-use Rattle.rw_sets.specs.Accesses.{Accesses}
+use Rattle.std.proofs.Common.{◌≡◌, ◌∙◌, List, Some, ap, sym}
+use Rattle.std.specs.Prelude.{IsTrue}
+use Rattle.rw_sets.specs.Accesses.{same_accesses}
 use Rattle.kdg_graph.specs.Node.{Node}
-use Rattle.kdg_graph.specs.NodeStock.{NodeStock}
-use Rattle.kdg_graph.specs.Nodes.{HasNode, ids_of}
-use Rattle.kdg_graph.specs.Edges.{is_source}
-use Rattle.kdg_graph.specs.Fronts.{fronts_after}
-use Rattle.kdg_graph.specs.Locations.{AreFiled, HasRoom, rooms_of}
-use Rattle.kdg_graph.specs.Selected.{AreSelected, refreshed}
-use Rattle.kdg_graph.proofs.Rooms.{room_kept}
-use Rattle.kdg_graph.proofs.Selecting.{but, found_node}
-use Rattle.kdg_graph.proofs.Settling.{found_changed, length-changed, select_but, settled_changed, without_changed}
+use Rattle.kdg_graph.specs.Nodes.{node_at}
+use Rattle.kdg_graph.proofs.Settling.{same_set_changes_none}
 use Rattle.kdg_graph.proofs.node_list.NodeList.set_set.Goals as goal
 
-pub enter-requires-clause-there : goal.enter-requires-clause-there
-enter-requires-clause-there c =
-    let nodes : List Node = c.self.inside.nodes.nodes in
-    let gone = found_node nodes c.args.id (subst (λ (stock : NodeStock). HasNode stock.nodes c.args.id) (sym c.self.view_is) c.requires.there) in
-    subst IsSome (sym (found_changed c.args.id gone.0 c.args.set nodes c.set_set-before.new.self.nodes c.self.invariant.graph c.set_set-before.ensures.graph gone.1 c.set_set-before.ensures.nodes)) refl
-
-pub enter-requires-clause-room : goal.enter-requires-clause-room
-enter-requires-clause-room c =
-    let nodes : List Node = c.self.inside.nodes.nodes in
-    let gone = found_node nodes c.args.id (subst (λ (stock : NodeStock). HasNode stock.nodes c.args.id) (sym c.self.view_is) c.requires.there) in
-    let rooms : List ℕ = rooms_of c.leave.new.self.locations.items in
-    let before : HasRoom 1 c.args.set (rooms_of c.self.inside.locations.locations.items) = subst (λ (stock : NodeStock). HasRoom 1 c.args.set stock.rooms) (sym c.self.view_is) c.requires.rooms in
-    let room : HasRoom 1 c.args.set rooms = room_kept 1 c.args.set (rooms_of c.self.inside.locations.locations.items) rooms c.leave.ensures.no_less before in
-    subst (λ (o : Option Node). IfSome o (λ (n : Node). HasRoom 1 n.set rooms)) (sym (found_changed c.args.id gone.0 c.args.set nodes c.set_set-before.new.self.nodes c.self.invariant.graph c.set_set-before.ensures.graph gone.1 c.set_set-before.ensures.nodes)) room
-
-pub enter-requires-clause-filed : goal.enter-requires-clause-filed
-enter-requires-clause-filed c =
-    let nodes : List Node = c.self.inside.nodes.nodes in
-    let gone = found_node nodes c.args.id (subst (λ (stock : NodeStock). HasNode stock.nodes c.args.id) (sym c.self.view_is) c.requires.there) in
-    let left = without_changed c.args.id gone.0 c.args.set nodes c.set_set-before.new.self.nodes c.self.invariant.graph c.set_set-before.ensures.graph gone.1 c.set_set-before.ensures.nodes in
-    subst (λ (l : List Node). AreFiled l c.leave.new.self.locations.items) (sym left) c.leave.ensures.filed
-
-pub entry-node-requires : goal.entry-node-requires
-entry-node-requires c =
-    let nodes : List Node = c.self.inside.nodes.nodes in
-    let gone = found_node nodes c.args.id (subst (λ (stock : NodeStock). HasNode stock.nodes c.args.id) (sym c.self.view_is) c.requires.there) in
-    subst IsSome (sym (found_changed c.args.id gone.0 c.args.set nodes c.set_set-before.new.self.nodes c.self.invariant.graph c.set_set-before.ensures.graph gone.1 c.set_set-before.ensures.nodes)) refl
-
-pub refresh-requires-clause-part : goal.refresh-requires-clause-part
-refresh-requires-clause-part c =
-    let nodes : List Node = c.self.inside.nodes.nodes in
-    let now : List Node = c.set_set-before.new.self.nodes in
-    let gone = found_node nodes c.args.id (subst (λ (stock : NodeStock). HasNode stock.nodes c.args.id) (sym c.self.view_is) c.requires.there) in
-    let left = without_changed c.args.id gone.0 c.args.set nodes now c.self.invariant.graph c.set_set-before.ensures.graph gone.1 c.set_set-before.ensures.nodes in
-    let others = c.forget.ensures.ids (is_source nodes) c.self.invariant.sources_are in
-    record { test = but c.args.id (is_source nodes); selected = select_but now (is_source nodes) c.args.id c.forget.new.self.lane.ids.items (subst (λ (l : List Node). AreSelected l (is_source nodes) c.forget.new.self.lane.ids.items) (sym left) others) }
-
-pub refresh_fronts-requires-clause-part : goal.refresh_fronts-requires-clause-part
-refresh_fronts-requires-clause-part c =
-    let nodes : List Node = c.self.inside.nodes.nodes in
-    let now : List Node = c.set_set-before.new.self.nodes in
-    let gone = found_node nodes c.args.id (subst (λ (stock : NodeStock). HasNode stock.nodes c.args.id) (sym c.self.view_is) c.requires.there) in
-    let left = without_changed c.args.id gone.0 c.args.set nodes now c.self.invariant.graph c.set_set-before.ensures.graph gone.1 c.set_set-before.ensures.nodes in
-    let others = c.forget.ensures.ids (is_source nodes) c.self.invariant.sources_are in
-    let all = select_but now (is_source nodes) c.args.id c.forget.new.self.lane.ids.items (subst (λ (l : List Node). AreSelected l (is_source nodes) c.forget.new.self.lane.ids.items) (sym left) others) in
-    record { test = _; selected = c.refresh.ensures.ids (but c.args.id (is_source nodes)) all }
-
-pub refresh_fronts-requires-2-clause-part : goal.refresh_fronts-requires-2-clause-part
-refresh_fronts-requires-2-clause-part c =
-    let nodes : List Node = c.self.inside.nodes.nodes in
-    let now : List Node = c.set_set-before.new.self.nodes in
-    let gone = found_node nodes c.args.id (subst (λ (stock : NodeStock). HasNode stock.nodes c.args.id) (sym c.self.view_is) c.requires.there) in
-    let left = without_changed c.args.id gone.0 c.args.set nodes now c.self.invariant.graph c.set_set-before.ensures.graph gone.1 c.set_set-before.ensures.nodes in
-    let others = c.forget.ensures.ids (is_source nodes) c.self.invariant.sources_are in
-    let all = select_but now (is_source nodes) c.args.id c.forget.new.self.lane.ids.items (subst (λ (l : List Node). AreSelected l (is_source nodes) c.forget.new.self.lane.ids.items) (sym left) others) in
-    record { test = _; selected = c.refresh_fronts.ensures.ids _ (c.refresh.ensures.ids (but c.args.id (is_source nodes)) all) }
-
-pub invariant_of-self : goal.invariant_of-self
-invariant_of-self c =
-    let nodes : List Node = c.self.inside.nodes.nodes in
-    let now : List Node = c.set_set-before.new.self.nodes in
-    let gone = found_node nodes c.args.id (subst (λ (stock : NodeStock). HasNode stock.nodes c.args.id) (sym c.self.view_is) c.requires.there) in
-    let left = without_changed c.args.id gone.0 c.args.set nodes now c.self.invariant.graph c.set_set-before.ensures.graph gone.1 c.set_set-before.ensures.nodes in
-    let others = c.forget.ensures.ids (is_source nodes) c.self.invariant.sources_are in
-    let some = select_but now (is_source nodes) c.args.id c.forget.new.self.lane.ids.items (subst (λ (l : List Node). AreSelected l (is_source nodes) c.forget.new.self.lane.ids.items) (sym left) others) in
-    let first : Node → Bool = refreshed now (c.args.id ∷ []) (but c.args.id (is_source nodes)) in
-    let entry : Node = record { id = c.node.inside.id; task = c.node.inside.task; set = c.node.inside.set; running = c.node.inside.running } in
-    let before : Accesses = c.set_set-before.result in
-    let changed : Node = record gone.0 { set = c.args.set } in
-    let second : Node → Bool = refreshed now (ids_of (fronts_after before entry.task.key now)) first in
-    let after : AreSelected now second c.refresh_fronts.new.self.lane.ids.items = c.refresh_fronts.ensures.ids first (c.refresh.ensures.ids (but c.args.id (is_source nodes)) some) in
-    let Settled : Accesses → Node → Type 0 = λ was n. AreSelected now (refreshed now (ids_of (fronts_after n.set n.task.key now)) (refreshed now (ids_of (fronts_after was n.task.key now)) first)) c.refresh_fronts-2.new.self.lane.ids.items in
-    let all : Settled before entry = c.refresh_fronts-2.ensures.ids second after in
-    let found : Some c.entry-node.result.now ≡ Some changed = sym c.entry-node.ensures ∙ found_changed c.args.id gone.0 c.args.set nodes now c.self.invariant.graph c.set_set-before.ensures.graph gone.1 c.set_set-before.ensures.nodes in
-    let is_changed : c.entry-node.result.now ≡ changed = cc in
-    let had : Some before ≡ Some gone.0.set = sym c.set_set-before.ensures.before ∙ ap (option_map (λ (n : Node). n.set)) gone.1 in
-    let is_before : before ≡ gone.0.set = cc in
-    let long = ap length c.set_set-before.ensures.nodes ∙ length-changed (record { node = c.args.id; set = c.args.set } ∷ []) nodes in
-    record {
-      graph = c.set_set-before.ensures.graph;
-      filed = c.enter.ensures.filed;
-      sources_are = settled_changed c.args.id gone.0 c.args.set nodes now c.refresh_fronts-2.new.self.lane.ids.items c.self.invariant.graph c.set_set-before.ensures.graph gone.1 c.set_set-before.ensures.nodes
-          (subst (Settled gone.0.set) (c.node.view_is ∙ is_changed) (subst (λ (was : Accesses). Settled was entry) is_before all));
-      room = omega (arith, long, c.self.invariant.room, c.forget.ensures.room, c.refresh.ensures.room, c.refresh_fronts.ensures.room, c.refresh_fronts-2.ensures.room);
-    }
+pub returns-then-eq-clause-nodes : goal.returns-then-eq-clause-nodes
+returns-then-eq-clause-nodes c =
+    let nodes : List Node = c.args.self.now.nodes in
+    let node : Node = record { id = c.behind-nodes.inside.id; task = c.behind-nodes.inside.task; set = c.behind-nodes.inside.set; running = c.behind-nodes.inside.running } in
+    let is : node_at nodes c.args.id ≡ Some node = ap (λ l. node_at l c.args.id) (sym c.nodes.ensures.all) ∙ c.entry.ensures ∙ ap (λ (n : Node). Some n) (sym c.behind-nodes.view_is) in
+    let equal : IsTrue (same_accesses c.behind-nodes.inside.set c.args.set) = sym c.if-eq.ensures in
+    let same : c.behind-nodes.inside.set ≡ c.args.set = (c.lookup_laws.ensures.equality c.behind-nodes.inside.set c.args.set).0 equal in
+    sym (same_set_changes_none c.args.id node c.args.set nodes c.nodes.ensures.graph is same)
