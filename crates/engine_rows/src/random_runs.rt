@@ -306,7 +306,15 @@ fn random_runs_of_a_circuit_are_as_the_serial_one(rt: HostRuntime) -> Result<(),
     let (cells, first) = (circuit.first_cells()?, circuit.first_tasks()?);
     let first = first.items();
     assert_eq!(rt; first_unlike(alloc, &circuit, &cells, first, 49), Ok(None));
-    assert!(rt; are_refused(alloc, &circuit, &cells, first, 48));
+    Ok(())
+}
+
+#[test]
+fn random_runs_of_a_circuit_are_refused_one_task(rt: HostRuntime) -> Result<(), Fail> {
+    let alloc = rt.alloc();
+    let circuit = circuit_of(alloc, C17_STIMULUS)?;
+    let (cells, first) = (circuit.first_cells()?, circuit.first_tasks()?);
+    assert!(rt; are_refused(alloc, &circuit, &cells, first.items(), 48));
     Ok(())
 }
 
