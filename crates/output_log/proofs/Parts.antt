@@ -42,7 +42,7 @@ from_not true is = cc
 from_not false is = refl
 
 -- what is later than an entry that isn't before the bound isn't either
-later_is_late : (bound : Bound) (entry other : Entry) → is_entry_before bound entry ≡ false → entry_cmp entry other ≡ Less → is_entry_before bound other ≡ false
+pub later_is_late : (bound : Bound) (entry other : Entry) → is_entry_before bound entry ≡ false → entry_cmp entry other ≡ Less → is_entry_before bound other ≡ false
 later_is_late bound entry other late later =
     late_after_late (is_entry_before bound entry) (is_entry_before bound other) (λ before. before_sooner bound other.0 entry before (ap is_lt later)) late
 

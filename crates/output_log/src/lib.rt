@@ -3,6 +3,7 @@
 
 mod laws;
 mod log;
+mod side;
 
 pub use laws::{join_laws, part_laws, put_laws};
 pub use log::Log;

@@ -5,32 +5,33 @@ ghost use Rattle.task_order.specs.Key.{at_key, key_cmp};
 ghost use Rattle.output_log.specs.Entries.{IsInKeyOrder, IsNewEntry, entries_before, entries_from, with_entry, joined_texts};
 
 use crate::laws::put_laws;
+use crate::side::{Side, move_gap};
 use kdg_text::{NoRoom, Text};
 use std::alloc::Global;
-use std::collections::VecDeque;
 use std::marker::Model;
 use task_order::Key;
 
 /// The texts of tasks that have ended, in the order of the tasks' keys, until they are taken.
 ///
-/// An entry usually comes in near the end and is taken from the front. To put it in takes time in
-/// the logarithm of the number of entries, and in its distance to the nearer end.
+/// An entry usually comes in near the one before it and is taken from the front. So the entries
+/// stand on two sides of a gap: to put one in takes time in its distance to the gap, which it leaves
+/// behind itself. Each side has place for all entries, so that a gap moves without memory.
 #[derive(Drop)]
 pub struct Log {
-    entries: VecDeque<(Key, Text)>,
+    front: Side,
+    back: Side,
 }
 
 impl Model for Log {
-    ghost use Rattle.std.specs.Prelude.{◌-◌};
-    ghost use Rattle.std.specs.VecDeque.{deque_len, deque_capacity};
+    ghost use Rattle.std.specs.Prelude.{◌-◌, ◌++◌, length, min};
     ghost use Rattle.output_log.specs.LogState.{LogState};
     ghost use Rattle.output_log.specs.Entries.{IsInKeyOrder};
 
     ghost Value = { LogState };
 
-    ghost view = { λ log. record { entries = log.entries.items; spare = deque_capacity log.entries - deque_len log.entries } };
+    ghost view = { λ log. record { entries = log.front.entries ++ log.back.entries; spare = min (log.front.spare - length log.back.entries) (log.back.spare - length log.front.entries) } };
 
-    ghost invariant = { λ log. IsInKeyOrder log.entries.items };
+    ghost invariant = { λ log. IsInKeyOrder (log.front.entries ++ log.back.entries) };
 }
 
 impl Log {
@@ -39,7 +40,8 @@ impl Log {
         ensures { result.entries ≡ [] }
     {
         Log {
-            entries: VecDeque::new(alloc),
+            front: Side::new(alloc),
+            back: Side::new(alloc),
         }
     }
 
@@ -50,8 +52,8 @@ impl Log {
         ensures kept { self.old.spare ≤ self.new.spare }
         ensures entries { self.new.entries ≡ self.old.entries }
     {
-        self.entries.reserve(additional)?;
-        Ok(())
+        self.front.reserve(self.back.len(), additional)?;
+        self.back.reserve(self.front.len(), additional)
     }
 
     /// How many entries there are.
@@ -59,14 +61,14 @@ impl Log {
         ensures len { result ≡ length self.now.entries }
         ensures ordered { IsInKeyOrder self.now.entries }
     {
-        self.entries.len()
+        self.front.len() + self.back.len()
     }
 
     /// Whether there is no entry.
     pub fn is_empty(&self) -> bool
         ensures { IsTrue result ↔ (self.now.entries ≡ []) }
     {
-        self.entries.is_empty()
+        self.len() == 0
     }
 
     /// Puts an entry at its place, where `reserve` made one. It takes no memory.
@@ -77,11 +79,8 @@ impl Log {
         ensures spare { self.old.spare ≤ self.new.spare + 1 }
     {
         put_laws();
-        let place = self.place_of(&key);
-        match self.entries.insert(place, (key, text)) {
-            Ok(()) => {}
-            Err(_) => unreachable!(),
-        }
+        move_gap(&mut self.front, &mut self.back, &key);
+        self.front.push_back((key, text));
     }
 
     /// Puts an entry at the end, where all entries are earlier and `reserve` made a place. It takes no
@@ -92,7 +91,11 @@ impl Log {
         ensures entries { self.new.entries ≡ self.old.entries ++ (key, text) ∷ [] }
         ensures spare { self.old.spare ≤ self.new.spare + 1 }
     {
-        self.entries.push_back_reserved((key, text));
+        if self.back.is_empty() {
+            self.front.push_back((key, text));
+        } else {
+            self.back.push_back((key, text));
+        }
     }
 
     /// How many entries are earlier than the key.
@@ -101,8 +104,7 @@ impl Log {
         ensures bound { result ≤ length self.now.entries }
         ensures ordered { IsInKeyOrder self.now.entries }
     {
-        self.entries
-            .partition_point(|entry| entry.0.compare(key).is_lt())
+        self.front.below(key) + self.back.below(key)
     }
 
     /// Takes the entries that are earlier than the key out, and joins their texts. After `NoRoom`
@@ -125,7 +127,7 @@ impl Log {
         ensures unchanged { OnErr result (self.new.entries ≡ self.old.entries) }
         ensures spare { self.old.spare ≤ self.new.spare }
     {
-        let count = self.entries.len();
+        let count = self.len();
         self.take_first(count)
     }
 
@@ -133,19 +135,7 @@ impl Log {
     pub fn all(&self) -> Result<Text, NoRoom>
         ensures { IfOk result (λ text. text ≡ joined_texts self.now.entries) }
     {
-        self.first_texts(self.entries.len())
-    }
-
-    /// The place of an entry of the key, which usually is later than all.
-    fn place_of(&self, key: &Key) -> usize
-        ensures place { result ≡ length (entries_before (at_key key.now) self.now.entries) }
-        ensures bound { result ≤ length self.now.entries }
-        ensures ordered { IsInKeyOrder self.now.entries }
-    {
-        match self.entries.back() {
-            Some(last) if last.0.compare(key).is_lt() => self.entries.len(),
-            _ => self.below(key),
-        }
+        self.first_texts(self.len())
     }
 
     /// Takes so many entries from the first on out, and joins their texts.
@@ -157,7 +147,9 @@ impl Log {
         ensures spare { self.old.spare ≤ self.new.spare }
     {
         let text = self.first_texts(count)?;
-        self.entries.drain(..count);
+        let of_front = count.min(self.front.len());
+        self.front.remove_first(of_front);
+        self.back.remove_first(count - of_front);
         Ok(text)
     }
 
@@ -166,10 +158,10 @@ impl Log {
         requires { count ≤ length self.now.entries }
         ensures { IfOk result (λ text. text ≡ joined_texts (take count self.now.entries)) }
     {
-        let mut text = Text::new(*self.entries.allocator());
-        for entry in self.entries.range(..count) {
-            text.push_all(entry.1.bytes())?;
-        }
+        let of_front = count.min(self.front.len());
+        let mut text = Text::new(self.front.allocator());
+        self.front.push_texts(of_front, &mut text)?;
+        self.back.push_texts(count - of_front, &mut text)?;
         Ok(text)
     }
 }

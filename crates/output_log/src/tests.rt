@@ -48,3 +48,19 @@ fn an_entry_is_appended(rt: HostRuntime) -> Result<(), Fail> {
     assert_eq!(rt; log.take_all()?.bytes(), b"a".as_slice());
     Ok(())
 }
+
+#[test]
+fn entries_come_in_between_others(rt: HostRuntime) -> Result<(), Fail> {
+    let alloc = rt.alloc();
+    let mut log = Log::new(alloc);
+    log.reserve(3)?;
+    log.put(key(alloc, 2)?, text(alloc, b"c")?);
+    log.put(key(alloc, 0)?, text(alloc, b"a")?);
+    log.put(key(alloc, 1)?, text(alloc, b"b")?);
+    let bound = key(alloc, 2)?;
+    assert_eq!(rt; log.below(&bound), 2);
+    assert_eq!(rt; log.all()?.bytes(), b"abc".as_slice());
+    assert_eq!(rt; log.take_below(&bound)?.bytes(), b"ab".as_slice());
+    assert_eq!(rt; log.take_all()?.bytes(), b"c".as_slice());
+    Ok(())
+}

@@ -4,11 +4,11 @@ use Rattle.task_order.specs.Key.{at_key}
 use Rattle.output_log.specs.Entries.{is_entry_before, entries_before}
 use Rattle.output_log.specs.LogState.{LogState}
 use Rattle.output_log.proofs.LogEntries.{is_partitioned, length-before}
-use Rattle.output_log.proofs.log.Log.below.Goals as goal
+use Rattle.output_log.proofs.side.Side.below.Goals as goal
 
 pub returns-clause-count : goal.returns-clause-count
 returns-clause-count c =
     let bound = at_key c.args.key.now in
     let entries = c.self.inside.entries.items in
     let point = IsPartitionPoint-from_clause (is_entry_before bound) entries c.partition_point.result c.partition_point.ensures.partitioned (is_partitioned bound entries c.self.invariant) (λ a r f k. search (rules, of_calls)) in
-    length-before bound entries c.partition_point.result (search rules) point ∙ ap (λ (log : LogState). length (entries_before bound log.entries)) c.self.view_is
+    length-before bound entries c.partition_point.result (search rules) point ∙ ap (λ (side : LogState). length (entries_before bound side.entries)) c.self.view_is

@@ -1,7 +1,7 @@
 use Rattle.std.proofs.Common.{subst, sym}
 use Rattle.std.specs.List.Sorted.{IsStrictlySortedBy}
 use Rattle.output_log.specs.Entries.{IsInKeyOrder}
-use Rattle.output_log.proofs.log.Log.new.Goals as goal
+use Rattle.output_log.proofs.side.Side.new.Goals as goal
 
 pub invariant_of-result : goal.invariant_of-result
 unfolding IsStrictlySortedBy
