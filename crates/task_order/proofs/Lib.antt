@@ -4,6 +4,7 @@ pub mod Fronts
 pub mod Distinct
 pub mod Without
 pub mod Comparing
+pub mod Words
 pub mod PathCode
 pub mod SharedBytes
 pub mod Places

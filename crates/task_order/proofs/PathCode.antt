@@ -2,14 +2,14 @@
 use Rattle.std.specs.Cmp.{nat_cmp_total}
 use Rattle.std.specs.Cmp.Lexicographic.{slice_cmp, nat_list_cmp_total}
 use Rattle.std.specs.declared.cmp.Ordering.{Ordering}
-use Rattle.std.specs.declared.cmp.Ordering.TheVariants.{Less}
+use Rattle.std.specs.declared.cmp.Ordering.TheVariants.{Less, Equal}
 use Rattle.std.specs.Ordering.{nat_cmp, ordering_then, ordering_reverse}
-use Rattle.std.proofs.Common.{◌≡◌, ℕ, zero, suc, ◌+◌, ◌-◌, ◌*◌, ◌/◌, ◌%◌, ◌^◌, ◌<◌, ◌≤◌, ⊎_elim, true, false, min, nat_lt, nat_eq, List, [], ◌∷◌, ◌++◌, length, replicate, refl, sym, ◌∙◌, ap, subst, append_assoc, append-nil, length-append, arith, lt-ltb, le-ltb, eq-eqb, ne_eqb, div-lt_iff_lt-mul, pow-suc, div-add-mod'}
+use Rattle.std.proofs.Common.{◌≡◌, ◌≢◌, ℕ, zero, suc, ◌+◌, ◌-◌, ◌*◌, ◌/◌, ◌%◌, ◌^◌, ◌<◌, ◌≤◌, ⊎_elim, true, false, min, nat_lt, nat_eq, List, [], ◌∷◌, ◌++◌, length, replicate, refl, sym, ◌∙◌, ap, subst, append_assoc, append-nil, length-append, arith, lt-ltb, le-ltb, eq-eqb, ne_eqb, div-lt_iff_lt-mul, pow-suc, div-add-mod'}
 use Rattle.std.proofs.lemmas.Bool.{cases_lt}
 use Rattle.std.proofs.lemmas.Cmp.{ranked, by_ranked}
 use Rattle.std.proofs.lemmas.List.{take_at, drop_at, replicate-append-replicate}
 use Rattle.task_order.specs.PathCode.{digits, head_byte, item_rest, item, code_bytes, end_zeros, CanCode, number_of, rest_len, item_zeros, item_number, item_numbers, Reading, read_byte, read_on, read_all, numbers_of, IsCode, IsPath}
-use Rattle.task_order.proofs.Comparing.{nat_cmp-same, nat_cmp-below, nat_cmp-above, reverse-then, slice_cmp-behind, IsBelow, IsBelow-first, IsBelow-append, IsBelow-behind}
+use Rattle.task_order.proofs.Comparing.{nat_cmp-same, nat_cmp-below, nat_cmp-above, reverse-then, then-decided, slice_cmp-behind, IsBelow, IsBelow-first, IsBelow-append, IsBelow-behind}
 
 -- ---- digits
 
@@ -323,6 +323,17 @@ slice_cmp-numbers_of bytes run other_bytes other_run code other_code =
     ∙ rw (code.same_bytes, other_code.same_bytes, code.same_zeros, other_code.same_zeros)
 
 -- ---- paths with one more number
+
+-- where the bytes are equal the zeros at the end decide
+pub numbers_of-tied : (bytes : List ℕ) (run : ℕ) (other_bytes : List ℕ) (other_run : ℕ) (o : Ordering) → IsCode bytes run → IsCode other_bytes other_run
+    → o ≡ slice_cmp nat_cmp bytes other_bytes → o ≡ Equal → nat_cmp run other_run ≡ slice_cmp nat_cmp (numbers_of bytes run) (numbers_of other_bytes other_run)
+numbers_of-tied bytes run other_bytes other_run o code other_code is tied =
+    sym (slice_cmp-numbers_of bytes run other_bytes other_run code other_code ∙ ap (λ (p : Ordering). ordering_then p (nat_cmp run other_run)) (sym is ∙ tied))
+
+pub numbers_of-decided : (bytes : List ℕ) (run : ℕ) (other_bytes : List ℕ) (other_run : ℕ) (o : Ordering) → IsCode bytes run → IsCode other_bytes other_run
+    → o ≡ slice_cmp nat_cmp bytes other_bytes → o ≢ Equal → o ≡ slice_cmp nat_cmp (numbers_of bytes run) (numbers_of other_bytes other_run)
+numbers_of-decided bytes run other_bytes other_run o code other_code is decided =
+    sym (slice_cmp-numbers_of bytes run other_bytes other_run code other_code ∙ ap (λ (p : Ordering). ordering_then p (nat_cmp run other_run)) (sym is) ∙ then-decided o (nat_cmp run other_run) decided)
 
 pub numbers_of-none : numbers_of [] 0 ≡ []
 unfolding read_all

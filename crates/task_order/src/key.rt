@@ -28,11 +28,15 @@ impl Key {
     }
 
     /// How the two keys compare. They are `Equal` only where they are the same.
+    #[inline(always)]
     pub fn compare(&self, other: &Key) -> Ordering
         ensures order { result ≡ key_cmp self.now other.now }
         ensures same { (result ≡ Ordering.Equal) ↔ (self.now ≡ other.now) }
     {
-        self.cmp(other)
+        match self.prio.cmp(&other.prio) {
+            Ordering::Equal => self.path.cmp(&other.path),
+            order => order,
+        }
     }
 
     /// The same key.

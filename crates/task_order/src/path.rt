@@ -4,6 +4,7 @@ ghost use Rattle.std.specs.Cmp.{partial_equiv_from_equiv};
 ghost use Rattle.std.specs.Cmp.Lexicographic.{pointwise, slice_cmp, nat_list_eq_equiv, nat_list_cmp_total, texts_ties, texts_po};
 ghost use Rattle.task_order.specs.PathCode.{numbers_of, IsCode};
 
+mod in_place;
 mod item;
 mod joined;
 mod node;
@@ -73,6 +74,16 @@ impl Path {
             zeros: self.zeros,
         })
     }
+
+    /// How the two compare, wherever their bytes stand. It stays a call, so that the usual comparison
+    /// is short.
+    #[inline(never)]
+    fn compare_along(&self, other: &Path) -> Ordering
+        ensures { result ≡ slice_cmp nat_cmp self.now other.now }
+    {
+        let order = self.bytes.compare(&other.bytes);
+        order.then(self.zeros.cmp(&other.zeros))
+    }
 }
 
 /// The path that is kept as these bytes and zeros, with one more number.
@@ -122,7 +133,10 @@ impl Ord for Path {
     ghost matches_eq = { texts_ties };
 
     fn cmp(&self, other: &Path) -> Ordering {
-        match self.bytes.compare(&other.bytes) {
+        let Some(order) = self.bytes.compare_in_place(&other.bytes) else {
+            return self.compare_along(other);
+        };
+        match order {
             Ordering::Equal => self.zeros.cmp(&other.zeros),
             order => order,
         }

@@ -4,6 +4,16 @@ ghost use Rattle.std.specs.Ordering.{nat_cmp};
 
 use std::cmp::Ordering;
 
+/// How bytes compare that mostly are equal: std tells that in longer steps than how they differ.
+pub(super) fn order_of_alike(a: &[u8], b: &[u8]) -> Ordering
+    ensures { result ≡ slice_cmp nat_cmp a.now b.now }
+{
+    if a == b {
+        return Ordering::Equal;
+    }
+    a.cmp(b)
+}
+
 /// How the bytes `a` and `a_rest`, one behind the other, compare with `b` and `b_rest`.
 pub(super) fn order_of_joined(a: &[u8], a_rest: &[u8], b: &[u8], b_rest: &[u8]) -> Ordering
     ensures { result ≡ slice_cmp nat_cmp (a.now ++ a_rest.now) (b.now ++ b_rest.now) }
@@ -20,7 +30,7 @@ fn order_from_shorter(a: &[u8], a_rest: &[u8], b: &[u8], b_rest: &[u8]) -> Order
     ensures { result ≡ slice_cmp nat_cmp (a.now ++ a_rest.now) (b.now ++ b_rest.now) }
 {
     let (b_first, b_last) = b.split_at(a.len());
-    match a.cmp(b_first) {
+    match order_of_alike(a, b_first) {
         Ordering::Equal => order_behind(a_rest, b_last, b_rest),
         order => order,
     }

@@ -4,7 +4,7 @@ ghost use Rattle.std.specs.Ordering.{nat_cmp, ordering_then};
 ghost use Rattle.std.specs.declared.cmp.Ordering.TheVariants.{Less};
 ghost use Rattle.task_order.specs.SharedBytes.{chain};
 
-use super::joined::order_of_joined;
+use super::joined::{order_of_alike, order_of_joined};
 use kdg_text::NoRoom;
 use std::alloc::Global;
 use std::cmp::Ordering;
@@ -152,8 +152,8 @@ fn split_last(nodes: &Chain) -> Split<'_>
     }
 }
 
-/// How the bytes of nodes compare, where both have as many full nodes.
-fn order_of_full(a: &Chain, b: &Chain) -> Ordering
+/// How the bytes of nodes compare, where both have as many.
+pub(super) fn order_of_full(a: &Chain, b: &Chain) -> Ordering
     requires { length (chain a.now) ≡ length (chain b.now) }
     ensures { result ≡ slice_cmp nat_cmp (chain a.now) (chain b.now) }
 {
@@ -161,7 +161,7 @@ fn order_of_full(a: &Chain, b: &Chain) -> Ordering
     let (mut a, mut b) = (a, b);
     while let (Some(a_last), Some(b_last)) = (a, b) {
         let (a_last, b_last): (&Node, &Node) = (a_last, b_last);
-        match a_last.bytes.as_slice().cmp(b_last.bytes.as_slice()) {
+        match order_of_alike(&a_last.bytes, &b_last.bytes) {
             Ordering::Equal => {}
             found => order = found,
         }

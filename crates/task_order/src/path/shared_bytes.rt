@@ -1,8 +1,9 @@
-ghost use Rattle.std.specs.Prelude.{◌≡◌, [], ◌∷◌, ◌++◌, slice_get, IfOk, OnOk};
+ghost use Rattle.std.specs.Prelude.{◌≡◌, [], ◌∷◌, ◌++◌, slice_get, IfOk, IfSome, OnOk};
 ghost use Rattle.std.specs.Cmp.Lexicographic.{slice_cmp};
 ghost use Rattle.std.specs.Ordering.{nat_cmp};
 
-use super::node::{Chain, IN_PLACE, byte_of, grown, len_of, order_of, share};
+use super::in_place::{InPlace, order_in_place};
+use super::node::{Chain, IN_PLACE, byte_of, grown, len_of, order_of, order_of_full, share};
 use kdg_text::NoRoom;
 use std::alloc::Global;
 use std::cmp::Ordering;
@@ -14,7 +15,8 @@ use std::sync::Arc;
 #[derive(Drop)]
 pub(super) struct SharedBytes {
     nodes: Chain,
-    rest: [u8; IN_PLACE],
+    // with zeros behind the end, so that they compare by words
+    rest: InPlace,
     rest_len: u8,
     alloc: Global,
 }
@@ -27,7 +29,7 @@ impl Model for SharedBytes {
 
     ghost view = { λ b. chain b.nodes ++ take b.rest_len b.rest };
 
-    ghost invariant = { λ b. IsShared (chain b.nodes) b.rest_len };
+    ghost invariant = { λ b. IsShared (chain b.nodes) b.rest b.rest_len };
 }
 
 impl SharedBytes {
@@ -50,6 +52,7 @@ impl SharedBytes {
         if usize::from(self.rest_len) == IN_PLACE {
             let node = grown(self.alloc, &self.nodes, &self.rest)?;
             self.nodes = Some(Arc::new(self.alloc, node)?);
+            self.rest = [0; IN_PLACE];
             self.rest_len = 0;
         }
         self.rest[usize::from(self.rest_len)] = byte;
@@ -69,15 +72,37 @@ impl SharedBytes {
         })
     }
 
-    /// How the two compare, byte by byte, where a proper prefix comes first.
+    /// How the two compare, byte by byte, where a proper prefix comes first, if the bytes of both
+    /// stand in place.
+    #[inline(always)]
+    pub(super) fn compare_in_place(&self, other: &SharedBytes) -> Option<Ordering>
+        ensures { IfSome result (λ order. order ≡ slice_cmp nat_cmp self.now other.now) }
+    {
+        match (&self.nodes, &other.nodes) {
+            (None, None) => Some(order_in_place(
+                &self.rest,
+                self.rest_len,
+                &other.rest,
+                other.rest_len,
+            )),
+            _ => None,
+        }
+    }
+
+    /// How the two compare, wherever their bytes stand.
     pub(super) fn compare(&self, other: &SharedBytes) -> Ordering
         ensures { result ≡ slice_cmp nat_cmp self.now other.now }
     {
-        let rest = &self.rest[..usize::from(self.rest_len)];
-        let other_rest = &other.rest[..usize::from(other.rest_len)];
-        match (&self.nodes, &other.nodes) {
-            (None, None) => rest.cmp(other_rest),
-            (nodes, other_nodes) => order_of(nodes, rest, other_nodes, other_rest),
+        if len_of(&self.nodes) != len_of(&other.nodes) {
+            let rest = &self.rest[..usize::from(self.rest_len)];
+            let other_rest = &other.rest[..usize::from(other.rest_len)];
+            return order_of(&self.nodes, rest, &other.nodes, other_rest);
+        }
+        match order_of_full(&self.nodes, &other.nodes) {
+            Ordering::Equal => {
+                order_in_place(&self.rest, self.rest_len, &other.rest, other.rest_len)
+            }
+            order => order,
         }
     }
 

@@ -1,8 +1,12 @@
-use Rattle.std.proofs.Common.{sym, ◌∙◌, ap}
+use Rattle.std.proofs.Common.{◌≡◌, refl, sym, ◌∙◌, ap}
 use Rattle.task_order.specs.Key.{key_cmp}
 use Rattle.task_order.proofs.KeyOrder.{key_cmp-exact, key_cmp-same}
+use Rattle.task_order.proofs.Words.{tied-then}
 use Rattle.task_order.proofs.key.Key.compare.Goals as goal
 
-pub returns-clause-same : goal.returns-clause-same
-returns-clause-same c =
-    (λ equal. key_cmp-exact c.args.self.now c.args.other.now (sym c.cmp.ensures ∙ equal), λ same. c.cmp.ensures ∙ ap (key_cmp c.args.self.now) (sym same) ∙ key_cmp-same c.args.self.now)
+pub returns-in-Equal-clause-same : goal.returns-in-Equal-clause-same
+returns-in-Equal-clause-same c =
+    let self = c.args.self.now in
+    let other = c.args.other.now in
+    let order : c.cmp-in-Equal.result ≡ key_cmp self other = tied-then (key_cmp self other) _ _ c.cmp.result c.cmp-in-Equal.result refl c.cmp.ensures c.in-Equal.is c.cmp-in-Equal.ensures in
+    (λ equal. key_cmp-exact self other (sym order ∙ equal), λ same. order ∙ ap (key_cmp self) (sym same) ∙ key_cmp-same self)

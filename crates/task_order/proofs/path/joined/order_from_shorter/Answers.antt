@@ -12,7 +12,7 @@ returns-in-Equal c =
     let last = c.split_at.result.1.now in
     let rest = c.args.b_rest.now in
     c.order_behind.ensures
-    ∙ sym (append-tied a first a_rest (last ++ rest) c.cmp.result (omega arith) c.cmp.ensures c.in-Equal.is)
+    ∙ sym (append-tied a first a_rest (last ++ rest) c.order_of_alike.result (omega arith) c.order_of_alike.ensures c.in-Equal.is)
     ∙ ap (slice_cmp nat_cmp (a ++ a_rest)) (sym (append_assoc first last rest))
     ∙ ap (λ (b : List ℕ). slice_cmp nat_cmp (a ++ a_rest) (b ++ rest)) (split-joined (length a) c.args.b.now first last c.split_at.ensures.front c.split_at.ensures.back)
 
@@ -23,6 +23,6 @@ returns-in_default c =
     let first = c.split_at.result.0.now in
     let last = c.split_at.result.1.now in
     let rest = c.args.b_rest.now in
-    append-decided a first a_rest (last ++ rest) c.cmp.result (omega arith) c.cmp.ensures c.in_default.not-Equal
+    append-decided a first a_rest (last ++ rest) c.order_of_alike.result (omega arith) c.order_of_alike.ensures c.in_default.not-Equal
     ∙ ap (slice_cmp nat_cmp (a ++ a_rest)) (sym (append_assoc first last rest))
     ∙ ap (λ (b : List ℕ). slice_cmp nat_cmp (a ++ a_rest) (b ++ rest)) (split-joined (length a) c.args.b.now first last c.split_at.ensures.front c.split_at.ensures.back)
