@@ -1,5 +1,5 @@
 -- The task with a key, in a list of tasks that is cut into blocks.
-use Rattle.std.proofs.Common.{◌≡◌, ◌≢◌, ℕ, zero, suc, ◌+◌, ◌-◌, ◌<◌, ◌^◌, inl, ⊎_elim, false, List, [], ◌∷◌, ◌++◌, length, take, drop, Option, Some, None, refl, sym, ◌∙◌, ap, subst, arith, length-drop}
+use Rattle.std.proofs.Common.{◌≡◌, ◌≢◌, ℕ, zero, suc, ◌+◌, ◌-◌, ◌<◌, ◌^◌, inl, ⊎_elim, true, false, List, [], ◌∷◌, ◌++◌, length, take, drop, Option, Some, None, refl, sym, ◌∙◌, ap, subst, arith, length-drop}
 use Rattle.std.specs.Prelude.{MatchOption, IfSome, IfNone, slice_get}
 use Rattle.std.specs.Borrow.{Bor}
 use Rattle.std.specs.Map.Iter.{deref}
@@ -8,13 +8,14 @@ use Rattle.std.specs.List.{AllByRecursion, Contains, remove}
 use Rattle.std.proofs.lemmas.List.Elements.{filter-append, Contains-append_left, Contains-append_right}
 use Rattle.std.proofs.lemmas.Option.{get_or_from_slice_get}
 use Rattle.std.proofs.lemmas.Bool.{true≢false}
-use Rattle.std.specs.Ordering.{is_lt}
-use Rattle.std.specs.declared.cmp.Ordering.TheVariants.{Less}
+use Rattle.std.specs.Ordering.{is_lt, is_eq}
+use Rattle.std.specs.declared.cmp.Ordering.{Ordering}
+use Rattle.std.specs.declared.cmp.Ordering.TheVariants.{Less, Equal, Greater}
 use Rattle.task_order.specs.declared.key.Key.{Key}
 use Rattle.task_order.specs.declared.task.Task.{Task}
 use Rattle.task_order.specs.Key.{key_cmp, key_cmp_total}
 use Rattle.task_order.specs.TaskList.{IsAscending, IsNewKey, put_in, is_earlier, without}
-use Rattle.task_order.specs.Blocks.{tasks_in, block_at, IsGapless, IsPlace, IsFound, AreBlocks}
+use Rattle.task_order.specs.Blocks.{tasks_in, block_at, IsGapless, IsPlace, IsFound, AreBlocks, IsElsewhere}
 use Rattle.task_order.proofs.KeyOrder.{differ_from_earlier, earlier_connected}
 use Rattle.task_order.proofs.TaskLists.{All-weaker, All-append, IsNewKey-rest, IsAscending-filter, IsAscending-put_in, length-put_in}
 use Rattle.task_order.proofs.Places.{AreInTurn, IsAscendingParts, ascending_parts}
@@ -163,3 +164,40 @@ pub none_there : (key : Key) (blocks : List (List Task)) (at place : ℕ) (answe
 none_there key blocks at place answer told is task there same =
     let one : None ≡ Some task = ap (option_map deref) (sym is) ∙ told ∙ there in
     absurd (cc)
+
+pub tells_Equal : (o : Ordering) → true ≡ is_eq o → o ≡ Equal
+tells_Equal Less is = absurd (true≢false is)
+tells_Equal Equal is = refl
+tells_Equal Greater is = absurd (true≢false is)
+
+slice_get_inside : {X : Type 0} (xs : List X) (i : ℕ) (x : X) → slice_get xs i ≡ Some x → i < length xs
+slice_get_inside [] zero x is = cc
+slice_get_inside [] (suc i) x is = cc
+slice_get_inside (y ∷ ys) zero x is = omega arith
+slice_get_inside (y ∷ ys) (suc i) x is = let inside = slice_get_inside ys i x is in omega arith
+
+block_inside : (blocks : List (List Task)) (at place : ℕ) (task : Task) → slice_get (block_at blocks at) place ≡ Some task → at < length blocks
+block_inside [] zero place task is = let none : place < 0 = slice_get_inside [] place task is in absurd (omega arith)
+block_inside [] (suc at) place task is = let none : place < 0 = slice_get_inside [] place task is in absurd (omega arith)
+block_inside (block ∷ blocks) zero place task is = omega arith
+block_inside (block ∷ blocks) (suc at) place task is = let inside = block_inside blocks at place task is in omega arith
+
+pub found_there : (key : Key) (blocks : List (List Task)) (at place : ℕ) (answer : Option (Bor Task)) (shown : Bor Task) → option_map deref answer ≡ slice_get (block_at blocks at) place
+    → answer ≡ Some shown → shown.now.key ≡ key → IsFound key blocks at place
+found_there key blocks at place answer shown is shown_is same =
+    let got : slice_get (block_at blocks at) place ≡ Some shown.now = sym is ∙ ap (option_map deref) shown_is in
+    record {
+      inside = block_inside blocks at place shown.now got;
+      within = slice_get_inside (block_at blocks at) place shown.now got;
+      has = λ task found. let task_is : task ≡ shown.now = cc (sym found ∙ got) in ap (λ (t : Task). t.key) task_is ∙ same;
+    }
+
+pub if_none : {A : Type 0} (P Q : Type 0) (answer : Option A) → (P → Q) → IfNone answer P → IfNone answer Q
+if_none P Q (Some found) leads is = is
+if_none P Q None leads is = leads is
+
+-- where the task at a key's place has another key, the key is new
+pub new_from_elsewhere : (key : Key) (blocks : List (List Task)) (at place : ℕ) (answer : Option (ℕ × ℕ)) → IsAscending (tasks_in blocks) → IsPlace key blocks at place
+    → IfNone answer (IsElsewhere key blocks at place) → IfNone answer (IsNewKey key (tasks_in blocks))
+new_from_elsewhere key blocks at place answer ascending is_place elsewhere =
+    if_none (IsElsewhere key blocks at place) (IsNewKey key (tasks_in blocks)) answer (new_from_place key blocks at place ascending is_place) elsewhere

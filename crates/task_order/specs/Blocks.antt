@@ -1,5 +1,5 @@
 -- A list of tasks that is cut into blocks.
-use Rattle.std.specs.Prelude.{◌≡◌, ℕ, suc, ◌+◌, ◌<◌, ◌≤◌, ◌^◌, ◌⊎◌, Bool, false, nat_le, List, [], ◌∷◌, ◌++◌, length, take, drop, slice_get, slice_index_or, Some}
+use Rattle.std.specs.Prelude.{◌≡◌, ◌≢◌, ℕ, suc, ◌+◌, ◌<◌, ◌≤◌, ◌^◌, ◌⊎◌, Bool, false, nat_le, List, [], ◌∷◌, ◌++◌, length, take, drop, slice_get, slice_index_or, Some}
 use Rattle.std.specs.List.{AllByRecursion}
 use Rattle.std.specs.declared.cmp.Ordering.TheVariants.{Less}
 use Rattle.std.specs.Ordering.{is_le}
@@ -72,6 +72,10 @@ pub record IsFound (key : Key) (blocks : List (List Task)) (at place : ℕ) : Ty
   pub inside : at < length blocks
   pub within : place < length (block_at blocks at)
   pub has : (task : Task) → slice_get (block_at blocks at) place ≡ Some task → task.key ≡ key
+
+-- the task at the place, if there is one, has another key
+abbrev pub IsElsewhere : Key → List (List Task) → ℕ → ℕ → Type 0
+IsElsewhere key blocks at place = (task : Task) → slice_get (block_at blocks at) place ≡ Some task → task.key ≢ key
 
 -- the blocks of a list with so many tasks
 pub record AreBlocks (blocks : List (List Task)) (len : ℕ) : Type 0 where

@@ -5,7 +5,7 @@ ghost use Rattle.std.specs.List.Sorted.{IsPartitionPoint};
 ghost use Rattle.std.specs.Iterator.{at_most};
 ghost use Rattle.std.specs.Map.Iter.{deref, TakesFirst};
 ghost use Rattle.std.specs.Option.{option_map};
-ghost use Rattle.task_order.specs.Blocks.{tasks_in, starts_by, starts_within, block_at, IsFilled, IsGapless, IsPlace, IsFound, IsInFull, IsBehindFull};
+ghost use Rattle.task_order.specs.Blocks.{tasks_in, starts_by, starts_within, block_at, IsFilled, IsGapless, IsPlace, IsFound, IsElsewhere, IsInFull, IsBehindFull};
 ghost use Rattle.task_order.specs.TaskList.{IsAscending, IsNewKey, put_in, tasks_before, without};
 
 use crate::block::Block;
@@ -24,6 +24,8 @@ pub(crate) struct Blocks {
     blocks: VecDeque<Block>,
     // behind the task that was put in last; should that be another place by now, a search takes longer
     recent: (usize, usize),
+    // where the last task was that was taken out by its key, and now the next one is, in the same way
+    removed: (usize, usize),
 }
 
 impl Model for Blocks {
@@ -43,6 +45,7 @@ impl Blocks {
         Blocks {
             blocks: VecDeque::new(alloc),
             recent: (0, 0),
+            removed: (0, 0),
         }
     }
 
@@ -54,7 +57,7 @@ impl Blocks {
     {
         match self.end_for(key) {
             Some(end) => end,
-            None => match self.near_recent(key) {
+            None => match self.near(self.recent.0, self.recent.1, key) {
                 Some(near) => near,
                 None => self.place_among(key),
             },
@@ -73,14 +76,13 @@ impl Blocks {
         }
     }
 
-    /// Where a key belongs, if that is close behind the task that was put in last: children of tasks
-    /// in turn mostly go to places in turn.
-    fn near_recent(&self, key: &Key) -> Option<(usize, usize)>
+    /// Where a key belongs, if that is close behind the task before a place: children of tasks in turn
+    /// mostly go to places in turn, and tasks mostly leave in turn.
+    fn near(&self, at: usize, start: usize, key: &Key) -> Option<(usize, usize)>
         requires ascending { IsAscending (tasks_in self.now) }
         requires gapless { IsGapless self.now }
         ensures { IfSome result (λ near. IsPlace key.now self.now near.0 near.1) }
     {
-        let (at, start) = self.recent;
         if at >= self.count() {
             return None;
         }
@@ -279,6 +281,10 @@ impl Blocks {
         ensures task { slice_get (block_at self.old at) place ≡ Some result }
         ensures left { self.new ≡ slice_set self.old at (remove (block_at self.old at) place) }
     {
+        if at == self.recent.0 && place < self.recent.1 {
+            self.recent.1 -= 1;
+        }
+        self.removed = (at, place);
         self.blocks[at].remove(place)
     }
 
@@ -302,9 +308,48 @@ impl Blocks {
         ensures absent { IfNone result (IsNewKey key.now (tasks_in self.now)) }
     {
         let (at, place) = self.place_of(key);
+        self.found_at(at, place, key)
+    }
+
+    /// The place, if the task there has the key.
+    fn found_at(&self, at: usize, place: usize, key: &Key) -> Option<(usize, usize)>
+        ensures found { IfSome result (λ found. IsFound key.now self.now found.0 found.1) }
+        ensures absent { IfNone result (IsElsewhere key.now self.now at place) }
+    {
         match self.get(at, place) {
             Some(task) if task.key.compare(key).is_eq() => Some((at, place)),
             _ => None,
+        }
+    }
+
+    /// The same as `find`, for a task that ends: mostly it is the first, or close behind the one that
+    /// was taken out last.
+    pub(crate) fn find_ending(&self, key: &Key) -> Option<(usize, usize)>
+        requires ascending { IsAscending (tasks_in self.now) }
+        requires gapless { IsGapless self.now }
+        ensures found { IfSome result (λ found. IsFound key.now self.now found.0 found.1) }
+        ensures absent { IfNone result (IsNewKey key.now (tasks_in self.now)) }
+    {
+        if let Some(first) = self.found_at(0, 0, key) {
+            return Some(first);
+        }
+        if let Some(next) = self.found_at(self.removed.0, self.removed.1, key) {
+            return Some(next);
+        }
+        self.find_behind_removed(key)
+    }
+
+    /// The same as `find`, first close behind the next task after the one that was taken out last.
+    fn find_behind_removed(&self, key: &Key) -> Option<(usize, usize)>
+        requires ascending { IsAscending (tasks_in self.now) }
+        requires gapless { IsGapless self.now }
+        ensures found { IfSome result (λ found. IsFound key.now self.now found.0 found.1) }
+        ensures absent { IfNone result (IsNewKey key.now (tasks_in self.now)) }
+    {
+        let (at, next) = self.removed;
+        match self.near(at, next.saturating_add(1), key) {
+            Some((at, place)) => self.found_at(at, place, key),
+            None => self.find(key),
         }
     }
 

@@ -3,17 +3,17 @@ use Rattle.task_order.specs.Blocks.{block_at}
 use Rattle.task_order.specs.TaskList.{IsAscending, tasks_before}
 use Rattle.task_order.proofs.Places.{block_ascends, block_read}
 use Rattle.task_order.proofs.Near.{place_near}
-use Rattle.task_order.proofs.blocks.Blocks.near_recent.Goals as goal
+use Rattle.task_order.proofs.blocks.Blocks.near.Goals as goal
 
 pub place_near-requires : goal.place_near-requires
 place_near-requires c =
-    let at = c.self.inside.recent.0 in
+    let at = c.args.at in
     subst IsAscending (sym (block_read c.self.inside.blocks.items c.args.self.now (at + 1) at c.index-block.result.now c.self.view_is c.index-block.ensures (omega arith) (omega arith) (omega (arith, c.count.ensures, c.if-at-count.false))))
     (block_ascends c.args.self.now at c.requires.ascending)
 
 pub returns-then-place-len : goal.returns-then-place-len
 returns-then-place-len c =
-    let at = c.self.inside.recent.0 in
+    let at = c.args.at in
     let read : c.index-block.result.now ≡ block_at c.args.self.now at =
     block_read c.self.inside.blocks.items c.args.self.now (at + 1) at c.index-block.result.now c.self.view_is c.index-block.ensures (omega arith) (omega arith) (omega (arith, c.count.ensures, c.if-at-count.false)) in
     place_near c.args.key.now c.args.self.now at c.in_ok-place.place c.requires.ascending c.requires.gapless (omega (arith, c.count.ensures, c.if-at-count.false)) c.in_ok-place.ensures.some
@@ -22,7 +22,7 @@ returns-then-place-len c =
 
 pub returns : goal.returns
 returns c =
-    let at = c.self.inside.recent.0 in
+    let at = c.args.at in
     let read : c.index-block.result.now ≡ block_at c.args.self.now at =
     block_read c.self.inside.blocks.items c.args.self.now (at + 1) at c.index-block.result.now c.self.view_is c.index-block.ensures (omega arith) (omega arith) (omega (arith, c.count.ensures, c.if-at-count.false)) in
     place_near c.args.key.now c.args.self.now at c.in_ok-place.place c.requires.ascending c.requires.gapless (omega (arith, c.count.ensures, c.if-at-count.false)) c.in_ok-place.ensures.some
