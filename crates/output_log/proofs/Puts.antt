@@ -122,13 +122,6 @@ put-in_front key text entry entries late ordered = λ i. before-late (at_key key
 pub AllByRecursion-with_entry : (P : Entry → Type 0) (key : Key) (text : List ℕ) (entries : List Entry) → P (key, text) → AllByRecursion P entries → AllByRecursion P (with_entry key text entries)
 AllByRecursion-with_entry P key text entries one all = AllByRecursion-append P _ _ (AllByRecursion-filter P _ entries all) (one, AllByRecursion-filter P _ entries all)
 
--- a later entry goes to the end
-pub append_keeps_order : (entry : Entry) (entries : List Entry) → AllByRecursion (λ other. key_cmp other.0 entry.0 ≡ Less) entries → IsInKeyOrder entries → IsInKeyOrder (entries ++ entry ∷ [])
-unfolding IsStrictlySortedBy
-append_keeps_order entry [] later ordered = (tt, tt)
-append_keeps_order entry (other ∷ entries) later ordered =
-    (AllByRecursion-append (λ next. entry_cmp other next ≡ Less) entries (entry ∷ []) ordered.0 (later.0, tt), append_keeps_order entry entries later.1 ordered.1)
-
 later_from_new : (key : Key) (entry : Entry) (o : Ordering) → IsExactOrder → key_cmp entry.0 key ≡ o → is_lt o ≡ false → entry.0 ≢ key → key_cmp key entry.0 ≡ Less
 later_from_new key entry Less exact is late new = cc
 later_from_new key entry Equal exact is late new = absurd (new (exact entry.0 key is))

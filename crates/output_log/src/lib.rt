@@ -1,9 +1,10 @@
 //! What the tasks wrote, kept in the order of their keys.
 #![tactic(auto)]
 
+mod block;
+mod blocks;
 mod laws;
 mod log;
-mod side;
 
 pub use laws::{join_laws, part_laws, put_laws};
 pub use log::Log;

@@ -1,0 +1,5 @@
+use Rattle.output_log.proofs.BlockEntries.{ordered_after}
+use Rattle.output_log.proofs.log.Log.take_all.Goals as goal
+
+pub invariant_of-self : goal.invariant_of-self
+invariant_of-self c = ordered_after c.self.inside.blocks.blocks c.take_to.new.self.blocks c.count.result 0 c.take_to.result c.self.invariant c.take_to.ensures.rest c.take_to.ensures.unchanged

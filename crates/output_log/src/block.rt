@@ -1,0 +1,138 @@
+ghost use Rattle.std.specs.Prelude.{◌≡◌, ◌<◌, ◌≤◌, ◌↔◌, [], ◌∷◌, ◌++◌, length, take, drop, IsTrue, IfOk, OnOk};
+ghost use Rattle.std.specs.List.{insert};
+ghost use Rattle.std.specs.VecDeque.{deque_len, deque_capacity};
+ghost use Rattle.task_order.specs.Key.{at_key};
+ghost use Rattle.output_log.specs.Blocks.{full_length, ends_before};
+ghost use Rattle.output_log.specs.Entries.{IsInKeyOrder, entries_before, joined_texts};
+
+use kdg_text::{NoRoom, Text};
+use std::alloc::Global;
+use std::collections::VecDeque;
+use std::marker::Model;
+use task_order::Key;
+
+/// How many entries a block has when it is full.
+pub(crate) const FULL: usize = 64;
+
+/// A part of a log, with place for all the entries that it may have.
+#[derive(Drop)]
+pub(crate) struct Block {
+    entries: VecDeque<(Key, Text)>,
+}
+
+impl Model for Block {
+    ghost use Rattle.std.specs.Prelude.{List, ◌≤◌, length};
+    ghost use Rattle.std.specs.VecDeque.{deque_capacity};
+    ghost use Rattle.output_log.specs.Entries.{Entry};
+    ghost use Rattle.output_log.specs.Blocks.{full_length};
+
+    ghost Value = { List Entry };
+
+    ghost view = { λ block. block.entries.items };
+
+    ghost invariant = { λ block. (length block.entries.items ≤ full_length) × (full_length ≤ deque_capacity block.entries) };
+}
+
+/// Puts an entry at a place, where there is memory for it.
+fn put_at(entries: &mut VecDeque<(Key, Text)>, place: usize, entry: (Key, Text))
+    requires place { place ≤ length entries.old.items }
+    requires room { deque_len entries.old < deque_capacity entries.old }
+    ensures items { entries.new.items ≡ insert entries.old.items place entry }
+    ensures capacity { deque_capacity entries.old ≤ deque_capacity entries.new }
+{
+    match entries.insert(place, entry) {
+        Ok(()) => {}
+        Err(_) => unreachable!(),
+    }
+}
+
+impl Block {
+    /// A block with no entries.
+    pub(crate) fn new(alloc: Global) -> Result<Block, NoRoom>
+        ensures { IfOk result (λ block. block ≡ []) }
+    {
+        Ok(Block {
+            entries: VecDeque::with_capacity(alloc, FULL)?,
+        })
+    }
+
+    /// How many entries there are.
+    pub(crate) fn len(&self) -> usize
+        ensures len { result ≡ length self.now }
+        ensures bound { result ≤ full_length }
+    {
+        self.entries.len()
+    }
+
+    /// Whether the last entry is earlier than the key.
+    pub(crate) fn ends_before(&self, key: &Key) -> bool
+        ensures { result ≡ ends_before (at_key key.now) self.now }
+    {
+        match self.entries.back() {
+            Some(last) => last.0.compare(key).is_lt(),
+            None => false,
+        }
+    }
+
+    /// How many entries are earlier than the key.
+    pub(crate) fn rank(&self, key: &Key) -> usize
+        requires { IsInKeyOrder self.now }
+        ensures { result ≡ length (entries_before (at_key key.now) self.now) }
+    {
+        self.entries
+            .partition_point(|entry| entry.0.compare(key).is_lt())
+    }
+
+    /// Puts an entry at a place.
+    pub(crate) fn insert(&mut self, place: usize, entry: (Key, Text))
+        requires room { length self.old < full_length }
+        requires place { place ≤ length self.old }
+        ensures { self.new ≡ insert self.old place entry }
+    {
+        put_at(&mut self.entries, place, entry);
+    }
+
+    /// Moves the entries from a place on to a block that has none.
+    pub(crate) fn cut(&mut self, place: usize, rest: &mut Block)
+        requires empty { rest.old ≡ [] }
+        requires within { length self.old ≤ full_length }
+        requires place { place ≤ length self.old }
+        ensures kept { self.new ≡ take place self.old }
+        ensures rest { rest.new ≡ drop place self.old }
+    {
+        while self.len() > place {
+            let entry = self.take_last();
+            rest.insert(0, entry);
+        }
+    }
+
+    /// Takes the last entry out.
+    fn take_last(&mut self) -> (Key, Text)
+        requires { 0 < length self.old }
+        ensures { self.old ≡ self.new ++ result ∷ [] }
+    {
+        match self.entries.pop_back() {
+            Some(entry) => entry,
+            None => unreachable!(),
+        }
+    }
+
+    /// Takes so many entries from the first on out.
+    pub(crate) fn remove_first(&mut self, count: usize)
+        requires { count ≤ length self.old }
+        ensures { self.new ≡ drop count self.old }
+    {
+        self.entries.drain(..count);
+    }
+
+    /// Adds the texts of so many entries from the first on to a text.
+    pub(crate) fn push_texts(&self, count: usize, text: &mut Text) -> Result<(), NoRoom>
+        requires { count ≤ length self.now }
+        ensures { OnOk result (text.new ≡ text.old ++ joined_texts (take count self.now)) }
+    {
+        for entry in self.entries.range(..count) {
+            text.push_all(entry.1.bytes())?;
+        }
+        Ok(())
+    }
+}
