@@ -4,10 +4,12 @@ use Rattle.std.specs.Prelude.{MatchOption}
 use Rattle.std.specs.List.{list_any}
 use Rattle.std.specs.Option.{option_map}
 use Rattle.std.proofs.lemmas.Bool.{cases_lt, cases_order, true≢false}
+use Rattle.std.proofs.lemmas.List.{flat_map_more}
 use Rattle.task_order.specs.declared.start.Start.{Start}
 use Rattle.task_order.specs.declared.task.Task.{Task}
 use Rattle.task_order.specs.Key.{end, is_before}
 use Rattle.task_order.specs.TaskList.{put_all}
+use Rattle.output_log.specs.Entries.{Entry, joined_texts}
 use Rattle.app_laws.specs.Execution.{Operator, Execution, children_from, first_from, start_of, acts, after_steps, is_clear_before, steps_until, run_to_end, created_by, created_after}
 use Rattle.app_laws.specs.Laws.{IsFirstClear}
 use Rattle.app_laws.specs.Serial.{IsOverBudget}
@@ -79,11 +81,18 @@ module _ {V : Type 0} {act : Operator V} {budget : ℕ} {start : Execution V} {c
       })
 
   -- what the task logs
-  pub log_next : (task : Task) (others : List Task) → pending ≡ task ∷ others
+  log_next : (task : Task) (others : List Task) → pending ≡ task ∷ others
       → (after_steps act (count + 1) start).log ≡ (after_steps act count start).log ++ (task.key, (act task cells).text) ∷ []
   log_next task others is =
       rw add-one
       (ap (λ x. x.log) (step_is task others is) ∙ ap (λ cs. (after_steps act count start).log ++ (task.key, (act task cs).text) ∷ []) (sym reached.cells-are))
+
+  -- its text comes behind all texts so far
+  pub text_next : (task : Task) (others : List Task) → pending ≡ task ∷ others
+      → joined_texts (after_steps act (count + 1) start).log ≡ joined_texts (after_steps act count start).log ++ (act task cells).text
+  text_next task others is =
+      ap joined_texts (log_next task others is)
+      ∙ sym (flat_map_more (λ (entry : Entry). entry.1) [] (after_steps act count start).log (task.key, (act task cells).text))
 
   module _ (fresh : length start.log ≡ 0) where
     count_within : count + length pending ≤ budget

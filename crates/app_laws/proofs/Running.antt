@@ -7,10 +7,8 @@ use Rattle.task_order.specs.declared.key.Key.{Key}
 use Rattle.task_order.specs.declared.start.Start.{Start}
 use Rattle.task_order.specs.declared.task.Body.{Body}
 use Rattle.task_order.specs.declared.task.Task.{Task}
-use Rattle.std.specs.declared.cmp.Ordering.TheVariants.{Less}
-use Rattle.task_order.specs.Key.{key_cmp, child_key}
+use Rattle.task_order.specs.Key.{child_key}
 use Rattle.task_order.specs.TaskList.{IsNewKey}
-use Rattle.output_log.specs.Entries.{IsNewEntry}
 use Rattle.app_laws.specs.Applications.{Application, IsLawful, handed, starts_of}
 use Rattle.app_laws.specs.Execution.{Operator, children_from, start_of, after_steps}
 use Rattle.app_laws.specs.Laws.{AllFit, NoneEarlier, IsFit}
@@ -85,12 +83,3 @@ module _ {V : Type 0} {is_fit_cells : List V → Type 0} {is_fit_task : ℕ → 
       (λ other pair same. differ_from_no_prefix other.key.path (child_key task.key number start.prio).path (apart_longer task.key.path other.key.path number pair).not_after (ap (λ (key : Key). key.path) same))
       others apart.0)
       0 (act task cells).children none_earlier
-
-  -- what is logged is earlier than the task that acts, and has another key
-  pub log_earlier : AllByRecursion (λ entry. key_cmp entry.0 task.key ≡ Less) (after_steps act count (start_of start-cells first)).log
-  log_earlier =
-      let after = subst (λ ts. AllByRecursion (λ (t : Task). AllByRecursion (λ entry. key_cmp entry.0 t.key ≡ Less) (after_steps act count (start_of start-cells first)).log) ts) (sym reached.pending-are ∙ is) (orderly_after run count).after_log in
-      after.0
-
-  pub log_new : IsNewEntry task.key (after_steps act count (start_of start-cells first)).log
-  log_new = All-weaker _ (λ entry. entry.0 ≢ task.key) (λ entry less. run.lower.irreflexive entry.0 task.key less) _ log_earlier

@@ -1,10 +1,7 @@
--- What the crates below promise of keys, lists of tasks and logs.
+-- What the crates below promise of keys and lists of tasks.
 use Rattle.task_order.specs.Key.{ChildrenComeLater}
-use Rattle.task_order.specs.Laws.{EarlierIsIrreflexive, PutsKeepAscending}
-use Rattle.output_log.specs.Laws.{LastPutsAppend}
+use Rattle.task_order.specs.Laws.{PutsKeepAscending}
 
 pub record LowerLaws : Type 0 where
   pub children_later : ChildrenComeLater
-  pub irreflexive : EarlierIsIrreflexive
   pub puts_ascend : PutsKeepAscending
-  pub last_appends : LastPutsAppend

@@ -1,17 +1,18 @@
 -- What a serial run answers.
 use Rattle.std.specs.Prelude.{ℕ, ◌≡◌, ◌<◌, ◌≤◌, length, Some, None}
 use Rattle.cell_store.specs.Values.{homes}
+use Rattle.output_log.specs.Entries.{joined_texts}
 use Rattle.app_laws.specs.Execution.{Operator, Execution, run_to_end, created_after}
 use Rattle.app_laws.specs.declared.serial_run.Finals.{Finals}
 use Rattle.app_laws.specs.declared.serial_run.SerialFault.{SerialFault}
 use Rattle.app_laws.specs.declared.serial_run.SerialFault.TheVariants.{Budget, NoRoom}
 
--- the execution to its end: its cells, all of them home, its log, and the number of its tasks
+-- the execution to its end: its cells, all of them home, the texts of its log, joined, and the number of its tasks
 pub record IsRun {V : Type 0} (act : Operator V) (budget : ℕ) (start : Execution V) (finals : Finals V) : Type 0 where
   pub end : Execution V
   pub ends : run_to_end act budget start ≡ Some end
   pub store : finals.store ≡ homes end.cells
-  pub log : finals.log.entries ≡ end.log
+  pub text : finals.text ≡ joined_texts end.log
   pub count : finals.count ≡ length end.log
 
 -- this many tasks are created when first there are more than the limit

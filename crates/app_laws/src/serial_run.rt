@@ -10,21 +10,18 @@ ghost use Rattle.app_laws.specs.Serial.{IsRun, IsFault};
 use crate::{App, Child, ChildList, Effect, SetAnswer, lawful};
 use cell_store::{Held, Store, value_laws};
 use kdg_text::{NoRoom, Steps, Text};
-use output_log::{Log, put_laws};
 use std::alloc::Global;
 use std::marker::Brand;
 use std::sync::ledger::{Blank, Ledger};
-use task_order::{
-    Body, Key, Path, Start, StartList, Task, TaskList, earlier_laws, key_order, put_in_laws,
-};
+use task_order::{Body, Key, Path, Start, StartList, Task, TaskList, key_order, put_in_laws};
 
 /// What a run leaves that has ended.
 #[derive(Drop)]
 pub struct Finals<V: Held> {
     /// The cells after the last task, all of them home.
     pub store: Store<V>,
-    /// What the tasks wrote, in the order of their keys.
-    pub log: Log,
+    /// What the tasks wrote, in the order of their keys, joined.
+    pub text: Text,
     /// How many tasks ran.
     pub count: u64,
 }
@@ -102,28 +99,25 @@ fn counted_run<A: App, L: Ledger>(
     let mut created = within(starts.len() as u64, budget)?;
     let mut pending = first_tasks(alloc, starts)?;
     let mut store = store_of(alloc, app, cells)?;
-    let mut log = Log::new(alloc);
+    let mut text = Text::new(alloc);
     let mut count = 0u64;
     while let Some(task) = pending.take_first() {
-        log.reserve(1)?;
-        let (children, text) = act(app, &task, &mut store, &mut steps)?;
+        let (children, written) = act(app, &task, &mut store, &mut steps)?;
         let made = children.items();
         created = within(created + made.len() as u64, budget)?;
         put_children(&mut pending, &task.key, made)?;
-        log.append(task.key, text);
+        text.push_all(written.bytes())?;
         count += 1;
     }
-    Ok(Finals { store, log, count })
+    Ok(Finals { store, text, count })
 }
 
-/// What the crates below promise of keys, lists of tasks and logs, as one.
+/// What the crates below promise of keys and lists of tasks, as one.
 pub(crate) fn lower_laws()
     ensures { LowerLaws }
 {
     key_order();
-    earlier_laws();
     put_in_laws();
-    put_laws();
 }
 
 /// That number of created tasks, where it is within the limit.

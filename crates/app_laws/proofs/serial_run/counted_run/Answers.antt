@@ -1,19 +1,17 @@
-use Rattle.std.proofs.Common.{◌≡◌, ◌≤◌, ℕ, List, [], ◌∷◌, ◌++◌, ◌+◌, Option, Some, None, length, refl, sym, ap, ◌∙◌, subst, arith}
+use Rattle.std.proofs.Common.{◌≡◌, ◌≤◌, ℕ, List, [], ◌++◌, ◌+◌, Option, Some, None, length, refl, sym, ap, ◌∙◌, subst, arith}
 use Rattle.std.specs.Prelude.{IfNone}
 use Rattle.std.specs.List.{AllByRecursion}
 use Rattle.std.proofs.lemmas.Result.{err_from_is_err_and}
 use Rattle.task_order.specs.declared.task.Task.{Task}
 use Rattle.task_order.specs.declared.start.Start.{Start}
 use Rattle.task_order.specs.TaskList.{IsNewKey, put_all}
-use Rattle.std.specs.declared.cmp.Ordering.TheVariants.{Less}
-use Rattle.task_order.specs.Key.{key_cmp}
-use Rattle.output_log.specs.Entries.{Entry}
+use Rattle.output_log.specs.Entries.{joined_texts}
 use Rattle.cell_store.specs.Values.{homes, values_of}
 use Rattle.app_laws.specs.Applications.{AreFitStarts, IsLawful, starts_of}
-use Rattle.app_laws.specs.Execution.{children_from, first_from, start_of, after_steps}
+use Rattle.app_laws.specs.Execution.{children_from, first_from, start_of}
 use Rattle.app_laws.specs.Lower.{LowerLaws}
-use Rattle.app_laws.proofs.Reached.{IsReached, reached_at_start, reached_next, log_next, count_below, over_budget, over_at_start, ends_here, counted}
-use Rattle.app_laws.proofs.Running.{IsRunning, keeps_fit, not_earlier, cells_fit, task_fit, none_earlier, children_new, log_earlier, starts_of_handed, length-handed, handed_not_earlier}
+use Rattle.app_laws.proofs.Reached.{IsReached, reached_at_start, reached_next, text_next, count_below, over_budget, over_at_start, ends_here, counted}
+use Rattle.app_laws.proofs.Running.{IsRunning, keeps_fit, not_earlier, cells_fit, task_fit, none_earlier, children_new, starts_of_handed, length-handed, handed_not_earlier}
 use Rattle.app_laws.proofs.Steps.{after_none}
 use Rattle.app_laws.proofs.serial_run.counted_run.Given.{Over}
 use Rattle.app_laws.proofs.serial_run.counted_run.Goals as goal
@@ -46,7 +44,7 @@ loop-task-init g c =
           (reached_at_start _ _ _ _ _ _ (c.in_ok-pending.ensures.tasks ∙ ap (λ first. put_all (first_from 0 first) []) c.items-starts.ensures)
           (c.in_ok-created.ensures.ok.0 ∙ ap length c.items-starts.ensures) (rw c.in_ok-created.ensures.ok.0 c.in_ok-created.ensures.ok.1));
       home = c.in_ok-store.ensures ∙ ap homes (sym values);
-      log = c.new-log.ensures ∙ sym (ap (λ e. e.log) (after_none _ _));
+      text = c.new-text.ensures ∙ sym (ap (λ e. joined_texts e.log) (after_none _ _));
     }
 
 pub act-requires-clause-fit : goal.act-requires-clause-fit
@@ -87,11 +85,6 @@ put_children-requires-clause-new g c =
     (sym (ap starts_of (c.items-made.ensures.all ∙ c.in_ok-children.ensures.children) ∙ starts_of_handed app outcome.cells outcome.children))
     (children_new (running g c.lower_laws.ensures c.args.app.now (c.lawful.ensures c.args.app.now) c.args.cells.items c.args.first c.requires.fit_cells c.requires.fit_first) c.loop-task.invariant.reached c.in-Some.ensures.first)
 
-pub append-requires-clause-latest : goal.append-requires-clause-latest
-append-requires-clause-latest g c =
-    subst (λ entries. AllByRecursion (λ (entry : Entry). key_cmp entry.0 c.in-Some.task.key ≡ Less) entries) (sym (c.reserve.ensures.entries ∙ c.loop-task.invariant.log))
-    (log_earlier (running g c.lower_laws.ensures c.args.app.now (c.lawful.ensures c.args.app.now) c.args.cells.items c.args.first c.requires.fit_cells c.requires.fit_first) c.loop-task.invariant.reached c.in-Some.ensures.first)
-
 pub overflow_add-count : goal.overflow_add-count
 overflow_add-count g c =
     omega (arith, count_below c.loop-task.invariant.reached refl c.in-Some.task c.take_first.new.self c.in-Some.ensures.first, c.requires.budget)
@@ -106,7 +99,7 @@ loop-task-preserved g c =
     let outcome = app.act c.in-Some.task (values_of c.loop-task.store) in
     let values : values_of c.act.new.store ≡ outcome.cells = ap values_of c.in_ok-children.ensures.store ∙ c.value_laws.ensures.values.values_of_homes outcome.cells in
     let children = c.items-made.ensures.all ∙ c.in_ok-children.ensures.children in
-    let entries = (after_steps app.act c.loop-task.count (start_of c.args.cells.items c.args.first)).log in
+    let written = c.bytes.ensures ∙ c.in_ok-children.ensures.text in
     record {
       reached = reached_next c.loop-task.invariant.reached c.in-Some.task c.take_first.new.self _ _ _ c.in-Some.ensures.first
           values
@@ -114,11 +107,10 @@ loop-task-preserved g c =
           (c.in_ok-created-2.ensures.ok.0 ∙ ap (λ (n : ℕ). c.loop-task.created + n) (ap length children ∙ length-handed app outcome.cells outcome.children))
           (rw c.in_ok-created-2.ensures.ok.0 c.in_ok-created-2.ensures.ok.1);
       home = c.in_ok-children.ensures.store ∙ ap homes (sym values);
-      log =
-          c.append.ensures.entries
-          ∙ ap (λ log. log ++ (c.in-Some.task.key, c.in_ok-children.text) ∷ []) (c.reserve.ensures.entries ∙ c.loop-task.invariant.log)
-          ∙ ap (λ text. entries ++ (c.in-Some.task.key, text) ∷ []) c.in_ok-children.ensures.text
-          ∙ sym (log_next c.loop-task.invariant.reached c.in-Some.task c.take_first.new.self c.in-Some.ensures.first);
+      text =
+          c.in_ok-push_all.ensures.ok
+          ∙ (λ i. c.loop-task.invariant.text i ++ written i)
+          ∙ sym (text_next c.loop-task.invariant.reached c.in-Some.task c.take_first.new.self c.in-Some.ensures.first);
     }
 
 pub returns-clause-run : goal.returns-clause-run
@@ -127,6 +119,6 @@ returns-clause-run g c =
       end = _;
       ends = ends_here c.loop-task.invariant.reached refl (at_none c.take_first.result (c.loop-task.pending ≡ []) c.in_default.not-Some c.take_first.ensures.empty);
       store = c.loop-task.invariant.home ∙ ap homes c.loop-task.invariant.reached.cells-are;
-      log = c.loop-task.invariant.log;
+      text = c.loop-task.invariant.text;
       count = counted c.loop-task.invariant.reached refl;
     }

@@ -1,5 +1,6 @@
 use Rattle.std.proofs.Common.{◌≡◌, ◌-◌}
 use Rattle.cell_store.specs.Values.{homes, values_of}
+use Rattle.output_log.specs.Entries.{joined_texts}
 use Rattle.app_laws.specs.Execution.{start_of, after_steps}
 use Rattle.app_laws.proofs.Reached.{IsReached}
 use Rattle.app_laws.proofs.serial_run.counted_run.Given as goal
@@ -8,7 +9,7 @@ abbrev pub invariant-loop-task : goal.invariant-loop-task
 invariant-loop-task g l = record {
   reached : IsReached (g.A.App.meaning l.app).act l.budget (start_of l.fn.cells.items l.fn.first) (values_of l.store) l.pending l.count l.created;
   home : l.store ≡ homes (values_of l.store);
-  log : l.log.entries ≡ (after_steps (g.A.App.meaning l.app).act l.count (start_of l.fn.cells.items l.fn.first)).log;
+  text : l.text ≡ joined_texts (after_steps (g.A.App.meaning l.app).act l.count (start_of l.fn.cells.items l.fn.first)).log;
 }
 
 abbrev pub decreases-loop-task : goal.decreases-loop-task
