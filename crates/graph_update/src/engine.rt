@@ -178,19 +178,21 @@ impl<'a, A: App> Engine<'a, A> {
         }
     }
 
-    /// The cells, all of them home, what was logged and not drained, and how many tasks have ended.
-    pub fn end(self) -> Finals<A::Val>
+    /// The cells, all of them home, the texts of what was logged and not drained, and how many tasks
+    /// have ended. After `NoRoom` all is dropped.
+    pub fn end(mut self) -> Result<Finals<A::Val>, NoRoom>
         requires { self.progress.nodes ≡ [] }
-        ensures store { result.store ≡ self.entry.progress.cells }
-        ensures log { result.log.entries ≡ self.entry.progress.log }
-        ensures count { result.count ≡ self.entry.progress.ended }
-        ensures whole { (values : List A.Val) × IsSound (A.meaning self.entry.app) self.entry.progress [] values × (result.store ≡ homes values) }
+        ensures store { IfOk result (λ finals. finals.store ≡ self.entry.progress.cells) }
+        ensures text { IfOk result (λ finals. finals.text ≡ joined_texts self.entry.progress.log) }
+        ensures count { IfOk result (λ finals. finals.count ≡ self.entry.progress.ended) }
+        ensures whole { (values : List A.Val) × IsSound (A.meaning self.entry.app) self.entry.progress [] values × IfOk result (λ finals. finals.store ≡ homes values) }
     {
         basis::<A>();
-        Finals {
+        let text = self.log.take_all()?;
+        Ok(Finals {
             store: self.store,
-            log: self.log,
+            text,
             count: self.ended,
-        }
+        })
     }
 }
