@@ -2,7 +2,7 @@
 use Rattle.std.specs.Prelude.{◌≡◌, ◌<◌, ◌+◌, ◌-◌, ℕ, length, Option, Some, None}
 use Rattle.task_order.specs.Key.{end}
 use Rattle.cell_store.specs.Values.{homes, values_of}
-use Rattle.output_log.specs.Entries.{joined_by_key}
+use Rattle.output_log.specs.Entries.{joined_by_key, joined_texts}
 use Rattle.app_laws.specs.Applications.{Application}
 use Rattle.app_laws.specs.declared.serial_run.Finals.{Finals}
 use Rattle.app_laws.specs.Execution.{Execution}
@@ -21,13 +21,13 @@ module _ {V : Type 0} (app : Application V) (start : Progress V) where
   abbrev pub rest_of_run : Option (Execution V)
   rest_of_run = run_from app.act (start.limit - start.ended) end (state_at_rest start)
 
-  -- The end of the sequential run: its cells, all of them home; its log, joined with what was logged before; and how many tasks
-  -- have ended. It takes this number of rounds.
+  -- The end of the sequential run: its cells, all of them home; the texts of its log, joined with what was logged before; and how
+  -- many tasks have ended. It takes this number of rounds.
   pub record IsRoundsEnd (finals : Finals V) (rounds : ℕ) : Type 0 where
     pub last : Execution V
     pub is_end : rest_of_run ≡ Some last
     pub store : finals.store ≡ homes last.cells
-    pub log : finals.log.entries ≡ joined_by_key start.log last.log
+    pub text : finals.text ≡ joined_texts (joined_by_key start.log last.log)
     pub count : finals.count ≡ start.ended + length last.log
     pub rounds_are : TakesRounds app rounds (state_at_rest start)
 

@@ -116,7 +116,7 @@ fn counted_rounds<'a, R: Threads + Sync, A: App + Sync, G: Gate + Sync, L: Ledge
         play_round(rt, alloc, &mut engine, &mut picks, workers, &mut steps)?;
         rounds += 1;
     }
-    Ok((engine.end(), rounds))
+    Ok((engine.end()?, rounds))
 }
 
 /// Plays one round of an execution in which nothing runs: draws the jobs of all clear tasks, has

@@ -132,7 +132,7 @@ fn outcome_of(alloc: Global, finals: &Finals<u64>) -> Result<Outcome, Fail> {
         })?;
     }
     let mut lines = String::new(alloc);
-    lines.push_str(str::from_utf8(finals.log.all()?.bytes())?)?;
+    lines.push_str(str::from_utf8(finals.text.bytes())?)?;
     Ok(Outcome {
         contacts,
         lines,

@@ -1,5 +1,6 @@
 use Rattle.std.proofs.Common.{ℕ, suc, sym, ap, subst, ◌∙◌, add-one, arith}
 use Rattle.cell_store.specs.Values.{values_of}
+use Rattle.output_log.specs.Entries.{joined_texts}
 use Rattle.commuting.specs.Rounds.{after_round}
 use Rattle.kdg_graph.specs.Nodes.{least_of, tasks_of}
 use Rattle.source_pool.specs.Course.{IsAtRest, LeadsByRounds}
@@ -44,8 +45,8 @@ returns-clause-end g c =
     record {
       last = come.last;
       is_end = come.is_end;
-      store = c.end.ensures.store ∙ come.home;
-      log = c.end.ensures.log ∙ come.log;
-      count = c.end.ensures.count ∙ come.ended;
+      store = c.in_ok-end.ensures.store ∙ come.home;
+      text = c.in_ok-end.ensures.text ∙ ap joined_texts come.log;
+      count = c.in_ok-end.ensures.count ∙ come.ended;
       rounds_are = c.rounds_laws.ensures.taken c.args.engine.app c.loop-picks.rounds (state_at_rest g.start) (state_at_rest now) c.loop-picks.invariant.leads (ap tasks_of empty);
     }
