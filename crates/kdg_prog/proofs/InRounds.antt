@@ -7,7 +7,7 @@ use Rattle.std.specs.declared.cmp.Ordering.TheVariants.{Less}
 use Rattle.task_order.specs.Key.{end, key_cmp}
 use Rattle.cell_store.specs.Laws.{HomesAreValues}
 use Rattle.cell_store.specs.Values.{AreAllHome, values_of}
-use Rattle.output_log.specs.Entries.{Entry, IsInKeyOrder, joined_by_key}
+use Rattle.output_log.specs.Entries.{Entry, IsInKeyOrder, joined_by_key, joined_texts}
 use Rattle.output_log.specs.Laws.{JoinsWithNone}
 use Rattle.app_laws.specs.Applications.{Application}
 use Rattle.app_laws.specs.Execution.{Execution, after_steps, steps_until}
@@ -82,7 +82,7 @@ module _ {V : Type 0} (options : Options) (problem : Problem V) (progress : Prog
       end = ended.last;
       ends = ends;
       store = ended.store;
-      log = ended.log ∙ ap (λ entries. joined_by_key entries ended.last.log) begun.nothing_logged ∙ (joins ended.last.log last_ascends).1;
+      text = ended.text ∙ ap joined_texts (ap (λ entries. joined_by_key entries ended.last.log) begun.nothing_logged ∙ (joins ended.last.log last_ascends).1);
       count = omega (arith, ended.count, begun.none_ended);
     }
 

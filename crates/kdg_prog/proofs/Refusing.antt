@@ -4,7 +4,6 @@ use Rattle.std.specs.Bool.{then_some}
 use Rattle.std.specs.Prelude.{IfOk, IfErr, IsErrAnd, Result}
 use Rattle.cell_store.specs.Laws.{HomesAreValues}
 use Rattle.cell_store.specs.Values.{AreAllHome, values_of}
-use Rattle.output_log.specs.Entries.{joined_texts}
 use Rattle.app_laws.specs.Execution.{Execution, Operator, start_of}
 use Rattle.app_laws.specs.Serial.{IsFault, IsOverBudget, IsRun}
 use Rattle.app_laws.specs.declared.serial_run.Finals.{Finals}
@@ -54,7 +53,7 @@ module _ {V : Type 0} (options : Options) (problem : Problem V) where
   print_from_run finals told bytes laws tells run is-bytes =
       let cells : values_of finals.store ≡ run.end.cells = ap values_of run.store ∙ laws.values_of_homes run.end.cells in
       let printed : bytes ≡ print_of problem options told run.end =
-      is-bytes ∙ (λ i. text_shown options (joined_texts (run.log i)) (problem.finals (cells i)) (run.count i) ++ rounds_text told) in
+      is-bytes ∙ (λ i. text_shown options (run.text i) (problem.finals (cells i)) (run.count i) ++ rounds_text told) in
       (λ i. answer_by_end problem options (tells i) (run.ends i)) ∙ ap whole_print (sym printed)
 
   -- in mode serial no rounds are told

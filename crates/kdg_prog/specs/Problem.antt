@@ -104,7 +104,7 @@ module _ {V : Type 0} (problem : Problem V) where
 
   -- the same of what a run leaves
   abbrev pub print_of_finals : Options → Option ℕ → Finals V → List ℕ
-  print_of_finals options told finals = text_shown options (joined_texts finals.log.entries) (problem.finals (values_of finals.store)) finals.count ++ rounds_text told
+  print_of_finals options told finals = text_shown options finals.text (problem.finals (values_of finals.store)) finals.count ++ rounds_text told
 
   -- by the end of the execution, where there is one
   abbrev pub answer_by_end : Options → Option ℕ → Option (Execution V) → Answer

@@ -130,11 +130,13 @@ fn finals_print<A: Runnable>(
     requires cells { (A.meaning app.now).is_fit_cells (values_of finals.store) }
     ensures { IfOk result (λ bytes. bytes ≡ print_of_finals (problem_of (A.meaning app.now) (A.setting app.now)) options.now rounds finals) }
 {
-    let Finals { store, log, count } = finals;
-    let log_text = log.all()?;
-    drop(log);
+    let Finals {
+        store,
+        text: log,
+        count,
+    } = finals;
     let final_text = app.final_text(&store)?;
-    let mut text = text_shown(alloc, options, log_text, &final_text, count)?;
+    let mut text = text_shown(alloc, options, log, &final_text, count)?;
     push_rounds(&mut text, rounds)?;
     Ok(text)
 }
