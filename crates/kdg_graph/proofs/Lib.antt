@@ -22,3 +22,4 @@ pub mod Filing
 pub mod Blocking
 pub mod Fronting
 pub mod Earliest
+pub mod Walking

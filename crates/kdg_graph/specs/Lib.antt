@@ -10,3 +10,4 @@ pub mod Locations
 pub mod Selected
 pub mod Kept
 pub mod Fronts
+pub mod Walk

@@ -1,8 +1,9 @@
-ghost use Rattle.std.specs.Prelude.{◌≡◌, IfSome};
+ghost use Rattle.std.specs.Prelude.{◌≡◌, ◌<◌, IfSome, length};
 ghost use Rattle.std.specs.Iterator.{YieldsFirst, item_count};
 ghost use Rattle.kdg_graph.specs.Edges.{laters_of};
 ghost use Rattle.kdg_graph.specs.Locations.{AreFiled};
 ghost use Rattle.kdg_graph.specs.Nodes.{HasNode, node_at};
+ghost use Rattle.kdg_graph.specs.NodeStock.{IsPlaceOf};
 
 use crate::NodeId;
 use crate::locations::Locations;
@@ -14,27 +15,29 @@ use task_order::Key;
 /// The ids of the later nodes whose recorded sets conflict with that of one node, in key order,
 /// seen as the list of those that are left.
 ///
-/// Each is found by halving among the nodes of each location of the set.
+/// Each is found by halving among the nodes of one location of the set after another, up to the first
+/// location where the first of all that are left is found.
 #[derive(Drop)]
 pub struct Laters<'g> {
     nodes: &'g OrderedNodes,
     locations: &'g Locations,
     set: &'g RwSet,
     after: &'g Key,
+    place: usize,
 }
 
 impl<'g> Model for Laters<'g> {
     ghost use Rattle.std.specs.Prelude.{List, filter};
     ghost use Rattle.kdg_graph.specs.declared.node_id.NodeId.{NodeId};
     ghost use Rattle.rw_sets.specs.Accesses.{conflicts_with};
-    ghost use Rattle.kdg_graph.specs.Locations.{AreFiled};
     ghost use Rattle.kdg_graph.specs.Nodes.{ids_of, later_than};
+    ghost use Rattle.kdg_graph.specs.Walk.{IsWalk};
 
     ghost Value = { List NodeId };
 
     ghost view = { λ l. ids_of (filter (λ other. conflicts_with l.set.now other.set) (later_than l.after.now l.nodes.now.nodes)) };
 
-    ghost invariant = { λ l. AreFiled l.nodes.now.nodes l.locations.now.locations.items };
+    ghost invariant = { λ l. IsWalk l.nodes.now.nodes l.locations.now.locations.items l.after.now l.place };
 }
 
 impl<'g> Laters<'g> {
@@ -44,12 +47,14 @@ impl<'g> Laters<'g> {
         requires filed { AreFiled nodes.now.nodes locations.now.locations.items }
         ensures { IfSome (node_at nodes.now.nodes id) (λ node. result ≡ laters_of nodes.now.nodes node) }
     {
+        let _graph = nodes.len();
         let node = nodes.entry(id);
         Laters {
             nodes,
             locations,
             set: &node.set,
             after: &node.task.key,
+            place: nodes.place_of(id) + 1,
         }
     }
 }
@@ -62,11 +67,32 @@ impl<'g> Iterator for Laters<'g> {
     ghost remaining = { item_count (λ ids. ids) };
 
     fn next(&mut self) -> Option<NodeId> {
+        if self.place == self.nodes.len() {
+            return None;
+        }
+        let next = self.nodes.at(self.place).id;
         let id = self
             .locations
-            .first_in_conflict(self.nodes, self.set, self.after)?;
-        let node = self.nodes.entry(id);
+            .first_in_conflict(self.nodes, self.set, self.after, next)?;
+        let place = place_of(self.nodes, id, self.place);
+        let node = self.nodes.at(place);
         self.after = &node.task.key;
+        self.place = place + 1;
         Some(id)
+    }
+}
+
+/// The place of a node in the order, found at once where it is the expected one.
+fn place_of(nodes: &OrderedNodes, id: NodeId, expected: usize) -> usize
+    requires there { HasNode nodes.now.nodes id }
+    requires expected { expected < length nodes.now.nodes }
+    ensures place { IsPlaceOf id nodes.now.nodes result }
+    ensures inside { result < length nodes.now.nodes }
+{
+    let _graph = nodes.len();
+    if nodes.at(expected).id == id {
+        expected
+    } else {
+        nodes.place_of(id)
     }
 }

@@ -1,4 +1,4 @@
-ghost use Rattle.std.specs.Prelude.{◌≡◌, ◌-◌, ◌≤◌, ◌<◌, ◌+◌, ℕ, [], take, drop, filter, length, slice_index_or, OnOk, IfNone, IfSome};
+ghost use Rattle.std.specs.Prelude.{◌≡◌, ◌-◌, ◌≤◌, ◌<◌, ◌+◌, ℕ, [], take, drop, filter, length, slice_index_or, Some, OnOk, IfNone, IfSome};
 ghost use Rattle.rw_sets.specs.Accesses.{conflicts_with};
 ghost use Rattle.kdg_graph.specs.Nodes.{HasNode, IsGraph, ids_of, least_of, later_than, node_at};
 ghost use Rattle.kdg_graph.specs.Edges.{is_blocked};
@@ -147,14 +147,17 @@ impl Locations {
         Some(lane.at(place))
     }
 
-    /// The first node later than the key whose recorded set conflicts with a set.
+    /// The first node later than the key whose recorded set conflicts with a set. The first of all
+    /// nodes later than the key is given: none is earlier, so the search ends where it is found.
     pub(crate) fn first_in_conflict(
         &self,
         nodes: &OrderedNodes,
         set: &RwSet,
         key: &Key,
+        next: NodeId,
     ) -> Option<NodeId>
         requires filed { AreFiled nodes.now.nodes self.now.locations.items }
+        requires next { least_of (later_than key.now nodes.now.nodes) ≡ Some next }
         ensures first { result ≡ least_of (filter (λ other. conflicts_with set.now other.set) (later_than key.now nodes.now.nodes)) }
         ensures graph { IsGraph nodes.now.nodes }
     {
@@ -162,6 +165,9 @@ impl Locations {
         let mut first = None;
         for pair in set.items() {
             let other = self.first_after(nodes, pair.0, pair.1, key);
+            if other == Some(next) {
+                return other;
+            }
             first = nodes.earlier(first, other);
         }
         first

@@ -32,3 +32,22 @@ fn is_blocked(graph: &Graph, key: &Key) -> bool {
     }
     false
 }
+
+/// The later nodes in conflict with the node whose task has the key, found by comparing its set with
+/// that of each later node.
+pub(crate) fn plain_laters(graph: &Graph, alloc: Global, key: &Key) -> Result<Vec<NodeId>, NoRoom> {
+    let mut laters = Vec::new(alloc);
+    let Some(node) = graph.find(key) else {
+        return Ok(laters);
+    };
+    for other in graph.tasks().iter() {
+        if key.compare(&other.key).is_lt() {
+            if let Some(later) = graph.find(&other.key) {
+                if graph.set(node).conflicts(graph.set(later)) {
+                    laters.push(later)?;
+                }
+            }
+        }
+    }
+    Ok(laters)
+}

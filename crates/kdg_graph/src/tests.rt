@@ -1,7 +1,7 @@
 ghost use Rattle.std.specs.Prelude.{IfOk};
 ghost use Rattle.kdg_graph.specs.Nodes.{HasNode};
 
-use crate::plain::plain_sources;
+use crate::plain::{plain_laters, plain_sources};
 use crate::{Fresh, Graph, NodeId, SetChange};
 use Access::{Read, Write};
 use kdg_text::NoRoom;
@@ -194,8 +194,21 @@ fn replace(
     Ok(())
 }
 
+/// Checks the sources and the later nodes of each node against a plain search.
+fn check_plain(rt: &impl Abort, graph: &Graph, alloc: Global) -> Result<(), Fail> {
+    let plain = plain_sources(graph, alloc)?;
+    assert_eq!(rt; sources(graph, alloc)?.as_slice(), plain.as_slice());
+    for task in graph.tasks().iter() {
+        let node = graph.find(&task.key).ok_or("no such node")?;
+        let laters: Vec<NodeId> = graph.later_of(node).collect(alloc)?;
+        let plain = plain_laters(graph, alloc, &task.key)?;
+        assert_eq!(rt; laters.as_slice(), plain.as_slice());
+    }
+    Ok(())
+}
+
 #[test]
-fn sources_are_those_of_a_plain_search(rt: HostRuntime) -> Result<(), Fail> {
+fn sources_and_laters_are_those_of_a_plain_search(rt: HostRuntime) -> Result<(), Fail> {
     let alloc = rt.alloc();
     let mut graph = Graph::new(alloc);
     let calls = [
@@ -218,8 +231,7 @@ fn sources_are_those_of_a_plain_search(rt: HostRuntime) -> Result<(), Fail> {
     ];
     for call in calls {
         run(&rt, &mut graph, alloc, call)?;
-        let plain = plain_sources(&graph, alloc)?;
-        assert_eq!(rt; sources(&graph, alloc)?.as_slice(), plain.as_slice());
+        check_plain(&rt, &graph, alloc)?;
     }
     Ok(())
 }

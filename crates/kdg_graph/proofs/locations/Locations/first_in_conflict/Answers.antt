@@ -1,5 +1,6 @@
-use Rattle.std.proofs.Common.{◌≡◌, ◌<◌, ◌∙◌, ℕ, Bool, List, add-one, ap, arith, get_or, length, sym, take}
+use Rattle.std.proofs.Common.{rules, ◌≡◌, ◌<◌, ◌∙◌, ℕ, Bool, List, add-one, ap, arith, get_or, length, Some, subst, sym, take}
 use Rattle.std.proofs.Math.Seq.{take-length}
+use Rattle.std.specs.Prelude.{Contains}
 use Rattle.std.specs.List.{filter, list_any}
 use Rattle.rw_sets.specs.declared.access.Access.{Access}
 use Rattle.rw_sets.specs.declared.access.Access.TheVariants.{Read}
@@ -10,6 +11,7 @@ use Rattle.kdg_graph.specs.Nodes.{later_than, least_of}
 use Rattle.kdg_graph.proofs.Earliest.{conflicts_by_pairs, first_of_none, first_there, later_among, one_pair_more}
 use Rattle.kdg_graph.proofs.Filtered.{same_filter}
 use Rattle.kdg_graph.proofs.Filing.{again}
+use Rattle.kdg_graph.proofs.Walking.{first_met}
 use Rattle.kdg_graph.proofs.locations.Locations.first_in_conflict.Goals as goal
 
 abbrev clashes_so_far : ℕ → Accesses → Node → Bool
@@ -37,6 +39,17 @@ loop-pair-preserved c =
     let later : List Node = later_than c.args.key.now c.args.nodes.now.nodes in
     rw add-one (c.earlier-first.ensures later (clashes_so_far i ps) (clashes_at p.0 p.1) (later_among c.args.key.now c.args.nodes.now.nodes c.len-graph.ensures.graph) c.loop-pair.invariant c.first_after-other.ensures
     ∙ ap least_of (one_pair_more ps i p later inside at))
+
+pub returns-then-eq-clause-first : goal.returns-then-eq-clause-first
+returns-then-eq-clause-first c =
+    let ps : Accesses = c.items-pair-items.result.now in
+    let i : ℕ = c.loop-pair.pair-index in
+    let inside : i < length ps = c.loop-pair-test.true in
+    let p : ℕ × Access = get_or ps i (0, Read) in
+    let at : get_or ps i p ≡ p = sym (again ps i (0, Read) p inside) in
+    let has : Contains c.args.set.now p = subst (λ (l : Accesses). Contains l p) c.items-pair-items.ensures.all (i, inside, at) in
+    let met : c.first_after-other.result ≡ Some c.args.next = search rules in
+    met ∙ sym (first_met c.args.key.now c.args.nodes.now.nodes c.args.set.now p c.args.next c.len-graph.ensures.graph c.items-pair-items.ensures.ascending has c.requires.next (sym c.first_after-other.ensures ∙ met))
 
 pub returns-clause-first : goal.returns-clause-first
 returns-clause-first c =

@@ -1,0 +1,12 @@
+-- A walk over the nodes that are later than a key.
+use Rattle.std.specs.Prelude.{ℕ, List}
+use Rattle.task_order.specs.declared.key.Key.{Key}
+use Rattle.kdg_graph.specs.declared.location.Location.{Location}
+use Rattle.kdg_graph.specs.Lanes.{IsRankPast}
+use Rattle.kdg_graph.specs.Locations.{AreFiled}
+use Rattle.kdg_graph.specs.Node.{Node}
+
+-- those that are later than the key begin at the place
+pub record IsWalk (nodes : List Node) (locations : List Location) (key : Key) (place : ℕ) : Type 0 where
+  pub filed : AreFiled nodes locations
+  pub past : IsRankPast key nodes place
