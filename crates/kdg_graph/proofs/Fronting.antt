@@ -4,6 +4,7 @@ use Rattle.std.specs.Prelude.{Contains}
 use Rattle.std.specs.List.{AllByRecursion, filter}
 use Rattle.std.specs.declared.cmp.Ordering.TheVariants.{Less}
 use Rattle.std.specs.Ordering.{is_lt}
+use Rattle.std.proofs.lemmas.List.Sums.{count_by-le-length, length-filter}
 use Rattle.std.proofs.lemmas.Bool.{false_from_ne_true, false≢true, true≢false}
 use Rattle.task_order.specs.declared.key.Key.{Key}
 use Rattle.task_order.specs.Key.{key_cmp, key_cmp_total}
@@ -17,6 +18,7 @@ use Rattle.kdg_graph.specs.Locations.{clashes_at, clashing_at, front_after, up_t
 use Rattle.kdg_graph.specs.Node.{Node}
 use Rattle.kdg_graph.specs.Nodes.{IsGraph, ids_of, later_than, least_of, node_at, tasks_of}
 use Rattle.kdg_graph.proofs.Filtered.{ascending_filtered, dropped, filters_commute, kept}
+use Rattle.kdg_graph.proofs.Lanes.{length-ids}
 use Rattle.kdg_graph.proofs.LookUps.{key_later, nodes_have_ids}
 use Rattle.kdg_graph.proofs.Members.{from_filter, here}
 use Rattle.kdg_graph.proofs.Ordering.{Less_from_test, not_itself, turned}
@@ -183,6 +185,47 @@ pub front_to_end : (key : Key) (loc : ℕ) (access : Access) (nodes : List Node)
 front_to_end key loc access nodes ids start are none from =
     take_rest ids start (length ids - start) (omega arith) ∙ ap (drop start) are ∙ ids-drop start (clashing_at loc access nodes) ∙ ap ids_of (later_clashing key loc access nodes start from)
     ∙ ap ids_of (sym (no_writer loc (clashing_at loc access (later_than key nodes)) (writers_within loc access (later_than key nodes) ∙ none)))
+
+-- ---- where all write
+
+full_by : (p : Node → Bool) (node : Node) (nodes : List Node) (test : Bool) → p node ≡ test → length (filter p (node ∷ nodes)) ≡ suc (length nodes) → test ≡ true
+full_by p node nodes true is full = refl
+full_by p node nodes false is full = absurd (omega (arith, ap length (dropped p node nodes is), full, length-filter p nodes, count_by-le-length p nodes))
+
+-- a filter that drops none
+filter_full : (p : Node → Bool) (nodes : List Node) → length (filter p nodes) ≡ length nodes → filter p nodes ≡ nodes
+filter_full p [] full = refl
+filter_full p (node ∷ nodes) full =
+    let is : p node ≡ true = full_by p node nodes (p node) refl full in
+    kept p node nodes is ∙ ap (λ l. node ∷ l) (filter_full p nodes (omega (arith, ap length (kept p node nodes is), full)))
+
+first_alone : (loc : ℕ) (nodes : List Node) → clashing_at loc Read nodes ≡ nodes → up_to_writer loc nodes ≡ take 1 nodes
+first_alone loc [] all = refl
+first_alone loc (node ∷ nodes) all =
+    let is : clashes_at loc Read node ≡ true = full_by (clashes_at loc Read) node nodes (clashes_at loc Read node) refl (ap length all) in
+    ap (λ test. node ∷ cond test [] (up_to_writer loc nodes)) (sym (reads_by (access_at node.set loc)) ∙ is)
+
+pub front_alone : (key : Key) (loc : ℕ) (access : Access) (nodes : List Node) (ids : List NodeId) (start : ℕ) → ids ≡ ids_of (clashing_at loc access nodes) → length (clashing_at loc access nodes) ≡ length (clashing_at loc Read nodes)
+    → IsRankPast key (clashing_at loc access nodes) start → take (start + 1 - start) (drop start ids) ≡ ids_of (front_after loc access key nodes)
+front_alone key loc access nodes ids start are full from =
+    let some : List Node = clashing_at loc access nodes in
+    let later : List Node = clashing_at loc access (later_than key nodes) in
+    let behind : drop start some ≡ later = later_clashing key loc access nodes start from in
+    let past : later ≡ filter (is_past key) some = filters_commute (clashes_at loc access) (is_past key) nodes in
+    let all : clashing_at loc Read some ≡ some = filter_full (clashes_at loc Read) some (ap length (writers_within loc access nodes) ∙ sym full) in
+    let all_later : clashing_at loc Read later ≡ later = ap (filter (clashes_at loc Read)) past ∙ filters_commute (clashes_at loc Read) (is_past key) some ∙ ap (filter (is_past key)) all ∙ sym past in
+    let one : start + 1 - start ≡ 1 = omega arith in
+    ap (λ n. take n (drop start ids)) one ∙ ap (λ l. take 1 (drop start l)) are ∙ ap (take 1) (ids-drop start some) ∙ ids-take 1 (drop start some) ∙ ap (λ l. ids_of (take 1 l)) behind ∙ ap ids_of (sym (first_alone loc later all_later))
+
+-- where none is later
+pub front_none : (key : Key) (loc : ℕ) (access : Access) (nodes : List Node) (ids : List NodeId) (start : ℕ) → ids ≡ ids_of (clashing_at loc access nodes) → start ≡ length ids → IsRankPast key (clashing_at loc access nodes) start
+    → take (start - start) (drop start ids) ≡ ids_of (front_after loc access key nodes)
+front_none key loc access nodes ids start are end from =
+    let some : List Node = clashing_at loc access nodes in
+    let beyond : length some ≤ start = omega (arith, end, ap length are, length-ids some) in
+    let none : start - start ≡ 0 = omega arith in
+    ap (λ n. take n (drop start ids)) none ∙ ap (take 0) (ap (drop start) are ∙ ids-drop start some ∙ ap ids_of (none_dropped start some beyond))
+    ∙ ap (λ l. ids_of (up_to_writer loc l)) (sym (none_dropped start some beyond) ∙ later_clashing key loc access nodes start from)
 
 -- ---- the first that is found
 

@@ -1,4 +1,5 @@
-ghost use Rattle.std.specs.Prelude.{◌≡◌, ◌-◌, ◌≤◌, ◌<◌, ◌+◌, ℕ, [], take, drop, filter, length, slice_index_or, Some, OnOk, IfNone, IfSome};
+ghost use Rattle.std.specs.Prelude.{◌≡◌, ◌==◌, ◌-◌, ◌≤◌, ◌<◌, ◌+◌, ℕ, [], take, drop, filter, length, slice_index_or, Some, OnOk, IfNone, IfSome};
+ghost use Rattle.rw_sets.specs.declared.access.Access.TheVariants.{Read};
 ghost use Rattle.rw_sets.specs.Accesses.{conflicts_with};
 ghost use Rattle.kdg_graph.specs.Nodes.{HasNode, IsGraph, ids_of, least_of, later_than, node_at};
 ghost use Rattle.kdg_graph.specs.Edges.{is_blocked};
@@ -93,7 +94,8 @@ impl Locations {
     }
 
     /// The places, among the nodes that an access to a location clashes with, of those later than the
-    /// key up to the first that writes the location, and this one.
+    /// key up to the first that writes the location, and this one. Where all of them write it, that is
+    /// the next one alone.
     pub(crate) fn front(
         &self,
         nodes: &OrderedNodes,
@@ -110,6 +112,12 @@ impl Locations {
             return 0..0;
         };
         let start = nodes.rank_past(lane, key);
+        if start == lane.len() {
+            return start..start;
+        }
+        if self.all_write(loc, access) {
+            return start..start + 1;
+        }
         let end = match self.first_after(nodes, loc, Access::Read, key) {
             Some(writer) => nodes.rank_past(lane, &nodes.entry(writer).task.key),
             None => lane.len(),
@@ -181,6 +189,23 @@ impl Locations {
         match self.lane(loc, access) {
             Some(lane) => nodes.starts_before(lane, key),
             None => false,
+        }
+    }
+
+    /// Whether all nodes that an access to a location clashes with write it, by their number.
+    fn all_write(&self, loc: u32, access: Access) -> bool
+        ensures { result ≡ (length (lane_of self.now.locations.items loc access) == length (lane_of self.now.locations.items loc Read)) }
+    {
+        self.count(loc, access) == self.count(loc, Access::Read)
+    }
+
+    /// How many nodes an access to a location clashes with.
+    fn count(&self, loc: u32, access: Access) -> usize
+        ensures { result ≡ length (lane_of self.now.locations.items loc access) }
+    {
+        match self.lane(loc, access) {
+            Some(lane) => lane.len(),
+            None => 0,
         }
     }
 

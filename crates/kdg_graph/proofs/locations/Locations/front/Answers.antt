@@ -1,19 +1,41 @@
-use Rattle.std.proofs.Common.{◌≡◌, ◌-◌, ◌∙◌, List, [], ◌∷◌, Some, ap, drop, refl, subst, sym, take}
+use Rattle.std.proofs.Common.{◌≡◌, ◌-◌, ◌∙◌, List, [], ◌∷◌, Some, ap, arith, drop, eqb-true, length, refl, subst, sym, take}
 use Rattle.std.specs.Prelude.{IsSome}
 use Rattle.rw_sets.specs.declared.access.Access.TheVariants.{Read}
 use Rattle.kdg_graph.specs.declared.node_id.NodeId.{NodeId}
 use Rattle.kdg_graph.specs.Lanes.{IsRankPast}
-use Rattle.kdg_graph.specs.Locations.{IsLaneAmong, clashing_at, up_to_writer}
+use Rattle.kdg_graph.specs.Locations.{IsLaneAmong, clashing_at, lane_of, up_to_writer}
 use Rattle.kdg_graph.specs.Node.{Node}
 use Rattle.kdg_graph.specs.Nodes.{ids_of, later_than, least_of}
 use Rattle.kdg_graph.proofs.Filing.{filed_among, no_ids}
-use Rattle.kdg_graph.proofs.Fronting.{first_writer, front_to_end, front_to_writer, none_clashing, none_first}
+use Rattle.kdg_graph.proofs.Fronting.{first_writer, front_alone, front_none, front_to_end, front_to_writer, none_clashing, none_first}
+use Rattle.kdg_graph.proofs.Lanes.{length-ids}
 use Rattle.kdg_graph.proofs.locations.Locations.front.Goals as goal
 
 pub returns-in_default-clause-ids : goal.returns-in_default-clause-ids
 returns-in_default-clause-ids c =
     let none : ids_of (clashing_at c.args.loc c.args.access c.args.nodes.now.nodes) ≡ [] = sym (c.requires.filed c.args.loc c.args.access) ∙ c.in_default.ensures.beyond in
     sym (ap (λ l. ids_of (up_to_writer c.args.loc l)) (none_clashing c.args.key.now c.args.loc c.args.access c.args.nodes.now.nodes (no_ids (clashing_at c.args.loc c.args.access c.args.nodes.now.nodes) none)))
+
+pub returns-then-start-len-clause-ids : goal.returns-then-start-len-clause-ids
+returns-then-start-len-clause-ids c =
+    let nodes : List Node = c.args.nodes.now.nodes in
+    let some : List Node = clashing_at c.args.loc c.args.access nodes in
+    let lane : List NodeId = c.in-Some.lane.now.ids.items in
+    let filed : lane_of c.args.self.now.locations.items c.args.loc c.args.access ≡ ids_of some = c.requires.filed c.args.loc c.args.access in
+    let rank : IsRankPast c.args.key.now some c.rank_past-start.result = c.rank_past-start.ensures.rank some (filed_among nodes c.args.loc c.args.access lane c.rank_past-start.ensures.graph (c.in-Some.ensures.kept ∙ filed)) in
+    let end : c.rank_past-start.result ≡ length (lane_of c.args.self.now.locations.items c.args.loc c.args.access) = omega (arith, c.if-start-len.true, c.len.ensures.len, ap length c.in-Some.ensures.kept) in
+    front_none c.args.key.now c.args.loc c.args.access nodes (lane_of c.args.self.now.locations.items c.args.loc c.args.access) c.rank_past-start.result filed end rank
+
+pub returns-then-all_write-clause-ids : goal.returns-then-all_write-clause-ids
+returns-then-all_write-clause-ids c =
+    let nodes : List Node = c.args.nodes.now.nodes in
+    let some : List Node = clashing_at c.args.loc c.args.access nodes in
+    let lane : List NodeId = c.in-Some.lane.now.ids.items in
+    let filed : lane_of c.args.self.now.locations.items c.args.loc c.args.access ≡ ids_of some = c.requires.filed c.args.loc c.args.access in
+    let rank : IsRankPast c.args.key.now some c.rank_past-start.result = c.rank_past-start.ensures.rank some (filed_among nodes c.args.loc c.args.access lane c.rank_past-start.ensures.graph (c.in-Some.ensures.kept ∙ filed)) in
+    let same : length (lane_of c.args.self.now.locations.items c.args.loc c.args.access) ≡ length (lane_of c.args.self.now.locations.items c.args.loc Read) = eqb-true _ _ (sym c.all_write.ensures ∙ c.if-all_write.true) in
+    let full : length some ≡ length (clashing_at c.args.loc Read nodes) = omega (arith, same, ap length filed, ap length (c.requires.filed c.args.loc Read), length-ids some, length-ids (clashing_at c.args.loc Read nodes)) in
+    front_alone c.args.key.now c.args.loc c.args.access nodes (lane_of c.args.self.now.locations.items c.args.loc c.args.access) c.rank_past-start.result filed full rank
 
 pub entry-requires : goal.entry-requires
 entry-requires c =
