@@ -20,14 +20,14 @@ use Rattle.kdg_graph.proofs.Shelving.{lane_at, lane_changed, lane_other, left_he
 pub filed_among : (nodes : List Node) (loc : ℕ) (access : Access) (ids : List NodeId) → IsGraph nodes → ids ≡ ids_of (clashing_at loc access nodes) → IsLaneAmong nodes (clashing_at loc access nodes) ids
 filed_among nodes loc access ids graph is = among_filtered (clashes_at loc access) nodes nodes (ids_of nodes) ids (graph_among nodes graph) is
 
-others_among : (nodes : List Node) (id : NodeId) (loc : ℕ) (access : Access) (ids : List NodeId) → IsGraph nodes → ids ≡ ids_of (clashing_at loc access (without id nodes)) → IsLaneAmong nodes (clashing_at loc access (without id nodes)) ids
+pub others_among : (nodes : List Node) (id : NodeId) (loc : ℕ) (access : Access) (ids : List NodeId) → IsGraph nodes → ids ≡ ids_of (clashing_at loc access (without id nodes)) → IsLaneAmong nodes (clashing_at loc access (without id nodes)) ids
 others_among nodes id loc access ids graph is =
     among_filtered (clashes_at loc access) nodes (without id nodes) (ids_of (without id nodes)) ids (among_filtered (λ node. not (is_at id node)) nodes nodes (ids_of nodes) (ids_of (without id nodes)) (graph_among nodes graph) refl) is
 
 -- ---- a node at one location
 
 -- with an access there it is among those that the access excludes
-clashing_with : (nodes : List Node) (id : NodeId) (node : Node) (loc : ℕ) (access : Access) (found : Option Access) → IsGraph nodes → node_at nodes id ≡ Some node → access_at node.set loc ≡ found
+pub clashing_with : (nodes : List Node) (id : NodeId) (node : Node) (loc : ℕ) (access : Access) (found : Option Access) → IsGraph nodes → node_at nodes id ≡ Some node → access_at node.set loc ≡ found
     → clashing_at loc access nodes ≡ put_if (clash (Some access) found) node (clashing_at loc access (without id nodes))
 clashing_with nodes id node loc access found graph is has =
     filter_with (clashes_at loc access) id nodes node graph is ∙ ap (λ f. put_if (clash (Some access) f) node (clashing_at loc access (without id nodes))) has
@@ -87,7 +87,7 @@ leave_step nodes id node ps i p locations old now graph is are up inside at with
 
 -- ---- places and room
 
-some_put : (node : Node) (nodes : List Node) → ids_of (put_node node nodes) ≡ [] → ⊥
+pub some_put : (node : Node) (nodes : List Node) → ids_of (put_node node nodes) ≡ [] → ⊥
 some_put node [] none = let n : List NodeId = node.id ∷ [] in let is : n ≡ [] = none in absurd cc
 some_put node (other ∷ nodes) none =
     let by_case : (test : Bool) → ids_of (cond test (other ∷ put_node node nodes) (node ∷ other ∷ nodes)) ≡ [] → ⊥ = elim [

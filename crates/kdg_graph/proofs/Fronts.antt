@@ -78,10 +78,10 @@ pub writer_conflicts : (loc : ℕ) (writer set : Accesses) → writes writer loc
 writer_conflicts loc writer set is named = named_passes (λ at. clash (access_at writer at) (access_at set at)) loc writer is (writer_clashes (access_at writer loc) (access_at set loc) is named)
 
 -- where two sets conflict, one of the pairs of the first clashes with the second
-abbrev ClashingPair : Accesses → Accesses → Type 0
+abbrev pub ClashingPair : Accesses → Accesses → Type 0
 ClashingPair a b = (p : ℕ × Access) × Contains a p × (clash (Some p.1) (access_at b p.0) ≡ true)
 
-clashing_pair : (a b : Accesses) → conflicts_with a b ≡ true → ClashingPair a b
+pub clashing_pair : (a b : Accesses) → conflicts_with a b ≡ true → ClashingPair a b
 clashing_pair a b is =
     let met = some_passes (λ (p : ℕ × Access). clash (access_at a p.0) (access_at b p.0)) a is in
     let loc : ℕ = met.0.0 in
@@ -135,27 +135,32 @@ in_fronts (q ∷ set) p key nodes node has among = elim (cases q p set has) [
 among_ids : (nodes : List Node) (node : Node) → Contains nodes node → is_among (ids_of nodes) node ≡ true
 among_ids nodes node has = any_from (λ id. is_at id node) (ids_of nodes) node.id (in_map (λ (n : Node). n.id) nodes node has) (is_at-same node.id node refl)
 
--- a later node in conflict is in the fronts, or else blocked by others
-conflict_in_front : (new : Node) (nodes : List Node) (node : Node) → IsAscending (tasks_of nodes) → Contains nodes node → is_among (ids_of (fronts_after new.set new.task.key nodes)) node ≡ false
-    → is_before node.task.key new ≡ true → conflicts_with new.set node.set ≡ true → is_blocked nodes node ≡ true
-conflict_in_front new nodes node up has outside later conflict =
-    let key : Key = new.task.key in
-    let met : ClashingPair new.set node.set = clashing_pair new.set node.set conflict in
-    let loc : ℕ = met.0.0 in
-    let access : Access = met.0.1 in
+-- a later node that one of the pairs clashes with is in the fronts, or else blocked by others
+pub met_in_front : (key : Key) (pairs : Accesses) (p : ℕ × Access) (nodes : List Node) (node : Node) → IsAscending (tasks_of nodes) → Contains nodes node → is_among (ids_of (fronts_after pairs key nodes)) node ≡ false → Contains pairs p → clash (Some p.1) (access_at node.set p.0) ≡ true
+    → is_lt (key_cmp key node.task.key) ≡ true → is_blocked nodes node ≡ true
+met_in_front key pairs p nodes node up has outside named met later =
+    let loc : ℕ = p.0 in
+    let access : Access = p.1 in
     let is_later : Node → Bool = λ other. is_lt (key_cmp key other.task.key) in
     let behind : List Node = later_than key nodes in
     let clashing : List Node = clashing_at loc access behind in
-    let among : Contains clashing node = in_filter (clashes_at loc access) behind node (in_filter is_later nodes node has later) met.2 in
+    let among : Contains clashing node = in_filter (clashes_at loc access) behind node (in_filter is_later nodes node has later) met in
     let ascends : IsAscending (tasks_of clashing) = ascending_filtered (clashes_at loc access) behind (ascending_filtered is_later nodes up) in
     elim (front_or_writer loc clashing node ascends among) [
-      | inl front ↦ absurd (true≢false (sym (among_ids (fronts_after new.set key nodes) node (in_fronts new.set met.0 key nodes node met.1 front)) ∙ outside))
+      | inl front ↦ absurd (true≢false (sym (among_ids (fronts_after pairs key nodes) node (in_fronts pairs p key nodes node named front)) ∙ outside))
       | inr writer ↦
           let there_behind : Contains behind writer.0 = (from_filter (clashes_at loc access) behind writer.0 writer.1).0 in
           let in_nodes : Contains nodes writer.0 = (from_filter is_later nodes writer.0 there_behind).0 in
-          let conflicts : conflicts_with writer.0.set node.set ≡ true = writer_conflicts loc writer.0.set node.set writer.2 (clash_named (Some access) (access_at node.set loc) met.2) in
+          let conflicts : conflicts_with writer.0.set node.set ≡ true = writer_conflicts loc writer.0.set node.set writer.2 (clash_named (Some access) (access_at node.set loc) met) in
           any_from (λ (other : Node). conflicts_with other.set node.set) (earlier_than node.task.key nodes) writer.0 (in_filter (is_before node.task.key) nodes writer.0 in_nodes (ap is_lt writer.3)) conflicts
     ]
+
+-- and so is one in conflict
+conflict_in_front : (new : Node) (nodes : List Node) (node : Node) → IsAscending (tasks_of nodes) → Contains nodes node → is_among (ids_of (fronts_after new.set new.task.key nodes)) node ≡ false
+    → is_before node.task.key new ≡ true → conflicts_with new.set node.set ≡ true → is_blocked nodes node ≡ true
+conflict_in_front new nodes node up has outside later conflict =
+    let met : ClashingPair new.set node.set = clashing_pair new.set node.set conflict in
+    met_in_front new.task.key new.set met.0 nodes node up has outside met.1 met.2 later
 
 -- only the fronts behind a node see whether it is there
 pub blocked_outside : (new : Node) (nodes : List Node) (node : Node) → IsAscending (tasks_of nodes) → Contains nodes node → is_among (ids_of (fronts_after new.set new.task.key nodes)) node ≡ false → is_blocked (put_node new nodes) node ≡ is_blocked nodes node

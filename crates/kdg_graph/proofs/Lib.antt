@@ -23,3 +23,4 @@ pub mod Blocking
 pub mod Fronting
 pub mod Earliest
 pub mod Walking
+pub mod Exchanging

@@ -3,6 +3,7 @@ use Rattle.std.proofs.Common.{◌≡◌, ◌≢◌, ℕ, suc, length, ◌||◌, 
 use Rattle.std.specs.Prelude.{Contains}
 use Rattle.std.specs.List.{AllByRecursion, filter, flat_map, list_any}
 use Rattle.std.specs.Ordering.{is_lt}
+use Rattle.std.proofs.lemmas.Bool.{false_from_ne_true, true≢false}
 use Rattle.task_order.specs.declared.key.Key.{Key}
 use Rattle.task_order.specs.Key.{key_cmp}
 use Rattle.task_order.specs.TaskList.{IsAscending}
@@ -13,13 +14,16 @@ use Rattle.kdg_graph.specs.declared.change.SetChange.{SetChange}
 use Rattle.kdg_graph.specs.Node.{Node}
 use Rattle.kdg_graph.specs.Nodes.{HaveOwnIds, IsGraph, earlier_than, ids_of, is_at, node_at, put_node, started, tasks_of}
 use Rattle.kdg_graph.specs.Edges.{is_blocked, is_source, sources_of}
+use Rattle.kdg_graph.specs.Exchange.{is_same, lacking}
 use Rattle.kdg_graph.specs.Fronts.{fronts_after}
 use Rattle.kdg_graph.specs.declared.location.Location.{Location}
 use Rattle.kdg_graph.specs.Locations.{AreFiled, clashes_at, clashing_at, up_to_writer}
 use Rattle.kdg_graph.specs.Rewrite.{with_sets, without}
 use Rattle.kdg_graph.specs.Selected.{AreSelected, is_among, refreshed}
+use Rattle.kdg_graph.proofs.Blocking.{any_from, pair_of}
 use Rattle.kdg_graph.proofs.Filtered.{ascending_filtered, filter_twice, filters_commute, put_dropped, put_without}
-use Rattle.kdg_graph.proofs.Fronts.{source_outside}
+use Rattle.kdg_graph.proofs.Exchanging.{same_access}
+use Rattle.kdg_graph.proofs.Fronts.{ClashingPair, blocked_put, clashing_pair, met_in_front, source_outside}
 use Rattle.kdg_graph.proofs.Keeping.{changed, start, start_keeps_id, start_keeps_task, with_set_if}
 use Rattle.kdg_graph.proofs.LookUps.{ids_find_nodes, nodes_have_ids}
 use Rattle.kdg_graph.proofs.Members.{all_from, from_filter, in_filter}
@@ -148,17 +152,53 @@ pub length-changed : (changes : List SetChange) (nodes : List Node) → length (
 length-changed changes [] = refl
 length-changed changes (node ∷ nodes) = ap suc (length-changed changes nodes)
 
-pub settled_changed : (id : NodeId) (gone : Node) (set : Accesses) (nodes now : List Node) (ids : List NodeId) → IsGraph nodes → IsGraph now → node_at nodes id ≡ Some gone → now ≡ with_sets (record { node = id; set = set } ∷ []) nodes
-    → AreSelected now (refreshed now (ids_of (fronts_after set gone.task.key now)) (refreshed now (ids_of (fronts_after gone.set gone.task.key now)) (refreshed now (id ∷ []) (but id (is_source nodes))))) ids → ids ≡ sources_of now
-settled_changed id gone set nodes now ids graph after is are selected =
+-- a pair that clashes is one that a set in no conflict lacks
+lacks_met : (other set : Accesses) (p : ℕ × Access) → clash (Some p.1) (access_at set p.0) ≡ true → conflicts_with other set ≡ false → is_same (Some p.1) (access_at other p.0) ≡ false
+lacks_met other set p met free = false_from_ne_true _ (λ same.
+    let found : access_at other p.0 ≡ Some p.1 = same_access p.1 (access_at other p.0) same in
+    true≢false (sym (any_from (λ (q : ℕ × Access). clash (access_at other q.0) (access_at set q.0)) other p (pair_of other p.0 p.1 found) (ap (λ a. clash a (access_at set p.0)) found ∙ met)) ∙ free))
+
+-- who is in conflict with one of two sets alone is behind the pairs that the other lacks
+lacking_in_front : (gone : Node) (other : Accesses) (rest : List Node) (node : Node) → IsAscending (tasks_of rest) → Contains rest node → is_among (ids_of (fronts_after (lacking gone.set other) gone.task.key rest)) node ≡ false
+    → is_before node.task.key gone ≡ true → conflicts_with gone.set node.set ≡ true → conflicts_with other node.set ≡ false → is_blocked rest node ≡ true
+lacking_in_front gone other rest node up has outside later conflict free =
+    let met : ClashingPair gone.set node.set = clashing_pair gone.set node.set conflict in
+    let named : Contains (lacking gone.set other) met.0 = in_filter (λ (p : ℕ × Access). not (is_same (Some p.1) (access_at other p.0))) gone.set met.0 met.1 (ap not (lacks_met other node.set met.0 met.2 free)) in
+    met_in_front gone.task.key (lacking gone.set other) met.0 rest node up has outside named met.2 later
+
+-- only the fronts at the pairs that one of the sets lacks see the exchange
+blocked_exchanged : (gone : Node) (set : Accesses) (rest : List Node) (node : Node) → IsAscending (tasks_of rest) → Contains rest node → is_among (ids_of (fronts_after (lacking gone.set set) gone.task.key rest)) node ≡ false → is_among (ids_of (fronts_after (lacking set gone.set) gone.task.key rest)) node ≡ false
+    → is_blocked (put_node gone rest) node ≡ is_blocked (put_node (record gone { set = set }) rest) node
+blocked_exchanged gone set rest node up has gone_out come_out =
+    let new : Node = record gone { set = set } in
+    let by_case : (later before after : Bool) → is_before node.task.key gone ≡ later → conflicts_with gone.set node.set ≡ before → conflicts_with set node.set ≡ after → ((later && before) || is_blocked rest node) ≡ ((later && after) || is_blocked rest node) = elim [
+      | true ↦ elim [
+        | true ↦ elim [ true ↦ λ _ _ _. refl | false ↦ λ later conflict free. sym (lacking_in_front gone set rest node up has gone_out later conflict free) ]
+        | false ↦ elim [ true ↦ λ later free conflict. lacking_in_front new gone.set rest node up has come_out later conflict free | false ↦ λ _ _ _. refl ]
+      ]
+      | false ↦ λ _ _ _ _ _. refl
+    ] in
+    blocked_put gone rest node ∙ by_case _ _ _ refl refl refl ∙ sym (blocked_put new rest node)
+
+pub settled_exchanged : (id : NodeId) (gone : Node) (set : Accesses) (nodes now : List Node) (ids : List NodeId) → IsGraph nodes → IsGraph now → node_at nodes id ≡ Some gone → now ≡ with_sets (record { node = id; set = set } ∷ []) nodes
+    → AreSelected now (refreshed now (ids_of (fronts_after (lacking set gone.set) gone.task.key now)) (refreshed now (ids_of (fronts_after (lacking gone.set set) gone.task.key now)) (refreshed now (id ∷ []) (but id (is_source nodes))))) ids → ids ≡ sources_of now
+settled_exchanged id gone set nodes now ids graph after is are selected =
     let rest : List Node = without id nodes in
     let new : Node = record gone { set = set } in
-    let more : List NodeId = ids_of (fronts_after gone.set gone.task.key now) in
-    let same : gone.id ≡ id = (ids_find_nodes nodes id gone is).1 in
     let put : now ≡ put_node new rest = are ∙ changed_put id gone set nodes graph is in
-    settled_put new rest now more (is_source nodes) ids (ascending_filtered (λ n. not (is_at id n)) nodes graph.ascending) after.own_ids put
-    (λ node has apart. source_without id gone nodes node graph is has (ap (λ l. is_among (ids_of l) node) (sym (ap (fronts_after gone.set gone.task.key) put ∙ fronts_put gone.set new rest)) ∙ apart))
-    (subst (λ (i : NodeId). AreSelected now (refreshed now (ids_of (fronts_after set gone.task.key now)) (refreshed now more (refreshed now (i ∷ []) (but i (is_source nodes))))) ids) (sym same) selected)
+    let left : List NodeId = ids_of (fronts_after (lacking gone.set set) gone.task.key now) in
+    let come : List NodeId = ids_of (fronts_after (lacking set gone.set) gone.task.key now) in
+    let first : Node → Bool = refreshed now (id ∷ []) (but id (is_source nodes)) in
+    let all : AreSelected now (refreshed now (id ∷ left ++ come) (but id (is_source nodes))) ids = select_append now (id ∷ []) (left ++ come) (but id (is_source nodes)) ids (select_append now left come first ids selected) in
+    let up : IsAscending (tasks_of rest) = ascending_filtered (λ n. not (is_at id n)) nodes graph.ascending in
+    settled now (id ∷ left ++ come) (but id (is_source nodes)) ids (λ node has apart.
+    let tests = neither (is_at id node) (is_among (left ++ come) node) apart in
+    let fronts = neither (is_among left node) (is_among come node) (sym (among_append left come node) ∙ tests.1) in
+    let in_rest : Contains rest node = subst (λ (l : List Node). Contains l node) (without_changed id gone set nodes now graph after is are) (in_filter (λ n. not (is_at id n)) now node has (ap not tests.0)) in
+    let outside : (pairs : Accesses) → is_among (ids_of (fronts_after pairs gone.task.key now)) node ≡ false → is_among (ids_of (fronts_after pairs gone.task.key rest)) node ≡ false =
+    λ pairs out. ap (λ l. is_among (ids_of l) node) (sym (ap (fronts_after pairs gone.task.key) put ∙ fronts_put pairs new rest)) ∙ out in
+    but_same id (is_source nodes) node tests.0 ∙ ap (λ l. is_source l node) (sym (put_without id nodes gone graph is))
+    ∙ ap (λ b. not node.running && not b) (blocked_exchanged gone set rest node up in_rest (outside (lacking gone.set set) fronts.0) (outside (lacking set gone.set) fronts.1)) ∙ ap (λ l. is_source l node) (sym put)) all
 
 -- ---- after a node started
 

@@ -11,3 +11,4 @@ pub mod Selected
 pub mod Kept
 pub mod Fronts
 pub mod Walk
+pub mod Exchange

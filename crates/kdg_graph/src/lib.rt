@@ -4,6 +4,7 @@
 
 mod change;
 mod entry;
+mod exchange;
 mod graph;
 mod lane;
 mod laters;

@@ -1,12 +1,14 @@
 ghost use Rattle.std.specs.Prelude.{◌≡◌, ◌==◌, ◌-◌, ◌≤◌, ◌<◌, ◌+◌, ℕ, [], take, drop, filter, length, slice_index_or, Some, OnOk, IfNone, IfSome};
 ghost use Rattle.rw_sets.specs.declared.access.Access.TheVariants.{Read};
-ghost use Rattle.rw_sets.specs.Accesses.{conflicts_with};
+ghost use Rattle.rw_sets.specs.Accesses.{access_at, conflicts_with};
+ghost use Rattle.kdg_graph.specs.Exchange.{AreFiledWith, midway};
 ghost use Rattle.kdg_graph.specs.Nodes.{HasNode, IsGraph, ids_of, least_of, later_than, node_at};
 ghost use Rattle.kdg_graph.specs.Edges.{is_blocked};
 ghost use Rattle.kdg_graph.specs.Locations.{AreFiled, HasRoom, HaveNoLess, HaveSameLanes, clashing_at, front_after, is_first_before, lane_of, room_at, rooms_of};
 ghost use Rattle.kdg_graph.specs.Rewrite.{without};
 
 use crate::NodeId;
+use crate::exchange::has_access;
 use crate::lane::Lane;
 use crate::location::Location;
 use crate::ordered_nodes::OrderedNodes;
@@ -72,6 +74,54 @@ impl Locations {
         let node = nodes.entry(id);
         for pair in node.set.items() {
             self.locations[pair.0 as usize].leave(nodes, id, pair.1);
+        }
+    }
+
+    /// Files a node anew whose set was another before, where `reserve` made room: only what the two
+    /// sets don't have in common changes. It takes no memory.
+    pub(crate) fn exchange(&mut self, nodes: &OrderedNodes, id: NodeId, before: &RwSet)
+        requires there { HasNode nodes.now.nodes id }
+        requires filed { IfSome (node_at nodes.now.nodes id) (λ node. AreFiledWith (without id nodes.now.nodes) node (access_at before.now) self.old.locations.items) }
+        requires room { IfSome (node_at nodes.now.nodes id) (λ node. HasRoom 1 node.set (rooms_of self.old.locations.items)) }
+        ensures filed { AreFiled nodes.now.nodes self.new.locations.items }
+        ensures room { (loc : ℕ) → room_at (rooms_of self.old.locations.items) loc ≤ room_at (rooms_of self.new.locations.items) loc + 1 }
+    {
+        self.leave_lacking(nodes, id, before);
+        self.enter_lacking(nodes, id, before);
+    }
+
+    /// Files a node no more at the locations where its set before had an access that it lacks now.
+    fn leave_lacking(&mut self, nodes: &OrderedNodes, id: NodeId, before: &RwSet)
+        requires there { HasNode nodes.now.nodes id }
+        requires filed { IfSome (node_at nodes.now.nodes id) (λ node. AreFiledWith (without id nodes.now.nodes) node (access_at before.now) self.old.locations.items) }
+        ensures filed { IfSome (node_at nodes.now.nodes id) (λ node. AreFiledWith (without id nodes.now.nodes) node (midway before.now node.set []) self.new.locations.items) }
+        ensures no_less { HaveNoLess (rooms_of self.old.locations.items) (rooms_of self.new.locations.items) }
+    {
+        let _graph = nodes.len();
+        let node = nodes.entry(id);
+        for pair in before.items() {
+            if has_access(&node.set, pair.0, pair.1) {
+                continue;
+            }
+            self.locations[pair.0 as usize].leave(nodes, id, pair.1);
+        }
+    }
+
+    /// Files a node at the locations where it has an access that its set before lacked.
+    fn enter_lacking(&mut self, nodes: &OrderedNodes, id: NodeId, before: &RwSet)
+        requires there { HasNode nodes.now.nodes id }
+        requires filed { IfSome (node_at nodes.now.nodes id) (λ node. AreFiledWith (without id nodes.now.nodes) node (midway before.now node.set []) self.old.locations.items) }
+        requires room { IfSome (node_at nodes.now.nodes id) (λ node. HasRoom 1 node.set (rooms_of self.old.locations.items)) }
+        ensures filed { AreFiled nodes.now.nodes self.new.locations.items }
+        ensures room { (loc : ℕ) → room_at (rooms_of self.old.locations.items) loc ≤ room_at (rooms_of self.new.locations.items) loc + 1 }
+    {
+        let _graph = nodes.len();
+        let node = nodes.entry(id);
+        for pair in node.set.items() {
+            if has_access(before, pair.0, pair.1) {
+                continue;
+            }
+            self.locations[pair.0 as usize].enter(nodes, id, pair.1);
         }
     }
 

@@ -7,6 +7,7 @@ ghost use Rattle.kdg_graph.specs.Edges.{sources_of};
 ghost use Rattle.kdg_graph.specs.Locations.{AreFiled, HasRoom, HaveNoLess, room_at};
 ghost use Rattle.kdg_graph.specs.Rewrite.{AreAdded, AreOfOwnNodes, HaveNewKeys, without, with_sets};
 
+use crate::exchange::refresh_lacking;
 use crate::lane::Lane;
 use crate::locations::Locations;
 use crate::ordered_nodes::OrderedNodes;
@@ -189,7 +190,8 @@ impl NodeList {
         self.exchange_set(id, set);
     }
 
-    /// Replaces the set of a node by any.
+    /// Replaces the set of a node by any. Only what the two sets don't have in common changes the nodes
+    /// of locations, and only the fronts there are tested again.
     fn exchange_set(&mut self, id: NodeId, set: RwSet)
         requires there { HasNode self.old.nodes id }
         requires rooms { HasRoom 1 set self.old.rooms }
@@ -201,15 +203,27 @@ impl NodeList {
         ensures graph { IsGraph self.new.nodes }
     {
         self.sources.forget(&self.nodes, id);
-        self.locations.leave(&self.nodes, id);
         let before = self.nodes.set_set(id, set);
-        self.locations.enter(&self.nodes, id);
+        self.locations.exchange(&self.nodes, id, &before);
         let node = self.nodes.entry(id);
-        self.sources.refresh(&self.nodes, &self.locations, id);
-        self.sources
-            .refresh_fronts(&self.nodes, &self.locations, &before, &node.task.key);
-        self.sources
-            .refresh_fronts(&self.nodes, &self.locations, &node.set, &node.task.key);
+        let (sources, nodes, locations) = (&mut self.sources, &self.nodes, &self.locations);
+        sources.refresh(nodes, locations, id);
+        refresh_lacking(
+            sources,
+            nodes,
+            locations,
+            &before,
+            &node.set,
+            &node.task.key,
+        );
+        refresh_lacking(
+            sources,
+            nodes,
+            locations,
+            &node.set,
+            &before,
+            &node.task.key,
+        );
     }
 
     /// Replaces the sets that are named, where `reserve_all` made room. It takes no memory.

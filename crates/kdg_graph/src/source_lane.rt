@@ -79,7 +79,7 @@ impl SourceLane {
     }
 
     /// Refreshes the nodes of the front behind a key at one location.
-    fn refresh_front(
+    pub(crate) fn refresh_front(
         &mut self,
         nodes: &OrderedNodes,
         locations: &Locations,

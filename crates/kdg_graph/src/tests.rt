@@ -25,10 +25,12 @@ fn task(alloc: Global, prio: u64, number: u32) -> Result<Task, NoRoom> {
     })
 }
 
-/// The set with one location.
-fn set(alloc: Global, loc: u32, access: Access) -> Result<RwSet, NoRoom> {
+/// The set with these accesses.
+fn set(alloc: Global, pairs: &[(u32, Access)]) -> Result<RwSet, NoRoom> {
     let mut set = RwSet::new(alloc);
-    set.add(loc, access)?;
+    for pair in pairs {
+        set.add(pair.0, pair.1)?;
+    }
     Ok(set)
 }
 
@@ -46,7 +48,7 @@ fn three_nodes(rt: &impl Abort, alloc: Global) -> Result<Graph, NoRoom> {
     let mut graph = Graph::new(alloc);
     for (prio, number, loc, access) in [(1, 1, 6, Write), (2, 2, 5, Read), (1, 0, 5, Write)] {
         let task = task(alloc, prio, number)?;
-        let set = set(alloc, loc, access)?;
+        let set = set(alloc, &[(loc, access)])?;
         assert!(rt; graph.find(&task.key).is_none());
         graph.insert(task, set).map_err(|_| NoRoom)?;
     }
@@ -112,11 +114,11 @@ fn rewrite_three(rt: &impl Abort, graph: &mut Graph, alloc: Global) -> Result<()
     assert!(rt; graph.find(&child.key).is_none());
     let change = SetChange {
         node: third,
-        set: set(alloc, 6, Read)?,
+        set: set(alloc, &[(6, Read)])?,
     };
     let fresh = Fresh {
         task: child,
-        set: set(alloc, 6, Read)?,
+        set: set(alloc, &[(6, Read)])?,
     };
     let changed = Vec::from_array(alloc, [change])?;
     let fresh = Vec::from_array(alloc, [fresh])?;
@@ -145,19 +147,19 @@ fn a_rewrite_replaces_sets_and_adds_nodes(rt: HostRuntime) -> Result<(), Fail> {
 /// What is done to the first tasks of a graph, which are named by their numbers.
 #[derive(Clone, Copy)]
 enum Call {
-    /// Puts in a task whose set has one location.
-    Insert(u32, u32, Access),
+    /// Puts in a task whose set has these accesses.
+    Insert(u32, [(u32, Access); 2]),
     Start(u32),
     End(u32),
-    /// Ends a task, and gives another one a set with one location.
-    Replace(u32, u32, u32, Access),
+    /// Ends a task, and gives another one a set with these accesses.
+    Replace(u32, u32, [(u32, Access); 2]),
 }
 
 fn run(rt: &impl Abort, graph: &mut Graph, alloc: Global, call: Call) -> Result<(), Fail> {
     match call {
-        Call::Insert(number, loc, access) => {
+        Call::Insert(number, pairs) => {
             let task = task(alloc, 1, number)?;
-            let set = set(alloc, loc, access)?;
+            let set = set(alloc, &pairs)?;
             assert!(rt; graph.find(&task.key).is_none());
             graph.insert(task, set).map_err(|_| NoRoom)?;
         }
@@ -170,8 +172,8 @@ fn run(rt: &impl Abort, graph: &mut Graph, alloc: Global, call: Call) -> Result<
             let ended = graph.rewrite(node, Vec::new(alloc), Vec::new(alloc));
             assert!(rt; ended.is_ok());
         }
-        Call::Replace(ended, changed, loc, access) => {
-            replace(rt, graph, alloc, (ended, changed), set(alloc, loc, access)?)?
+        Call::Replace(ended, changed, pairs) => {
+            replace(rt, graph, alloc, (ended, changed), set(alloc, &pairs)?)?
         }
     }
     Ok(())
@@ -207,31 +209,56 @@ fn check_plain(rt: &impl Abort, graph: &Graph, alloc: Global) -> Result<(), Fail
     Ok(())
 }
 
+/// Does all this to a graph without nodes, which it checks after each step.
+fn run_all(rt: &impl Abort, alloc: Global, calls: &[Call]) -> Result<(), Fail> {
+    let mut graph = Graph::new(alloc);
+    for call in calls {
+        run(rt, &mut graph, alloc, *call)?;
+        check_plain(rt, &graph, alloc)?;
+    }
+    Ok(())
+}
+
 #[test]
 fn sources_and_laters_are_those_of_a_plain_search(rt: HostRuntime) -> Result<(), Fail> {
-    let alloc = rt.alloc();
-    let mut graph = Graph::new(alloc);
     let calls = [
-        Call::Insert(4, 7, Read),
-        Call::Insert(2, 7, Write),
-        Call::Insert(3, 7, Read),
-        Call::Insert(0, 7, Read),
-        Call::Insert(1, 8, Write),
-        Call::Insert(6, 8, Write),
-        Call::Insert(5, 9, Write),
+        Call::Insert(4, [(7, Read); 2]),
+        Call::Insert(2, [(7, Write); 2]),
+        Call::Insert(3, [(7, Read); 2]),
+        Call::Insert(0, [(7, Read); 2]),
+        Call::Insert(1, [(8, Write); 2]),
+        Call::Insert(6, [(8, Write); 2]),
+        Call::Insert(5, [(9, Write); 2]),
         Call::Start(0),
         Call::Start(5),
         Call::End(0),
-        Call::Replace(1, 6, 7, Write),
-        Call::Replace(2, 5, 7, Write),
+        Call::Replace(1, 6, [(7, Write); 2]),
+        Call::Replace(2, 5, [(7, Write); 2]),
         Call::End(3),
         Call::End(4),
         Call::End(5),
         Call::End(6),
     ];
-    for call in calls {
-        run(&rt, &mut graph, alloc, call)?;
-        check_plain(&rt, &graph, alloc)?;
-    }
-    Ok(())
+    run_all(&rt, rt.alloc(), &calls)
+}
+
+#[test]
+fn sets_that_are_exchanged_leave_what_a_plain_search_finds(rt: HostRuntime) -> Result<(), Fail> {
+    let calls = [
+        Call::Insert(0, [(1, Write), (2, Write)]),
+        Call::Insert(7, [(3, Read), (4, Write)]),
+        Call::Insert(1, [(1, Read), (3, Write)]),
+        Call::Insert(2, [(2, Write), (3, Read)]),
+        Call::Insert(3, [(1, Read), (2, Read)]),
+        Call::Insert(4, [(1, Write), (3, Write)]),
+        Call::Insert(5, [(2, Read), (4, Read)]),
+        Call::Insert(6, [(1, Read), (4, Write)]),
+        Call::Replace(0, 4, [(1, Write), (2, Read)]),
+        Call::Replace(7, 3, [(1, Write), (2, Read)]),
+        Call::Replace(1, 5, [(1, Read), (4, Read)]),
+        Call::Replace(2, 6, [(1, Read), (4, Read)]),
+        Call::Replace(3, 5, [(2, Write), (3, Write)]),
+        Call::End(4),
+    ];
+    run_all(&rt, rt.alloc(), &calls)
 }

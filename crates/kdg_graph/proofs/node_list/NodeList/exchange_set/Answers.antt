@@ -1,40 +1,49 @@
 use Rattle.std.proofs.Common.{◌≡◌, ◌∙◌, ℕ, Bool, List, [], ◌∷◌, Option, Some, ap, length, refl, subst, sym, arith}
 use Rattle.std.specs.Prelude.{IfSome, IsSome}
 use Rattle.std.specs.Option.{option_map}
-use Rattle.rw_sets.specs.Accesses.{Accesses}
+use Rattle.rw_sets.specs.Accesses.{Accesses, access_at}
 use Rattle.kdg_graph.specs.Node.{Node}
 use Rattle.kdg_graph.specs.NodeStock.{NodeStock}
 use Rattle.kdg_graph.specs.Nodes.{HasNode, ids_of}
 use Rattle.kdg_graph.specs.Edges.{is_source}
+use Rattle.kdg_graph.specs.Exchange.{AreFiledWith, lacking}
 use Rattle.kdg_graph.specs.Fronts.{fronts_after}
-use Rattle.kdg_graph.specs.Locations.{AreFiled, HasRoom, rooms_of}
+use Rattle.kdg_graph.specs.Locations.{HasRoom, rooms_of}
+use Rattle.kdg_graph.specs.Rewrite.{without}
+use Rattle.kdg_graph.specs.declared.location.Location.{Location}
 use Rattle.kdg_graph.specs.Selected.{AreSelected, refreshed}
-use Rattle.kdg_graph.proofs.Rooms.{room_kept}
+use Rattle.kdg_graph.proofs.Exchanging.{filed_before}
 use Rattle.kdg_graph.proofs.Selecting.{but, found_node}
-use Rattle.kdg_graph.proofs.Settling.{found_changed, length-changed, select_but, settled_changed, without_changed}
+use Rattle.kdg_graph.proofs.Settling.{found_changed, length-changed, select_but, settled_exchanged, without_changed}
 use Rattle.kdg_graph.proofs.node_list.NodeList.exchange_set.Goals as goal
 
-pub enter-requires-clause-there : goal.enter-requires-clause-there
-enter-requires-clause-there c =
+pub exchange-requires-clause-there : goal.exchange-requires-clause-there
+exchange-requires-clause-there c =
     let nodes : List Node = c.self.inside.nodes.nodes in
     let gone = found_node nodes c.args.id (subst (λ (stock : NodeStock). HasNode stock.nodes c.args.id) (sym c.self.view_is) c.requires.there) in
     subst IsSome (sym (found_changed c.args.id gone.0 c.args.set nodes c.set_set-before.new.self.nodes c.self.invariant.graph c.set_set-before.ensures.graph gone.1 c.set_set-before.ensures.nodes)) refl
 
-pub enter-requires-clause-room : goal.enter-requires-clause-room
-enter-requires-clause-room c =
+pub exchange-requires-clause-filed : goal.exchange-requires-clause-filed
+exchange-requires-clause-filed c =
     let nodes : List Node = c.self.inside.nodes.nodes in
+    let now : List Node = c.set_set-before.new.self.nodes in
+    let locations : List Location = c.self.inside.locations.locations.items in
     let gone = found_node nodes c.args.id (subst (λ (stock : NodeStock). HasNode stock.nodes c.args.id) (sym c.self.view_is) c.requires.there) in
-    let rooms : List ℕ = rooms_of c.leave.new.self.locations.items in
-    let before : HasRoom 1 c.args.set (rooms_of c.self.inside.locations.locations.items) = subst (λ (stock : NodeStock). HasRoom 1 c.args.set stock.rooms) (sym c.self.view_is) c.requires.rooms in
-    let room : HasRoom 1 c.args.set rooms = room_kept 1 c.args.set (rooms_of c.self.inside.locations.locations.items) rooms c.leave.ensures.no_less before in
-    subst (λ (o : Option Node). IfSome o (λ (n : Node). HasRoom 1 n.set rooms)) (sym (found_changed c.args.id gone.0 c.args.set nodes c.set_set-before.new.self.nodes c.self.invariant.graph c.set_set-before.ensures.graph gone.1 c.set_set-before.ensures.nodes)) room
+    let left = without_changed c.args.id gone.0 c.args.set nodes now c.self.invariant.graph c.set_set-before.ensures.graph gone.1 c.set_set-before.ensures.nodes in
+    let before : Accesses = c.set_set-before.result in
+    let had : Some before ≡ Some gone.0.set = sym c.set_set-before.ensures.before ∙ ap (option_map (λ (n : Node). n.set)) gone.1 in
+    let is_before : gone.0.set ≡ before = cc in
+    let filed : AreFiledWith (without c.args.id now) (record gone.0 { set = c.args.set }) (access_at gone.0.set) locations = filed_before nodes (without c.args.id now) c.args.id gone.0 c.args.set locations c.self.invariant.graph gone.1 left c.self.invariant.filed in
+    subst (λ (o : Option Node). IfSome o (λ (n : Node). AreFiledWith (without c.args.id now) n (access_at before) locations)) (sym (found_changed c.args.id gone.0 c.args.set nodes now c.self.invariant.graph c.set_set-before.ensures.graph gone.1 c.set_set-before.ensures.nodes))
+    (subst (λ (l : Accesses). AreFiledWith (without c.args.id now) (record gone.0 { set = c.args.set }) (access_at l) locations) is_before filed)
 
-pub enter-requires-clause-filed : goal.enter-requires-clause-filed
-enter-requires-clause-filed c =
+pub exchange-requires-clause-room : goal.exchange-requires-clause-room
+exchange-requires-clause-room c =
     let nodes : List Node = c.self.inside.nodes.nodes in
     let gone = found_node nodes c.args.id (subst (λ (stock : NodeStock). HasNode stock.nodes c.args.id) (sym c.self.view_is) c.requires.there) in
-    let left = without_changed c.args.id gone.0 c.args.set nodes c.set_set-before.new.self.nodes c.self.invariant.graph c.set_set-before.ensures.graph gone.1 c.set_set-before.ensures.nodes in
-    subst (λ (l : List Node). AreFiled l c.leave.new.self.locations.items) (sym left) c.leave.ensures.filed
+    let rooms : List ℕ = rooms_of c.self.inside.locations.locations.items in
+    let room : HasRoom 1 c.args.set rooms = subst (λ (stock : NodeStock). HasRoom 1 c.args.set stock.rooms) (sym c.self.view_is) c.requires.rooms in
+    subst (λ (o : Option Node). IfSome o (λ (n : Node). HasRoom 1 n.set rooms)) (sym (found_changed c.args.id gone.0 c.args.set nodes c.set_set-before.new.self.nodes c.self.invariant.graph c.set_set-before.ensures.graph gone.1 c.set_set-before.ensures.nodes)) room
 
 pub entry-node-requires : goal.entry-node-requires
 entry-node-requires c =
@@ -51,8 +60,8 @@ refresh-requires-clause-part c =
     let others = c.forget.ensures.ids (is_source nodes) c.self.invariant.sources_are in
     record { test = but c.args.id (is_source nodes); selected = select_but now (is_source nodes) c.args.id c.forget.new.self.lane.ids.items (subst (λ (l : List Node). AreSelected l (is_source nodes) c.forget.new.self.lane.ids.items) (sym left) others) }
 
-pub refresh_fronts-requires-clause-part : goal.refresh_fronts-requires-clause-part
-refresh_fronts-requires-clause-part c =
+pub refresh_lacking-requires-clause-part : goal.refresh_lacking-requires-clause-part
+refresh_lacking-requires-clause-part c =
     let nodes : List Node = c.self.inside.nodes.nodes in
     let now : List Node = c.set_set-before.new.self.nodes in
     let gone = found_node nodes c.args.id (subst (λ (stock : NodeStock). HasNode stock.nodes c.args.id) (sym c.self.view_is) c.requires.there) in
@@ -61,15 +70,15 @@ refresh_fronts-requires-clause-part c =
     let all = select_but now (is_source nodes) c.args.id c.forget.new.self.lane.ids.items (subst (λ (l : List Node). AreSelected l (is_source nodes) c.forget.new.self.lane.ids.items) (sym left) others) in
     record { test = _; selected = c.refresh.ensures.ids (but c.args.id (is_source nodes)) all }
 
-pub refresh_fronts-requires-2-clause-part : goal.refresh_fronts-requires-2-clause-part
-refresh_fronts-requires-2-clause-part c =
+pub refresh_lacking-requires-2-clause-part : goal.refresh_lacking-requires-2-clause-part
+refresh_lacking-requires-2-clause-part c =
     let nodes : List Node = c.self.inside.nodes.nodes in
     let now : List Node = c.set_set-before.new.self.nodes in
     let gone = found_node nodes c.args.id (subst (λ (stock : NodeStock). HasNode stock.nodes c.args.id) (sym c.self.view_is) c.requires.there) in
     let left = without_changed c.args.id gone.0 c.args.set nodes now c.self.invariant.graph c.set_set-before.ensures.graph gone.1 c.set_set-before.ensures.nodes in
     let others = c.forget.ensures.ids (is_source nodes) c.self.invariant.sources_are in
     let all = select_but now (is_source nodes) c.args.id c.forget.new.self.lane.ids.items (subst (λ (l : List Node). AreSelected l (is_source nodes) c.forget.new.self.lane.ids.items) (sym left) others) in
-    record { test = _; selected = c.refresh_fronts.ensures.ids _ (c.refresh.ensures.ids (but c.args.id (is_source nodes)) all) }
+    record { test = _; selected = c.refresh_lacking.ensures.ids _ (c.refresh.ensures.ids (but c.args.id (is_source nodes)) all) }
 
 pub invariant_of-self : goal.invariant_of-self
 invariant_of-self c =
@@ -83,10 +92,10 @@ invariant_of-self c =
     let entry : Node = record { id = c.node.inside.id; task = c.node.inside.task; set = c.node.inside.set; running = c.node.inside.running } in
     let before : Accesses = c.set_set-before.result in
     let changed : Node = record gone.0 { set = c.args.set } in
-    let second : Node → Bool = refreshed now (ids_of (fronts_after before entry.task.key now)) first in
-    let after : AreSelected now second c.refresh_fronts.new.self.lane.ids.items = c.refresh_fronts.ensures.ids first (c.refresh.ensures.ids (but c.args.id (is_source nodes)) some) in
-    let Settled : Accesses → Node → Type 0 = λ was n. AreSelected now (refreshed now (ids_of (fronts_after n.set n.task.key now)) (refreshed now (ids_of (fronts_after was n.task.key now)) first)) c.refresh_fronts-2.new.self.lane.ids.items in
-    let all : Settled before entry = c.refresh_fronts-2.ensures.ids second after in
+    let second : Node → Bool = refreshed now (ids_of (fronts_after (lacking before entry.set) entry.task.key now)) first in
+    let after : AreSelected now second c.refresh_lacking.new.sources.lane.ids.items = c.refresh_lacking.ensures.ids first (c.refresh.ensures.ids (but c.args.id (is_source nodes)) some) in
+    let Settled : Accesses → Node → Type 0 = λ was n. AreSelected now (refreshed now (ids_of (fronts_after (lacking n.set was) n.task.key now)) (refreshed now (ids_of (fronts_after (lacking was n.set) n.task.key now)) first)) c.refresh_lacking-2.new.sources.lane.ids.items in
+    let all : Settled before entry = c.refresh_lacking-2.ensures.ids second after in
     let found : Some c.entry-node.result.now ≡ Some changed = sym c.entry-node.ensures ∙ found_changed c.args.id gone.0 c.args.set nodes now c.self.invariant.graph c.set_set-before.ensures.graph gone.1 c.set_set-before.ensures.nodes in
     let is_changed : c.entry-node.result.now ≡ changed = cc in
     let had : Some before ≡ Some gone.0.set = sym c.set_set-before.ensures.before ∙ ap (option_map (λ (n : Node). n.set)) gone.1 in
@@ -94,8 +103,8 @@ invariant_of-self c =
     let long = ap length c.set_set-before.ensures.nodes ∙ length-changed (record { node = c.args.id; set = c.args.set } ∷ []) nodes in
     record {
       graph = c.set_set-before.ensures.graph;
-      filed = c.enter.ensures.filed;
-      sources_are = settled_changed c.args.id gone.0 c.args.set nodes now c.refresh_fronts-2.new.self.lane.ids.items c.self.invariant.graph c.set_set-before.ensures.graph gone.1 c.set_set-before.ensures.nodes
+      filed = c.exchange.ensures.filed;
+      sources_are = settled_exchanged c.args.id gone.0 c.args.set nodes now c.refresh_lacking-2.new.sources.lane.ids.items c.self.invariant.graph c.set_set-before.ensures.graph gone.1 c.set_set-before.ensures.nodes
           (subst (Settled gone.0.set) (c.node.view_is ∙ is_changed) (subst (λ (was : Accesses). Settled was entry) is_before all));
-      room = omega (arith, long, c.self.invariant.room, c.forget.ensures.room, c.refresh.ensures.room, c.refresh_fronts.ensures.room, c.refresh_fronts-2.ensures.room);
+      room = omega (arith, long, c.self.invariant.room, c.forget.ensures.room, c.refresh.ensures.room, c.refresh_lacking.ensures.room, c.refresh_lacking-2.ensures.room);
     }

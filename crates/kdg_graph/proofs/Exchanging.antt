@@ -1,0 +1,249 @@
+-- What the lanes of the locations are while a node's set is exchanged at one location after another.
+use Rattle.std.proofs.Common.{◌≡◌, ℕ, suc, ◌+◌, ◌<◌, ◌≤◌, Bool, true, false, ◌||◌, not, cond, List, [], ◌∷◌, ◌++◌, append-nil, length, take, drop, get_or, set, Option, Some, None, refl, sym, ◌∙◌, ap, subst, arith, inl, inr}
+use Rattle.std.specs.Prelude.{Contains, IfSome, is_some}
+use Rattle.std.specs.List.{filter, flat_map}
+use Rattle.std.proofs.lemmas.Bool.{cases_eq}
+use Rattle.std.proofs.lemmas.Grind.{flat_map-append}
+use Rattle.std.proofs.lemmas.List.{map-append, take_more}
+use Rattle.std.proofs.lemmas.List.Elements.{filter-append}
+use Rattle.task_order.specs.declared.key.Key.{Key}
+use Rattle.rw_sets.specs.declared.access.Access.{Access}
+use Rattle.rw_sets.specs.declared.access.Access.TheVariants.{Read, Write}
+use Rattle.rw_sets.specs.Accesses.{Accesses, IsAscending as IsAscendingSet, access_at, clash, excludes}
+use Rattle.kdg_graph.specs.declared.location.Location.{Location}
+use Rattle.kdg_graph.specs.declared.node_id.NodeId.{NodeId}
+use Rattle.kdg_graph.specs.Exchange.{AreFiledWith, is_same, lacking, midway}
+use Rattle.kdg_graph.specs.Fronts.{fronts_after}
+use Rattle.kdg_graph.specs.Locations.{AreFiled, IsLaneAmong, clashes_at, clashing_at, front_after, ids_for, lane_of, put_if, room_at, rooms_of, without_if}
+use Rattle.kdg_graph.specs.Node.{Node}
+use Rattle.kdg_graph.specs.Nodes.{IsGraph, ids_of, is_at, node_at, put_node}
+use Rattle.kdg_graph.specs.Rewrite.{without}
+use Rattle.kdg_graph.specs.Selected.{AreSelected, refreshed}
+use Rattle.kdg_graph.proofs.Among.{among_filtered, graph_among}
+use Rattle.kdg_graph.proofs.Filing.{clashing_with, others_among, some_put}
+use Rattle.kdg_graph.proofs.Filtered.{filter_with, filters_commute, same_filter}
+use Rattle.kdg_graph.proofs.LookUps.{ids_find_nodes}
+use Rattle.kdg_graph.proofs.Members.{from_filter}
+use Rattle.kdg_graph.proofs.Ordering.{is_before}
+use Rattle.kdg_graph.proofs.Places.{is_at-same}
+use Rattle.kdg_graph.proofs.Selecting.{select_append}
+use Rattle.kdg_graph.proofs.Shelving.{lane_at, lane_changed, lane_other, left_here, left_other, not_before, not_left, pair_found, so_far_here, so_far_other, within_lane}
+
+-- ---- the same access
+
+pub same_access : (x : Access) (found : Option Access) → is_same (Some x) found ≡ true → found ≡ Some x
+same_access x None is = absurd cc
+same_access Read (Some Read) is = refl
+same_access Read (Some Write) is = absurd cc
+same_access Write (Some Read) is = absurd cc
+same_access Write (Some Write) is = refl
+
+pub same_turned : (a b : Option Access) → is_same a b ≡ is_same b a
+same_turned None None = refl
+same_turned None (Some y) = refl
+same_turned (Some x) None = refl
+same_turned (Some Read) (Some Read) = refl
+same_turned (Some Read) (Some Write) = refl
+same_turned (Some Write) (Some Read) = refl
+same_turned (Some Write) (Some Write) = refl
+
+both_same : (a b : Option Access) → is_same a b ≡ true → a ≡ b
+both_same None None is = refl
+both_same None (Some y) is = absurd cc
+both_same (Some x) b is = sym (same_access x b is)
+
+-- ---- midway, by the locations that are left
+
+midway_at : (before now part : Accesses) (loc : ℕ) (test : Bool) → is_same (access_at before loc) (access_at now loc) ≡ test → midway before now part loc ≡ cond test (access_at before loc) (access_at part loc)
+midway_at before now part loc test is = ap (λ b. cond b (access_at before loc) (access_at part loc)) is
+
+midway_as : (before now some more : Accesses) (loc : ℕ) → access_at some loc ≡ access_at more loc → midway before now some loc ≡ midway before now more loc
+midway_as before now some more loc same = ap (λ found. cond (is_same (access_at before loc) (access_at now loc)) (access_at before loc) found) same
+
+-- at one location, or another
+at_one_or_other : (P : ℕ → Type 0) (one loc : ℕ) → P one → ((one ≡ loc → ⊥) → P loc) → P loc
+at_one_or_other P one loc here there = elim (cases_eq one loc) [ inl same ↦ subst P same here | inr differs ↦ there differs ]
+
+tested_before : (before now : Accesses) (i : ℕ) (p : ℕ × Access) (test : Bool) → IsAscendingSet before → i < length before → p ≡ get_or before i p → is_same (Some p.1) (access_at now p.0) ≡ test → is_same (access_at before p.0) (access_at now p.0) ≡ test
+tested_before before now i p test up inside at is = ap (λ found. is_same found (access_at now p.0)) (pair_found before i p up inside at) ∙ is
+
+pub left_had : (before now : Accesses) (i : ℕ) (p : ℕ × Access) → IsAscendingSet before → i < length before → p ≡ get_or before i p → is_same (Some p.1) (access_at now p.0) ≡ false → midway before now (drop i before) p.0 ≡ Some p.1
+left_had before now i p up inside at is = midway_at before now (drop i before) p.0 false (tested_before before now i p false up inside at is) ∙ left_here before i p inside at
+
+pub left_has : (before now : Accesses) (i : ℕ) (p : ℕ × Access) → IsAscendingSet before → i < length before → p ≡ get_or before i p → is_same (Some p.1) (access_at now p.0) ≡ false → midway before now (drop (suc i) before) p.0 ≡ None
+left_has before now i p up inside at is = midway_at before now (drop (suc i) before) p.0 false (tested_before before now i p false up inside at is) ∙ not_left before i p up inside at
+
+pub left_elsewhere : (before now : Accesses) (i : ℕ) (p : ℕ × Access) (loc : ℕ) → i < length before → p ≡ get_or before i p → (p.0 ≡ loc → ⊥) → midway before now (drop i before) loc ≡ midway before now (drop (suc i) before) loc
+left_elsewhere before now i p loc inside at differs = midway_as before now (drop i before) (drop (suc i) before) loc (left_other before i p loc inside at differs)
+
+pub left_as_was : (before now : Accesses) (i : ℕ) (p : ℕ × Access) → IsAscendingSet before → i < length before → p ≡ get_or before i p → is_same (Some p.1) (access_at now p.0) ≡ true → (loc : ℕ) → midway before now (drop i before) loc ≡ midway before now (drop (suc i) before) loc
+left_as_was before now i p up inside at is loc =
+    let same : is_same (access_at before p.0) (access_at now p.0) ≡ true = tested_before before now i p true up inside at is in
+    at_one_or_other (λ n. midway before now (drop i before) n ≡ midway before now (drop (suc i) before) n) p.0 loc
+    (midway_at before now (drop i before) p.0 true same ∙ sym (midway_at before now (drop (suc i) before) p.0 true same))
+    (left_elsewhere before now i p loc inside at)
+
+-- at first the set is the one before
+pub midway_first : (before now : Accesses) (loc : ℕ) → midway before now before loc ≡ access_at before loc
+midway_first before now loc = elim (is_same (access_at before loc) (access_at now loc)) as (λ b. cond b (access_at before loc) (access_at before loc) ≡ access_at before loc) [ true ↦ refl | false ↦ refl ]
+
+-- ---- midway, by the locations so far
+
+tested_now : (before now : Accesses) (i : ℕ) (p : ℕ × Access) (test : Bool) → IsAscendingSet now → i < length now → p ≡ get_or now i p → is_same (Some p.1) (access_at before p.0) ≡ test → is_same (access_at before p.0) (access_at now p.0) ≡ test
+tested_now before now i p test up inside at is = ap (is_same (access_at before p.0)) (pair_found now i p up inside at) ∙ same_turned (access_at before p.0) (Some p.1) ∙ is
+
+pub entered_had : (before now : Accesses) (i : ℕ) (p : ℕ × Access) → IsAscendingSet now → i < length now → p ≡ get_or now i p → is_same (Some p.1) (access_at before p.0) ≡ false → midway before now (take i now) p.0 ≡ None
+entered_had before now i p up inside at is = midway_at before now (take i now) p.0 false (tested_now before now i p false up inside at is) ∙ not_before now i p up inside at
+
+pub entered_has : (before now : Accesses) (i : ℕ) (p : ℕ × Access) → IsAscendingSet now → i < length now → p ≡ get_or now i p → is_same (Some p.1) (access_at before p.0) ≡ false → midway before now (take (suc i) now) p.0 ≡ Some p.1
+entered_has before now i p up inside at is = midway_at before now (take (suc i) now) p.0 false (tested_now before now i p false up inside at is) ∙ so_far_here now i p up inside at
+
+pub entered_elsewhere : (before now : Accesses) (i : ℕ) (p : ℕ × Access) (loc : ℕ) → i < length now → p ≡ get_or now i p → (p.0 ≡ loc → ⊥) → midway before now (take i now) loc ≡ midway before now (take (suc i) now) loc
+entered_elsewhere before now i p loc inside at differs = midway_as before now (take i now) (take (suc i) now) loc (sym (so_far_other now i p loc inside at differs))
+
+pub entered_as_was : (before now : Accesses) (i : ℕ) (p : ℕ × Access) → IsAscendingSet now → i < length now → p ≡ get_or now i p → is_same (Some p.1) (access_at before p.0) ≡ true → (loc : ℕ) → midway before now (take i now) loc ≡ midway before now (take (suc i) now) loc
+entered_as_was before now i p up inside at is loc =
+    let same : is_same (access_at before p.0) (access_at now p.0) ≡ true = tested_now before now i p true up inside at is in
+    at_one_or_other (λ n. midway before now (take i now) n ≡ midway before now (take (suc i) now) n) p.0 loc
+    (midway_at before now (take i now) p.0 true same ∙ sym (midway_at before now (take (suc i) now) p.0 true same))
+    (entered_elsewhere before now i p loc inside at)
+
+-- at last it is the one that is now
+pub midway_last : (before now : Accesses) (loc : ℕ) → midway before now now loc ≡ access_at now loc
+midway_last before now loc =
+    let by_case : (test : Bool) → is_same (access_at before loc) (access_at now loc) ≡ test → cond test (access_at before loc) (access_at now loc) ≡ access_at now loc = elim [
+      | true ↦ λ is. both_same (access_at before loc) (access_at now loc) is
+      | false ↦ λ _. refl
+    ] in
+    by_case (is_same (access_at before loc) (access_at now loc)) refl
+
+-- ---- the lanes
+
+pub filed_as : (others : List Node) (node : Node) (f g : ℕ → Option Access) (locations : List Location) → ((loc : ℕ) → f loc ≡ g loc) → AreFiledWith others node f locations → AreFiledWith others node g locations
+filed_as others node f g locations same filed loc access = filed loc access ∙ ap (λ found. ids_of (put_if (clash (Some access) found) node (clashing_at loc access others))) (same loc)
+
+-- what holds of a node that an id finds holds of each that it finds
+pub for_found : (nodes : List Node) (id : NodeId) (held : Node) (P : Node → Type 0) → node_at nodes id ≡ Some held → P held → (node : Node) → node_at nodes id ≡ Some node → P node
+for_found nodes id held P found holds node is =
+    let both : Some held ≡ Some node = sym found ∙ is in
+    let same : held ≡ node = cc in
+    subst P same holds
+
+-- with its own accesses all nodes are filed
+pub filed_own : (nodes : List Node) (id : NodeId) (node : Node) (locations : List Location) → IsGraph nodes → node_at nodes id ≡ Some node → AreFiledWith (without id nodes) node (access_at node.set) locations → AreFiled nodes locations
+filed_own nodes id node locations graph is filed loc access = filed loc access ∙ ap ids_of (sym (clashing_with nodes id node loc access (access_at node.set loc) graph is refl))
+
+put_alike : (gone : Node) (set : Accesses) (others : List Node) → ids_of (put_node gone others) ≡ ids_of (put_node (record gone { set = set }) others)
+put_alike gone set [] = refl
+put_alike gone set (other ∷ others) =
+    let new : Node = record gone { set = set } in
+    elim (is_before gone.task.key other) as (λ b. ids_of (cond b (other ∷ put_node gone others) (gone ∷ other ∷ others)) ≡ ids_of (cond b (other ∷ put_node new others) (new ∷ other ∷ others))) [
+      | true ↦ ap (λ ids. other.id ∷ ids) (put_alike gone set others)
+      | false ↦ refl
+    ]
+
+-- where only its set is another it is filed with its accesses of before
+pub filed_before : (nodes others : List Node) (id : NodeId) (gone : Node) (set : Accesses) (locations : List Location) → IsGraph nodes → node_at nodes id ≡ Some gone → others ≡ without id nodes → AreFiled nodes locations → AreFiledWith others (record gone { set = set }) (access_at gone.set) locations
+filed_before nodes others id gone set locations graph is are filed loc access =
+    let new : Node = record gone { set = set } in
+    let rest : List Node = clashing_at loc access (without id nodes) in
+    filed loc access ∙ ap ids_of (clashing_with nodes id gone loc access (access_at gone.set loc) graph is refl)
+    ∙ elim (clash (Some access) (access_at gone.set loc)) as (λ b. ids_of (put_if b gone rest) ≡ ids_of (put_if b new rest)) [ true ↦ put_alike gone set rest | false ↦ refl ]
+    ∙ ap (λ l. ids_of (put_if (clash (Some access) (access_at gone.set loc)) new (clashing_at loc access l))) (sym are)
+
+-- the others and the node are those that pass a test
+one_more : (q : Node → Bool) (nodes : List Node) (id : NodeId) (node : Node) → IsGraph nodes → node_at nodes id ≡ Some node → put_node node (filter q (without id nodes)) ≡ filter (λ other. is_at id other || q other) nodes
+one_more q nodes id node graph is =
+    let p : Node → Bool = λ other. is_at id other || q other in
+    let passes : p node ≡ true = ap (λ b. b || q node) (is_at-same id node (ids_find_nodes nodes id node is).1) in
+    let rest : filter p (without id nodes) ≡ filter q (without id nodes) = same_filter p q (without id nodes) (λ other has. ap (λ b. b || q other) (apart (is_at id other) (from_filter (λ n. not (is_at id n)) nodes other has).1)) in
+    sym (filter_with p id nodes node graph is ∙ ap (λ b. put_if b node (filter p (without id nodes))) passes ∙ ap (put_node node) rest)
+  where
+    apart : (test : Bool) → not test ≡ true → test ≡ false
+    apart true is = sym is
+    apart false is = refl
+
+one_among : (test : Bool) (loc : ℕ) (access : Access) (nodes : List Node) (id : NodeId) (node : Node) (ids : List NodeId) → IsGraph nodes → node_at nodes id ≡ Some node → ids ≡ ids_of (put_if test node (clashing_at loc access (without id nodes)))
+    → IsLaneAmong nodes (put_if test node (clashing_at loc access (without id nodes))) ids
+one_among true loc access nodes id node ids graph is are =
+    let more = one_more (clashes_at loc access) nodes id node graph is in
+    subst (λ (l : List Node). IsLaneAmong nodes l ids) (sym more) (among_filtered (λ other. is_at id other || clashes_at loc access other) nodes nodes (ids_of nodes) ids (graph_among nodes graph) (are ∙ ap ids_of more))
+one_among false loc access nodes id node ids graph is are = others_among nodes id loc access ids graph are
+
+one_less : (test : Bool) (loc : ℕ) (access : Access) (nodes : List Node) (id : NodeId) (node : Node) → IsGraph nodes → node_at nodes id ≡ Some node → without_if test id (put_if test node (clashing_at loc access (without id nodes))) ≡ clashing_at loc access (without id nodes)
+one_less true loc access nodes id node graph is =
+    let p : Node → Bool = λ other. is_at id other || clashes_at loc access other in
+    ap (without id) (one_more (clashes_at loc access) nodes id node graph is) ∙ filters_commute (λ other. not (is_at id other)) p nodes
+    ∙ same_filter p (clashes_at loc access) (without id nodes) (λ other has. ap (λ b. b || clashes_at loc access other) (apart (is_at id other) (from_filter (λ n. not (is_at id n)) nodes other has).1))
+  where
+    apart : (test : Bool) → not test ≡ true → test ≡ false
+    apart true is = sym is
+    apart false is = refl
+one_less false loc access nodes id node graph is = refl
+
+-- the node is filed at a location no more
+pub left_there : (nodes : List Node) (id : NodeId) (node : Node) (f g : ℕ → Option Access) (p : ℕ × Access) (locations : List Location) (old now : Location) → IsGraph nodes → node_at nodes id ≡ Some node
+    → f p.0 ≡ Some p.1 → g p.0 ≡ None → ((loc : ℕ) → (p.0 ≡ loc → ⊥) → f loc ≡ g loc) → p.0 < length locations → old ≡ get_or locations p.0 old
+    → ((access : Access) (some : List Node) → IsLaneAmong nodes some (ids_for access old) → ids_for access now ≡ ids_of (without_if (excludes access p.1) id some))
+    → AreFiledWith (without id nodes) node f locations → AreFiledWith (without id nodes) node g (set locations p.0 now)
+left_there nodes id node f g p locations old now graph is had has elsewhere within here lanes filed loc access =
+    let rest : List Node = clashing_at p.0 access (without id nodes) in
+    let some : List Node = put_if (excludes access p.1) node rest in
+    let before : ids_for access old ≡ ids_of some = ap (ids_for access) here ∙ sym (lane_at locations p.0 access old within) ∙ filed p.0 access ∙ ap (λ found. ids_of (put_if (clash (Some access) found) node rest)) had in
+    let taken : ids_for access now ≡ ids_of rest = lanes access some (one_among (excludes access p.1) p.0 access nodes id node (ids_for access old) graph is before) ∙ ap ids_of (one_less (excludes access p.1) p.0 access nodes id node graph is) in
+    let changed : lane_of (set locations p.0 now) p.0 access ≡ ids_of (put_if (clash (Some access) (g p.0)) node rest) = lane_changed locations p.0 now access within ∙ taken ∙ ap (λ found. ids_of (put_if (clash (Some access) found) node rest)) (sym has) in
+    at_one_or_other (λ n. lane_of (set locations p.0 now) n access ≡ ids_of (put_if (clash (Some access) (g n)) node (clashing_at n access (without id nodes)))) p.0 loc changed
+    (λ differs. lane_other locations p.0 loc now access differs ∙ filed loc access ∙ ap (λ found. ids_of (put_if (clash (Some access) found) node (clashing_at loc access (without id nodes)))) (elsewhere loc differs))
+
+-- the node comes in at a location
+pub entered_there : (nodes : List Node) (id : NodeId) (node : Node) (f g : ℕ → Option Access) (p : ℕ × Access) (locations : List Location) (old now : Location) → IsGraph nodes → node_at nodes id ≡ Some node
+    → f p.0 ≡ None → g p.0 ≡ Some p.1 → ((loc : ℕ) → (p.0 ≡ loc → ⊥) → f loc ≡ g loc) → p.0 < length locations → old ≡ get_or locations p.0 old
+    → ((access : Access) (some : List Node) → IsLaneAmong nodes some (ids_for access old) → IfSome (node_at nodes id) (λ (n : Node). ids_for access now ≡ ids_of (put_if (excludes access p.1) n some)))
+    → AreFiledWith (without id nodes) node f locations → AreFiledWith (without id nodes) node g (set locations p.0 now)
+entered_there nodes id node f g p locations old now graph is had has elsewhere within here lanes filed loc access =
+    let rest : List Node = clashing_at p.0 access (without id nodes) in
+    let before : ids_for access old ≡ ids_of rest = ap (ids_for access) here ∙ sym (lane_at locations p.0 access old within) ∙ filed p.0 access ∙ ap (λ found. ids_of (put_if (clash (Some access) found) node rest)) had in
+    let put : ids_for access now ≡ ids_of (put_if (excludes access p.1) node rest) =
+    subst (λ (o : Option Node). IfSome o (λ (n : Node). ids_for access now ≡ ids_of (put_if (excludes access p.1) n rest))) is (lanes access rest (others_among nodes id p.0 access (ids_for access old) graph before)) in
+    let changed : lane_of (set locations p.0 now) p.0 access ≡ ids_of (put_if (clash (Some access) (g p.0)) node rest) = lane_changed locations p.0 now access within ∙ put ∙ ap (λ found. ids_of (put_if (clash (Some access) found) node rest)) (sym has) in
+    at_one_or_other (λ n. lane_of (set locations p.0 now) n access ≡ ids_of (put_if (clash (Some access) (g n)) node (clashing_at n access (without id nodes)))) p.0 loc changed
+    (λ differs. lane_other locations p.0 loc now access differs ∙ filed loc access ∙ ap (λ found. ids_of (put_if (clash (Some access) found) node (clashing_at loc access (without id nodes)))) (elsewhere loc differs))
+
+-- a location where the node is filed is kept
+pub within_filed : (others : List Node) (node : Node) (f : ℕ → Option Access) (p : ℕ × Access) (locations : List Location) → f p.0 ≡ Some p.1 → AreFiledWith others node f locations → p.0 < length locations
+within_filed others node f p locations had filed =
+    within_lane locations p.0 Write (λ none. some_put node (clashing_at p.0 Write others) (sym (filed p.0 Write ∙ ap (λ found. ids_of (put_if (clash (Some Write) found) node (clashing_at p.0 Write others))) had) ∙ none))
+
+-- ---- room
+
+-- a location that is passed by keeps its room
+pub room_passed : (ps : Accesses) (i : ℕ) (p : ℕ × Access) (first locations : List Location) → IsAscendingSet ps → i < length ps → p ≡ get_or ps i p
+    → ((loc : ℕ) → room_at (rooms_of first) loc ≤ room_at (rooms_of locations) loc + cond (is_some (access_at (take i ps) loc)) 1 0)
+    → (loc : ℕ) → room_at (rooms_of first) loc ≤ room_at (rooms_of locations) loc + cond (is_some (access_at (take (suc i) ps) loc)) 1 0
+room_passed ps i p first locations up inside at room loc =
+    let none : cond (is_some (access_at (take i ps) p.0)) 1 0 ≡ 0 = ap {B = ℕ} (λ found. cond (is_some found) 1 0) (not_before ps i p up inside at) in
+    let here : room_at (rooms_of first) p.0 ≤ room_at (rooms_of locations) p.0 + cond (is_some (access_at (take (suc i) ps) p.0)) 1 0 = omega (arith, none, room p.0) in
+    let there : (p.0 ≡ loc → ⊥) → room_at (rooms_of first) loc ≤ room_at (rooms_of locations) loc + cond (is_some (access_at (take (suc i) ps) loc)) 1 0 =
+    λ differs.
+    let same : cond (is_some (access_at (take (suc i) ps) loc)) 1 0 ≡ cond (is_some (access_at (take i ps) loc)) 1 0 = ap {B = ℕ} (λ found. cond (is_some found) 1 0) (so_far_other ps i p loc inside at differs) in
+    omega (arith, same, room loc) in
+    at_one_or_other (λ n. room_at (rooms_of first) n ≤ room_at (rooms_of locations) n + cond (is_some (access_at (take (suc i) ps) n)) 1 0) p.0 loc here there
+
+-- ---- the fronts
+
+pub lacking_more : (set other : Accesses) (i : ℕ) (p : ℕ × Access) → i < length set → p ≡ get_or set i p → is_same (Some p.1) (access_at other p.0) ≡ false → lacking (take (i + 1) set) other ≡ lacking (take i set) other ++ p ∷ []
+lacking_more set other i p inside at is =
+    let test : ℕ × Access → Bool = λ q. not (is_same (Some q.1) (access_at other q.0)) in
+    ap (filter test) (take_more set i p inside) ∙ filter-append test (take i set) (get_or set i p ∷ []) ∙ ap (λ q. filter test (take i set) ++ filter test (q ∷ [])) (sym at) ∙ ap (λ b. filter test (take i set) ++ cond (not b) (p ∷ []) []) is
+
+-- one location more is refreshed
+pub lacking_done : (nodes : List Node) (set other : Accesses) (key : Key) (i : ℕ) (p : ℕ × Access) (test : Node → Bool) (ids : List NodeId) → i < length set → p ≡ get_or set i p → is_same (Some p.1) (access_at other p.0) ≡ false
+    → AreSelected nodes (refreshed nodes (ids_of (front_after p.0 p.1 key nodes)) (refreshed nodes (ids_of (fronts_after (lacking (take i set) other) key nodes)) test)) ids
+    → AreSelected nodes (refreshed nodes (ids_of (fronts_after (lacking (take (i + 1) set) other) key nodes)) test) ids
+lacking_done nodes set other key i p test ids inside at is selected =
+    let front : ℕ × Access → List Node = λ (q : ℕ × Access). front_after q.0 q.1 key nodes in
+    let before : Accesses = lacking (take i set) other in
+    let joined : ids_of (fronts_after (before ++ p ∷ []) key nodes) ≡ ids_of (fronts_after before key nodes) ++ ids_of (front_after p.0 p.1 key nodes) =
+    ap ids_of (flat_map-append front before (p ∷ []) ∙ ap (λ l. flat_map front before ++ l) (append-nil (front p))) ∙ map-append (λ (n : Node). n.id) (flat_map front before) (front p) in
+    subst (λ (l : List NodeId). AreSelected nodes (refreshed nodes l test) ids) (sym (ap (λ pairs. ids_of (fronts_after pairs key nodes)) (lacking_more set other i p inside at is) ∙ joined))
+    (select_append nodes (ids_of (fronts_after before key nodes)) (ids_of (front_after p.0 p.1 key nodes)) test ids selected)

@@ -1,0 +1,16 @@
+use Rattle.std.proofs.Common.{◌≤◌, Bool, take}
+use Rattle.std.specs.VecDeque.{deque_capacity}
+use Rattle.kdg_graph.specs.Exchange.{lacking}
+use Rattle.kdg_graph.specs.Fronts.{fronts_after}
+use Rattle.kdg_graph.specs.Node.{Node}
+use Rattle.kdg_graph.specs.Nodes.{ids_of}
+use Rattle.kdg_graph.specs.Selected.{AreSelected, refreshed}
+use Rattle.kdg_graph.proofs.exchange.refresh_lacking.Given as goal
+
+-- the fronts at the locations so far are refreshed
+abbrev pub invariant-loop-pair : goal.invariant-loop-pair
+invariant-loop-pair l = record {
+  ids : (test : Node → Bool) → AreSelected l.nodes.nodes test l.fn.sources.lane.ids.items
+      → AreSelected l.nodes.nodes (refreshed l.nodes.nodes (ids_of (fronts_after (lacking (take l.pair-index l.pair-items) l.other) l.key l.nodes.nodes)) test) l.sources.lane.ids.items;
+  room : deque_capacity l.fn.sources.lane.ids ≤ deque_capacity l.sources.lane.ids;
+}

@@ -1,0 +1,118 @@
+use Rattle.std.proofs.Common.{rules, ◌≡◌, ◌+◌, ◌<◌, ◌≤◌, ◌∙◌, ℕ, List, Option, Some, true, false, add-one, ap, arith, get_or, length, set, suc, subst, sym, take}
+use Rattle.std.specs.Prelude.{IfSome}
+use Rattle.std.proofs.Math.Seq.{take-length}
+use Rattle.rw_sets.specs.declared.access.Access.{Access}
+use Rattle.rw_sets.specs.declared.access.Access.TheVariants.{Read}
+use Rattle.rw_sets.specs.Accesses.{Accesses, IsAscending as IsAscendingSet, access_at}
+use Rattle.kdg_graph.specs.Exchange.{AreFiledWith, is_same, midway}
+use Rattle.kdg_graph.specs.Locations.{HasRoom, room_at, room_in, rooms_of}
+use Rattle.kdg_graph.specs.Node.{Node}
+use Rattle.kdg_graph.specs.Nodes.{node_at}
+use Rattle.kdg_graph.specs.Rewrite.{without}
+use Rattle.kdg_graph.proofs.Exchanging.{entered_as_was, entered_elsewhere, entered_had, entered_has, entered_there, filed_as, filed_own, for_found, midway_last, room_passed}
+use Rattle.kdg_graph.proofs.Filing.{again, room_next, room_step}
+use Rattle.kdg_graph.proofs.Shelving.{room_there, within_room}
+use Rattle.kdg_graph.proofs.locations.Locations.enter_lacking.Goals as goal
+
+pub loop-pair-preserved-then-has_access : goal.loop-pair-preserved-then-has_access
+loop-pair-preserved-then-has_access c =
+    let nodes : List Node = c.args.nodes.now.nodes in
+    let held : Node = record { id = c.node.inside.id; task = c.node.inside.task; set = c.node.inside.set; running = c.node.inside.running } in
+    let found : node_at nodes c.args.id ≡ Some held = c.entry-node.ensures ∙ ap (λ (n : Node). Some n) (sym c.node.view_is) in
+    let before : Accesses = c.args.before.now in
+    let ps : Accesses = c.items-pair-items.result.now in
+    let i : ℕ = c.loop-pair.pair-index in
+    let p : ℕ × Access = get_or ps i (0, Read) in
+    let inside : i < length held.set = subst (λ (l : Accesses). i < length l) c.items-pair-items.ensures.all c.loop-pair-test.true in
+    let at : p ≡ get_or held.set i p = subst (λ (l : Accesses). p ≡ get_or l i p) c.items-pair-items.ensures.all (again ps i (0, Read) p c.loop-pair-test.true) in
+    let has : is_same (Some p.1) (access_at before p.0) ≡ true = sym c.has_access.ensures ∙ c.if-has_access.true in
+    let up : IsAscendingSet ps = subst IsAscendingSet (sym c.items-pair-items.ensures.all) c.items-pair-items.ensures.ascending in
+    let filed : AreFiledWith (without c.args.id nodes) held (midway before held.set (take (suc i) held.set)) c.loop-pair.self.locations.items =
+    filed_as (without c.args.id nodes) held (midway before held.set (take i held.set)) (midway before held.set (take (suc i) held.set)) c.loop-pair.self.locations.items (entered_as_was before held.set i p c.items-pair-items.ensures.ascending inside at has) (c.loop-pair.invariant.filed held found) in
+    record {
+      filed = for_found nodes c.args.id held (λ n. AreFiledWith (without c.args.id nodes) n (midway before n.set (take (i + 1) n.set)) c.loop-pair.self.locations.items) found (rw add-one filed);
+      room = rw add-one (room_passed ps i p c.args.self.now.locations.items c.loop-pair.self.locations.items up c.loop-pair-test.true (again ps i (0, Read) p c.loop-pair-test.true) c.loop-pair.invariant.room);
+    }
+
+pub index_mut-requires : goal.index_mut-requires
+index_mut-requires c =
+    let nodes : List Node = c.args.nodes.now.nodes in
+    let held : Node = record { id = c.node.inside.id; task = c.node.inside.task; set = c.node.inside.set; running = c.node.inside.running } in
+    let found : node_at nodes c.args.id ≡ Some held = c.entry-node.ensures ∙ ap (λ (n : Node). Some n) (sym c.node.view_is) in
+    let before : Accesses = c.args.before.now in
+    let ps : Accesses = c.items-pair-items.result.now in
+    let i : ℕ = c.loop-pair.pair-index in
+    let p : ℕ × Access = get_or ps i (0, Read) in
+    let inside : i < length held.set = subst (λ (l : Accesses). i < length l) c.items-pair-items.ensures.all c.loop-pair-test.true in
+    let at : p ≡ get_or held.set i p = subst (λ (l : Accesses). p ≡ get_or l i p) c.items-pair-items.ensures.all (again ps i (0, Read) p c.loop-pair-test.true) in
+    let first = c.args.self.now.locations.items in
+    let up : IsAscendingSet ps = subst IsAscendingSet (sym c.items-pair-items.ensures.all) c.items-pair-items.ensures.ascending in
+    let there : p ≡ get_or ps i p = again ps i (0, Read) p c.loop-pair-test.true in
+    let all : HasRoom 1 held.set (rooms_of first) = subst (λ (o : Option Node). IfSome o (λ (n : Node). HasRoom 1 n.set (rooms_of first))) found c.requires.room in
+    let own : HasRoom 1 ps (rooms_of first) = subst (λ (l : Accesses). HasRoom 1 l (rooms_of first)) (sym c.items-pair-items.ensures.all) all in
+    let next : 1 ≤ room_at (rooms_of c.loop-pair.self.locations.items) p.0 = room_next ps i p first c.loop-pair.self.locations.items up c.loop-pair-test.true there own c.loop-pair.invariant.room in
+    let within = within_room c.loop-pair.self.locations.items p.0 next in
+    search (rules, within)
+
+pub enter-requires-clause-room : goal.enter-requires-clause-room
+enter-requires-clause-room c =
+    let nodes : List Node = c.args.nodes.now.nodes in
+    let held : Node = record { id = c.node.inside.id; task = c.node.inside.task; set = c.node.inside.set; running = c.node.inside.running } in
+    let found : node_at nodes c.args.id ≡ Some held = c.entry-node.ensures ∙ ap (λ (n : Node). Some n) (sym c.node.view_is) in
+    let before : Accesses = c.args.before.now in
+    let ps : Accesses = c.items-pair-items.result.now in
+    let i : ℕ = c.loop-pair.pair-index in
+    let p : ℕ × Access = get_or ps i (0, Read) in
+    let inside : i < length held.set = subst (λ (l : Accesses). i < length l) c.items-pair-items.ensures.all c.loop-pair-test.true in
+    let at : p ≡ get_or held.set i p = subst (λ (l : Accesses). p ≡ get_or l i p) c.items-pair-items.ensures.all (again ps i (0, Read) p c.loop-pair-test.true) in
+    let first = c.args.self.now.locations.items in
+    let up : IsAscendingSet ps = subst IsAscendingSet (sym c.items-pair-items.ensures.all) c.items-pair-items.ensures.ascending in
+    let there : p ≡ get_or ps i p = again ps i (0, Read) p c.loop-pair-test.true in
+    let all : HasRoom 1 held.set (rooms_of first) = subst (λ (o : Option Node). IfSome o (λ (n : Node). HasRoom 1 n.set (rooms_of first))) found c.requires.room in
+    let own : HasRoom 1 ps (rooms_of first) = subst (λ (l : Accesses). HasRoom 1 l (rooms_of first)) (sym c.items-pair-items.ensures.all) all in
+    let next : 1 ≤ room_at (rooms_of c.loop-pair.self.locations.items) p.0 = room_next ps i p first c.loop-pair.self.locations.items up c.loop-pair-test.true there own c.loop-pair.invariant.room in
+    let within = within_room c.loop-pair.self.locations.items p.0 next in
+    omega (arith, next, room_there c.loop-pair.self.locations.items p.0 c.index_mut.result.now within, ap room_in c.index_mut.ensures.value)
+
+pub loop-pair-preserved : goal.loop-pair-preserved
+loop-pair-preserved c =
+    let nodes : List Node = c.args.nodes.now.nodes in
+    let held : Node = record { id = c.node.inside.id; task = c.node.inside.task; set = c.node.inside.set; running = c.node.inside.running } in
+    let found : node_at nodes c.args.id ≡ Some held = c.entry-node.ensures ∙ ap (λ (n : Node). Some n) (sym c.node.view_is) in
+    let before : Accesses = c.args.before.now in
+    let ps : Accesses = c.items-pair-items.result.now in
+    let i : ℕ = c.loop-pair.pair-index in
+    let p : ℕ × Access = get_or ps i (0, Read) in
+    let inside : i < length held.set = subst (λ (l : Accesses). i < length l) c.items-pair-items.ensures.all c.loop-pair-test.true in
+    let at : p ≡ get_or held.set i p = subst (λ (l : Accesses). p ≡ get_or l i p) c.items-pair-items.ensures.all (again ps i (0, Read) p c.loop-pair-test.true) in
+    let lacks : is_same (Some p.1) (access_at before p.0) ≡ false = sym c.has_access.ensures ∙ c.if-has_access.false in
+    let first = c.args.self.now.locations.items in
+    let up : IsAscendingSet ps = subst IsAscendingSet (sym c.items-pair-items.ensures.all) c.items-pair-items.ensures.ascending in
+    let there : p ≡ get_or ps i p = again ps i (0, Read) p c.loop-pair-test.true in
+    let all : HasRoom 1 held.set (rooms_of first) = subst (λ (o : Option Node). IfSome o (λ (n : Node). HasRoom 1 n.set (rooms_of first))) found c.requires.room in
+    let own : HasRoom 1 ps (rooms_of first) = subst (λ (l : Accesses). HasRoom 1 l (rooms_of first)) (sym c.items-pair-items.ensures.all) all in
+    let next : 1 ≤ room_at (rooms_of c.loop-pair.self.locations.items) p.0 = room_next ps i p first c.loop-pair.self.locations.items up c.loop-pair-test.true there own c.loop-pair.invariant.room in
+    let within = within_room c.loop-pair.self.locations.items p.0 next in
+    let f : ℕ → Option Access = midway before held.set (take i held.set) in
+    let g : ℕ → Option Access = midway before held.set (take (suc i) held.set) in
+    let locations = set c.loop-pair.self.locations.items p.0 c.enter.new.self in
+    let filed : AreFiledWith (without c.args.id nodes) held g locations =
+    entered_there nodes c.args.id held f g p c.loop-pair.self.locations.items c.index_mut.result.now c.enter.new.self c.len-graph.ensures.graph found
+    (entered_had before held.set i p c.items-pair-items.ensures.ascending inside at lacks) (entered_has before held.set i p c.items-pair-items.ensures.ascending inside at lacks)
+    (λ loc differs. entered_elsewhere before held.set i p loc inside at differs) within c.index_mut.ensures.value c.enter.ensures.lanes (c.loop-pair.invariant.filed held found) in
+    record {
+      filed = for_found nodes c.args.id held (λ n. AreFiledWith (without c.args.id nodes) n (midway before n.set (take (i + 1) n.set)) locations) found (rw add-one filed);
+      room = rw add-one (room_step ps i p first c.loop-pair.self.locations.items c.index_mut.result.now c.enter.new.self up c.loop-pair-test.true there within c.index_mut.ensures.value c.enter.ensures.room c.loop-pair.invariant.room);
+    }
+
+pub returns-clause-filed : goal.returns-clause-filed
+returns-clause-filed c =
+    let nodes : List Node = c.args.nodes.now.nodes in
+    let held : Node = record { id = c.node.inside.id; task = c.node.inside.task; set = c.node.inside.set; running = c.node.inside.running } in
+    let found : node_at nodes c.args.id ≡ Some held = c.entry-node.ensures ∙ ap (λ (n : Node). Some n) (sym c.node.view_is) in
+    let before : Accesses = c.args.before.now in
+    let i : ℕ = c.loop-pair.pair-index in
+    let end : i ≡ length held.set = omega (arith, c.loop-pair-test.false, c.loop-pair.auto.pair-index-end, ap length c.items-pair-items.ensures.all) in
+    let whole : take i held.set ≡ held.set = ap (λ n. take n held.set) end ∙ take-length held.set in
+    filed_own nodes c.args.id held c.loop-pair.self.locations.items c.len-graph.ensures.graph found
+    (filed_as (without c.args.id nodes) held (midway before held.set (take i held.set)) (access_at held.set) c.loop-pair.self.locations.items (λ loc. ap (λ (l : Accesses). midway before held.set l loc) whole ∙ midway_last before held.set loc) (c.loop-pair.invariant.filed held found))

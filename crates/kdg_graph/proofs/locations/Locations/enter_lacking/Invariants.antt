@@ -1,0 +1,16 @@
+use Rattle.std.proofs.Common.{◌≡◌, ℕ, ◌+◌, ◌≤◌, Some, cond, take}
+use Rattle.std.specs.Prelude.{is_some}
+use Rattle.rw_sets.specs.Accesses.{access_at}
+use Rattle.kdg_graph.specs.Exchange.{AreFiledWith, midway}
+use Rattle.kdg_graph.specs.Locations.{room_at, rooms_of}
+use Rattle.kdg_graph.specs.Node.{Node}
+use Rattle.kdg_graph.specs.Nodes.{node_at}
+use Rattle.kdg_graph.specs.Rewrite.{without}
+use Rattle.kdg_graph.proofs.locations.Locations.enter_lacking.Given as goal
+
+-- at the locations so far the node has its accesses of now
+abbrev pub invariant-loop-pair : goal.invariant-loop-pair
+invariant-loop-pair l = record {
+  filed : (node : Node) → node_at l.nodes.nodes l.id ≡ Some node → AreFiledWith (without l.id l.nodes.nodes) node (midway l.before node.set (take l.pair-index node.set)) l.self.locations.items;
+  room : (loc : ℕ) → room_at (rooms_of l.initial.self.locations.items) loc ≤ room_at (rooms_of l.self.locations.items) loc + cond (is_some (access_at (take l.pair-index l.pair-items) loc)) 1 0;
+}

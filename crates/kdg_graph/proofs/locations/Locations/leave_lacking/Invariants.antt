@@ -1,0 +1,14 @@
+use Rattle.std.proofs.Common.{◌≡◌, Some, drop}
+use Rattle.kdg_graph.specs.Exchange.{AreFiledWith, midway}
+use Rattle.kdg_graph.specs.Locations.{HaveNoLess, rooms_of}
+use Rattle.kdg_graph.specs.Node.{Node}
+use Rattle.kdg_graph.specs.Nodes.{node_at}
+use Rattle.kdg_graph.specs.Rewrite.{without}
+use Rattle.kdg_graph.proofs.locations.Locations.leave_lacking.Given as goal
+
+-- at the locations that are left the node has its accesses of before
+abbrev pub invariant-loop-pair : goal.invariant-loop-pair
+invariant-loop-pair l = record {
+  filed : (node : Node) → node_at l.nodes.nodes l.id ≡ Some node → AreFiledWith (without l.id l.nodes.nodes) node (midway l.before node.set (drop l.pair-index l.before)) l.self.locations.items;
+  no_less : HaveNoLess (rooms_of l.initial.self.locations.items) (rooms_of l.self.locations.items);
+}

@@ -1,0 +1,51 @@
+ghost use Rattle.std.specs.Prelude.{◌≡◌, ◌≤◌, Bool, Some, length};
+ghost use Rattle.std.specs.VecDeque.{deque_capacity};
+ghost use Rattle.rw_sets.specs.Accesses.{access_at};
+ghost use Rattle.kdg_graph.specs.Exchange.{is_same, lacking};
+ghost use Rattle.kdg_graph.specs.Fronts.{fronts_after};
+ghost use Rattle.kdg_graph.specs.Locations.{AreFiled};
+ghost use Rattle.kdg_graph.specs.Node.{Node};
+ghost use Rattle.kdg_graph.specs.Nodes.{IsGraph, ids_of};
+ghost use Rattle.kdg_graph.specs.Selected.{ArePartOf, AreSelected, refreshed};
+
+use crate::locations::Locations;
+use crate::ordered_nodes::OrderedNodes;
+use crate::source_lane::SourceLane;
+use rw_sets::{Access, RwSet};
+use task_order::Key;
+
+/// Whether a set has this access to a location.
+pub(crate) fn has_access(set: &RwSet, loc: u32, access: Access) -> bool
+    ensures { result ≡ is_same (Some access) (access_at set.now loc) }
+{
+    match set.contains(loc) {
+        Some(held) => held.is_write() == access.is_write(),
+        None => false,
+    }
+}
+
+/// Refreshes the nodes of the fronts behind a key at the locations where a set has an access that
+/// another lacks.
+pub(crate) fn refresh_lacking(
+    sources: &mut SourceLane,
+    nodes: &OrderedNodes,
+    locations: &Locations,
+    set: &RwSet,
+    other: &RwSet,
+    key: &Key,
+)
+    requires graph { IsGraph nodes.now.nodes }
+    requires filed { AreFiled nodes.now.nodes locations.now.locations.items }
+    requires part { ArePartOf nodes.now.nodes sources.old.lane.ids.items }
+    requires room { length nodes.now.nodes ≤ deque_capacity sources.old.lane.ids }
+    ensures ids { (test : Node → Bool) → AreSelected nodes.now.nodes test sources.old.lane.ids.items
+        → AreSelected nodes.now.nodes (refreshed nodes.now.nodes (ids_of (fronts_after (lacking set.now other.now) key.now nodes.now.nodes)) test) sources.new.lane.ids.items }
+    ensures room { deque_capacity sources.old.lane.ids ≤ deque_capacity sources.new.lane.ids }
+{
+    for pair in set.items() {
+        if has_access(other, pair.0, pair.1) {
+            continue;
+        }
+        sources.refresh_front(nodes, locations, pair.0, pair.1, key);
+    }
+}
