@@ -1,7 +1,8 @@
 -- What the lanes of the locations are while a node's set is exchanged at one location after another.
-use Rattle.std.proofs.Common.{◌≡◌, ℕ, suc, ◌+◌, ◌<◌, ◌≤◌, Bool, true, false, ◌||◌, not, cond, List, [], ◌∷◌, ◌++◌, append-nil, length, take, drop, get_or, set, Option, Some, None, refl, sym, ◌∙◌, ap, subst, arith, inl, inr}
+use Rattle.std.proofs.Common.{◌≡◌, ℕ, zero, suc, ◌+◌, ◌-◌, ◌<◌, ◌≤◌, Bool, true, false, ◌||◌, not, cond, List, [], ◌∷◌, ◌++◌, append-nil, length, take, drop, get_or, set, Option, Some, None, refl, sym, ◌∙◌, ap, subst, arith, inl, inr}
 use Rattle.std.specs.Prelude.{Contains, IfSome, is_some}
 use Rattle.std.specs.List.{filter, flat_map}
+use Rattle.std.proofs.Math.Seq.{take-length}
 use Rattle.std.proofs.lemmas.Bool.{cases_eq}
 use Rattle.std.proofs.lemmas.Grind.{flat_map-append}
 use Rattle.std.proofs.lemmas.List.{map-append, take_more}
@@ -9,6 +10,7 @@ use Rattle.std.proofs.lemmas.List.Elements.{filter-append}
 use Rattle.task_order.specs.declared.key.Key.{Key}
 use Rattle.rw_sets.specs.declared.access.Access.{Access}
 use Rattle.rw_sets.specs.declared.access.Access.TheVariants.{Read, Write}
+use Rattle.rw_sets.specs.AccessLaws.{absent_beyond, access_other, ascending_first, ascending_rest, beyond_lower}
 use Rattle.rw_sets.specs.Accesses.{Accesses, IsAscending as IsAscendingSet, access_at, clash, excludes}
 use Rattle.kdg_graph.specs.declared.location.Location.{Location}
 use Rattle.kdg_graph.specs.declared.node_id.NodeId.{NodeId}
@@ -27,7 +29,7 @@ use Rattle.kdg_graph.proofs.Members.{from_filter}
 use Rattle.kdg_graph.proofs.Ordering.{is_before}
 use Rattle.kdg_graph.proofs.Places.{is_at-same}
 use Rattle.kdg_graph.proofs.Selecting.{select_append}
-use Rattle.kdg_graph.proofs.Shelving.{lane_at, lane_changed, lane_other, left_here, left_other, not_before, not_left, pair_found, so_far_here, so_far_other, within_lane}
+use Rattle.kdg_graph.proofs.Shelving.{beyond_at, lane_at, lane_changed, lane_other, left_here, left_other, not_before, not_left, pair_found, so_far_here, so_far_other, within_lane}
 
 -- ---- the same access
 
@@ -51,6 +53,39 @@ both_same : (a b : Option Access) → is_same a b ≡ true → a ≡ b
 both_same None None is = refl
 both_same None (Some y) is = absurd cc
 both_same (Some x) b is = sym (same_access x b is)
+
+-- ---- a walk beside another
+
+-- locations rise
+rises : (ps : Accesses) (i k : ℕ) (p d : ℕ × Access) → IsAscendingSet ps → i < k → k < length ps → p ≡ get_or ps i p → p.0 < (get_or ps k d).0
+rises [] i k p d up before inside at = absurd (omega (arith, inside))
+rises (q ∷ ps) i zero p d up before inside at = absurd (omega (arith, before))
+rises (q ∷ ps) zero (suc k) p d up before inside at = subst (λ (r : ℕ × Access). r.0 < (get_or ps k d).0) (sym at) (beyond_at q.0 ps k d (ascending_first q ps up) (omega (arith, inside)))
+rises (q ∷ ps) (suc i) (suc k) p d up before inside at = rises ps i k p d (ascending_rest q ps up) (omega (arith, before)) (omega (arith, inside)) at
+
+-- what is left of one set has at the locations that are left of the other what the whole has
+pub still_beside : (ps left more whole : Accesses) (i : ℕ) (p : ℕ × Access) → IsAscendingSet ps → p ≡ get_or ps i p → ((k : ℕ) (d : ℕ × Access) → i ≤ k → k < length ps → access_at left (get_or ps k d).0 ≡ access_at whole (get_or ps k d).0)
+    → ((loc : ℕ) → p.0 < loc → access_at more loc ≡ access_at left loc) → (k : ℕ) (d : ℕ × Access) → i + 1 ≤ k → k < length ps → access_at more (get_or ps k d).0 ≡ access_at whole (get_or ps k d).0
+still_beside ps left more whole i p up at beside kept k d from inside = kept (get_or ps k d).0 (rises ps i k p d up (omega (arith, from)) inside at) ∙ beside k d (omega (arith, from)) inside
+
+-- a step of the walk passes the first pair
+all_but_first : (p : ℕ × Access) (ps : Accesses) → take (length (p ∷ ps) - 1) (drop 1 (p ∷ ps)) ≡ ps
+all_but_first p ps =
+    let long : length (p ∷ ps) - 1 ≡ length ps = omega arith in
+    ap (λ n. take n ps) long ∙ take-length ps
+
+pub step_ascends : (left : Accesses) → IsAscendingSet left → 1 ≤ length left → IsAscendingSet (take (length left - 1) (drop 1 left))
+step_ascends [] up some = absurd (omega (arith, some))
+step_ascends (p ∷ ps) up some = subst IsAscendingSet (sym (all_but_first p ps)) (ascending_rest p ps up)
+
+pub step_passes : (left whole : Accesses) (loc : ℕ) (d : ℕ × Access) → 1 ≤ length left → (get_or left 0 d).0 < loc → ((other : ℕ) → loc ≤ other → access_at left other ≡ access_at whole other) → (other : ℕ) → loc ≤ other → access_at (take (length left - 1) (drop 1 left)) other ≡ access_at whole other
+step_passes [] whole loc d some before beyond other from = absurd (omega (arith, some))
+step_passes (p ∷ ps) whole loc d some before beyond other from = ap (λ l. access_at l other) (all_but_first p ps) ∙ sym (access_other p ps other (λ same. omega (arith, same, before, from))) ∙ beyond other from
+
+-- no location before the first is there
+pub not_there : (left : Accesses) (loc : ℕ) (x : Access) (d : ℕ × Access) → IsAscendingSet left → 1 ≤ length left → loc < (get_or left 0 d).0 → is_same (Some x) (access_at left loc) ≡ false
+not_there [] loc x d up some before = absurd (omega (arith, some))
+not_there (p ∷ ps) loc x d up some before = ap (is_same (Some x)) (absent_beyond loc loc (p ∷ ps) (omega arith) (before, beyond_lower loc p.0 ps (omega (arith, before)) (ascending_first p ps up)))
 
 -- ---- midway, by the locations that are left
 
@@ -235,6 +270,12 @@ pub lacking_more : (set other : Accesses) (i : ℕ) (p : ℕ × Access) → i < 
 lacking_more set other i p inside at is =
     let test : ℕ × Access → Bool = λ q. not (is_same (Some q.1) (access_at other q.0)) in
     ap (filter test) (take_more set i p inside) ∙ filter-append test (take i set) (get_or set i p ∷ []) ∙ ap (λ q. filter test (take i set) ++ filter test (q ∷ [])) (sym at) ∙ ap (λ b. filter test (take i set) ++ cond (not b) (p ∷ []) []) is
+
+pub lacking_passed : (set other : Accesses) (i : ℕ) (p : ℕ × Access) → i < length set → p ≡ get_or set i p → is_same (Some p.1) (access_at other p.0) ≡ true → lacking (take (i + 1) set) other ≡ lacking (take i set) other
+lacking_passed set other i p inside at is =
+    let test : ℕ × Access → Bool = λ q. not (is_same (Some q.1) (access_at other q.0)) in
+    ap (filter test) (take_more set i p inside) ∙ filter-append test (take i set) (get_or set i p ∷ []) ∙ ap (λ q. filter test (take i set) ++ filter test (q ∷ [])) (sym at) ∙ ap (λ b. filter test (take i set) ++ cond (not b) (p ∷ []) []) is
+    ∙ append-nil (filter test (take i set))
 
 -- one location more is refreshed
 pub lacking_done : (nodes : List Node) (set other : Accesses) (key : Key) (i : ℕ) (p : ℕ × Access) (test : Node → Bool) (ids : List NodeId) → i < length set → p ≡ get_or set i p → is_same (Some p.1) (access_at other p.0) ≡ false

@@ -79,7 +79,7 @@ room_more (location ∷ locations) now (suc loc) = room_more locations now loc
 
 -- ---- the pairs of a set so far, and those that are left
 
-beyond_at : (loc : ℕ) (ps : Accesses) (i : ℕ) (d : ℕ × Access) → AllBeyond loc ps → i < length ps → loc < (let p : ℕ × Access = get_or ps i d in p.0)
+pub beyond_at : (loc : ℕ) (ps : Accesses) (i : ℕ) (d : ℕ × Access) → AllBeyond loc ps → i < length ps → loc < (let p : ℕ × Access = get_or ps i d in p.0)
 beyond_at loc [] i d all inside = absurd (omega (arith, inside))
 beyond_at loc (p ∷ ps) zero d all inside = all.0
 beyond_at loc (p ∷ ps) (suc i) d all inside = beyond_at loc ps i d all.1 (omega (arith, inside))

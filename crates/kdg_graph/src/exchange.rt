@@ -1,6 +1,6 @@
-ghost use Rattle.std.specs.Prelude.{◌≡◌, ◌≤◌, Bool, Some, length};
+ghost use Rattle.std.specs.Prelude.{◌≡◌, ◌<◌, ◌≤◌, ℕ, Bool, Some, length};
 ghost use Rattle.std.specs.VecDeque.{deque_capacity};
-ghost use Rattle.rw_sets.specs.Accesses.{access_at};
+ghost use Rattle.rw_sets.specs.Accesses.{IsAscending, access_at};
 ghost use Rattle.kdg_graph.specs.Exchange.{is_same, lacking};
 ghost use Rattle.kdg_graph.specs.Fronts.{fronts_after};
 ghost use Rattle.kdg_graph.specs.Locations.{AreFiled};
@@ -14,13 +14,38 @@ use crate::source_lane::SourceLane;
 use rw_sets::{Access, RwSet};
 use task_order::Key;
 
-/// Whether a set has this access to a location.
-pub(crate) fn has_access(set: &RwSet, loc: u32, access: Access) -> bool
-    ensures { result ≡ is_same (Some access) (access_at set.now loc) }
-{
-    match set.contains(loc) {
-        Some(held) => held.is_write() == access.is_write(),
-        None => false,
+/// A walk over the pairs of a set, in which ascending locations are looked up.
+#[derive(Drop)]
+pub(crate) struct SetWalk<'s> {
+    left: &'s [(u32, Access)],
+}
+
+impl<'s> SetWalk<'s> {
+    /// A walk from the first location on.
+    pub(crate) fn new(set: &'s RwSet) -> SetWalk<'s>
+        ensures all { result.left.now ≡ set.now }
+        ensures ascending { IsAscending result.left.now }
+    {
+        SetWalk { left: set.items() }
+    }
+
+    /// Whether the set has this access to a location, which is beyond each that was looked up before.
+    pub(crate) fn has(&mut self, loc: u32, access: Access) -> bool
+        requires { IsAscending self.old.left.now }
+        ensures found { result ≡ is_same (Some access) (access_at self.old.left.now loc) }
+        ensures ascending { IsAscending self.new.left.now }
+        ensures beyond { (other : ℕ) → loc < other → access_at self.new.left.now other ≡ access_at self.old.left.now other }
+    {
+        while let [pair, rest @ ..] = self.left {
+            if loc < pair.0 {
+                return false;
+            }
+            self.left = rest;
+            if pair.0 == loc {
+                return pair.1.is_write() == access.is_write();
+            }
+        }
+        false
     }
 }
 
@@ -42,8 +67,9 @@ pub(crate) fn refresh_lacking(
         → AreSelected nodes.now.nodes (refreshed nodes.now.nodes (ids_of (fronts_after (lacking set.now other.now) key.now nodes.now.nodes)) test) sources.new.lane.ids.items }
     ensures room { deque_capacity sources.old.lane.ids ≤ deque_capacity sources.new.lane.ids }
 {
+    let mut walk = SetWalk::new(other);
     for pair in set.items() {
-        if has_access(other, pair.0, pair.1) {
+        if walk.has(pair.0, pair.1) {
             continue;
         }
         sources.refresh_front(nodes, locations, pair.0, pair.1, key);

@@ -8,7 +8,7 @@ ghost use Rattle.kdg_graph.specs.Locations.{AreFiled, HasRoom, HaveNoLess, HaveS
 ghost use Rattle.kdg_graph.specs.Rewrite.{without};
 
 use crate::NodeId;
-use crate::exchange::has_access;
+use crate::exchange::SetWalk;
 use crate::lane::Lane;
 use crate::location::Location;
 use crate::ordered_nodes::OrderedNodes;
@@ -99,8 +99,9 @@ impl Locations {
     {
         let _graph = nodes.len();
         let node = nodes.entry(id);
+        let mut walk = SetWalk::new(&node.set);
         for pair in before.items() {
-            if has_access(&node.set, pair.0, pair.1) {
+            if walk.has(pair.0, pair.1) {
                 continue;
             }
             self.locations[pair.0 as usize].leave(nodes, id, pair.1);
@@ -117,8 +118,9 @@ impl Locations {
     {
         let _graph = nodes.len();
         let node = nodes.entry(id);
+        let mut walk = SetWalk::new(before);
         for pair in node.set.items() {
-            if has_access(before, pair.0, pair.1) {
+            if walk.has(pair.0, pair.1) {
                 continue;
             }
             self.locations[pair.0 as usize].enter(nodes, id, pair.1);

@@ -9,13 +9,13 @@ use Rattle.kdg_graph.specs.Locations.{HasRoom, room_at, room_in, rooms_of}
 use Rattle.kdg_graph.specs.Node.{Node}
 use Rattle.kdg_graph.specs.Nodes.{node_at}
 use Rattle.kdg_graph.specs.Rewrite.{without}
-use Rattle.kdg_graph.proofs.Exchanging.{entered_as_was, entered_elsewhere, entered_had, entered_has, entered_there, filed_as, filed_own, for_found, midway_last, room_passed}
+use Rattle.kdg_graph.proofs.Exchanging.{entered_as_was, entered_elsewhere, entered_had, entered_has, entered_there, filed_as, filed_own, for_found, midway_last, room_passed, still_beside}
 use Rattle.kdg_graph.proofs.Filing.{again, room_next, room_step}
 use Rattle.kdg_graph.proofs.Shelving.{room_there, within_room}
 use Rattle.kdg_graph.proofs.locations.Locations.enter_lacking.Goals as goal
 
-pub loop-pair-preserved-then-has_access : goal.loop-pair-preserved-then-has_access
-loop-pair-preserved-then-has_access c =
+pub loop-pair-preserved-then-has : goal.loop-pair-preserved-then-has
+loop-pair-preserved-then-has c =
     let nodes : List Node = c.args.nodes.now.nodes in
     let held : Node = record { id = c.node.inside.id; task = c.node.inside.task; set = c.node.inside.set; running = c.node.inside.running } in
     let found : node_at nodes c.args.id ≡ Some held = c.entry-node.ensures ∙ ap (λ (n : Node). Some n) (sym c.node.view_is) in
@@ -25,11 +25,15 @@ loop-pair-preserved-then-has_access c =
     let p : ℕ × Access = get_or ps i (0, Read) in
     let inside : i < length held.set = subst (λ (l : Accesses). i < length l) c.items-pair-items.ensures.all c.loop-pair-test.true in
     let at : p ≡ get_or held.set i p = subst (λ (l : Accesses). p ≡ get_or l i p) c.items-pair-items.ensures.all (again ps i (0, Read) p c.loop-pair-test.true) in
-    let has : is_same (Some p.1) (access_at before p.0) ≡ true = sym c.has_access.ensures ∙ c.if-has_access.true in
+    let beside : access_at c.loop-pair.walk.left.now p.0 ≡ access_at before p.0 = c.loop-pair.invariant.beside held found i (0, Read) (omega arith) c.loop-pair-test.true in
+    let has : is_same (Some p.1) (access_at before p.0) ≡ true = ap (is_same (Some p.1)) (sym beside) ∙ sym c.has.ensures.found ∙ c.if-has.true in
     let up : IsAscendingSet ps = subst IsAscendingSet (sym c.items-pair-items.ensures.all) c.items-pair-items.ensures.ascending in
     let filed : AreFiledWith (without c.args.id nodes) held (midway before held.set (take (suc i) held.set)) c.loop-pair.self.locations.items =
     filed_as (without c.args.id nodes) held (midway before held.set (take i held.set)) (midway before held.set (take (suc i) held.set)) c.loop-pair.self.locations.items (entered_as_was before held.set i p c.items-pair-items.ensures.ascending inside at has) (c.loop-pair.invariant.filed held found) in
     record {
+      ascending = c.has.ensures.ascending;
+      beside = for_found nodes c.args.id held (λ n. (k : ℕ) (d : ℕ × Access) → i + 1 ≤ k → k < length ps → access_at c.has.new.self.left.now (get_or ps k d).0 ≡ access_at before (get_or ps k d).0) found
+          (still_beside ps c.loop-pair.walk.left.now c.has.new.self.left.now before i p up (again ps i (0, Read) p c.loop-pair-test.true) (c.loop-pair.invariant.beside held found) c.has.ensures.beyond);
       filed = for_found nodes c.args.id held (λ n. AreFiledWith (without c.args.id nodes) n (midway before n.set (take (i + 1) n.set)) c.loop-pair.self.locations.items) found (rw add-one filed);
       room = rw add-one (room_passed ps i p c.args.self.now.locations.items c.loop-pair.self.locations.items up c.loop-pair-test.true (again ps i (0, Read) p c.loop-pair-test.true) c.loop-pair.invariant.room);
     }
@@ -85,7 +89,8 @@ loop-pair-preserved c =
     let p : ℕ × Access = get_or ps i (0, Read) in
     let inside : i < length held.set = subst (λ (l : Accesses). i < length l) c.items-pair-items.ensures.all c.loop-pair-test.true in
     let at : p ≡ get_or held.set i p = subst (λ (l : Accesses). p ≡ get_or l i p) c.items-pair-items.ensures.all (again ps i (0, Read) p c.loop-pair-test.true) in
-    let lacks : is_same (Some p.1) (access_at before p.0) ≡ false = sym c.has_access.ensures ∙ c.if-has_access.false in
+    let beside : access_at c.loop-pair.walk.left.now p.0 ≡ access_at before p.0 = c.loop-pair.invariant.beside held found i (0, Read) (omega arith) c.loop-pair-test.true in
+    let lacks : is_same (Some p.1) (access_at before p.0) ≡ false = ap (is_same (Some p.1)) (sym beside) ∙ sym c.has.ensures.found ∙ c.if-has.false in
     let first = c.args.self.now.locations.items in
     let up : IsAscendingSet ps = subst IsAscendingSet (sym c.items-pair-items.ensures.all) c.items-pair-items.ensures.ascending in
     let there : p ≡ get_or ps i p = again ps i (0, Read) p c.loop-pair-test.true in
@@ -101,6 +106,9 @@ loop-pair-preserved c =
     (entered_had before held.set i p c.items-pair-items.ensures.ascending inside at lacks) (entered_has before held.set i p c.items-pair-items.ensures.ascending inside at lacks)
     (λ loc differs. entered_elsewhere before held.set i p loc inside at differs) within c.index_mut.ensures.value c.enter.ensures.lanes (c.loop-pair.invariant.filed held found) in
     record {
+      ascending = c.has.ensures.ascending;
+      beside = for_found nodes c.args.id held (λ n. (k : ℕ) (d : ℕ × Access) → i + 1 ≤ k → k < length ps → access_at c.has.new.self.left.now (get_or ps k d).0 ≡ access_at before (get_or ps k d).0) found
+          (still_beside ps c.loop-pair.walk.left.now c.has.new.self.left.now before i p up (again ps i (0, Read) p c.loop-pair-test.true) (c.loop-pair.invariant.beside held found) c.has.ensures.beyond);
       filed = for_found nodes c.args.id held (λ n. AreFiledWith (without c.args.id nodes) n (midway before n.set (take (i + 1) n.set)) locations) found (rw add-one filed);
       room = rw add-one (room_step ps i p first c.loop-pair.self.locations.items c.index_mut.result.now c.enter.new.self up c.loop-pair-test.true there within c.index_mut.ensures.value c.enter.ensures.room c.loop-pair.invariant.room);
     }
