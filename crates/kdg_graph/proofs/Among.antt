@@ -70,7 +70,7 @@ among_own_ids nodes some ids graph among = own_by_parts nodes some graph among.t
 pub among_found : (nodes some : List Node) (ids : List NodeId) (node : Node) → IsGraph nodes → IsLaneAmong nodes some ids → Contains some node → node_at nodes node.id ≡ Some node
 among_found nodes some ids node graph among has = nodes_have_ids nodes node graph (all_at (λ (n : Node). Contains nodes n) some node among.there has)
 
-contains_at : (some : List Node) (place : ℕ) (d : Node) → place < length some → Contains some (get_or some place d)
+pub contains_at : (some : List Node) (place : ℕ) (d : Node) → place < length some → Contains some (get_or some place d)
 contains_at [] place d inside = absurd (omega (arith, inside))
 contains_at (node ∷ some) zero d inside = (0, omega arith, refl)
 contains_at (node ∷ some) (suc place) d inside = later_too node (get_or some place d) some (contains_at some place d (omega (arith, inside)))

@@ -13,7 +13,7 @@ use Rattle.task_order.specs.TaskList.{IsAscending}
 use Rattle.kdg_graph.specs.declared.node_id.NodeId.{NodeId}
 use Rattle.kdg_graph.specs.Node.{Node}
 use Rattle.kdg_graph.specs.Nodes.{HasNode, HaveOwnIds, HaveSets, IsGraph, ids_of, is_at, node_at, put_node, tasks_of}
-use Rattle.kdg_graph.specs.Lanes.{AreStored, IsLane, IsRank, IsStored, is_earlier_if, is_earlier_in, nodes_in}
+use Rattle.kdg_graph.specs.Lanes.{AreStored, IsLane, IsStored, nodes_in}
 use Rattle.kdg_graph.proofs.Ordering.{is_before, is_partitioned}
 use Rattle.kdg_graph.proofs.Places.{same_id}
 
@@ -72,61 +72,9 @@ stored_has slots (node ∷ nodes) id stored has =
 pub stored_key : (slots : Slab Node) (nodes : List Node) (id : NodeId) → AreStored slots nodes → HasNode nodes id → ContainsKey slots id.at
 stored_key slots nodes id stored has = subst IsSome (sym (stored_has slots nodes id stored has)) has
 
--- ---- searching
-
-same_there : (ids : List NodeId) (place : ℕ) (d e : NodeId) → place < length ids → get_or ids place d ≡ get_or ids place e
-same_there [] place d e inside = absurd (omega (arith, inside))
-same_there (id ∷ ids) zero d e inside = refl
-same_there (id ∷ ids) (suc place) d e inside = same_there ids place d e (omega (arith, inside))
-
-earlier_at : (slots : Slab Node) (nodes : List Node) (ids : List NodeId) (key : Key) (place : ℕ) (id : NodeId) (d : Node) → AreStored slots nodes → ids ≡ ids_of nodes → place < length ids → is_earlier_in slots key (get_or ids place id) ≡ is_before key (get_or nodes place d)
-earlier_at slots [] ids key place id d stored same inside = absurd (omega (arith, inside, ap length same))
-earlier_at slots (node ∷ nodes) [] key place id d stored same inside = absurd (omega (arith, inside))
-earlier_at slots (node ∷ nodes) (first ∷ ids) key zero id d stored same inside =
-    let first_is : first ≡ node.id = cc in
-    ap (is_earlier_in slots key) first_is ∙ ap (is_earlier_if key) stored.0
-earlier_at slots (node ∷ nodes) (first ∷ ids) key (suc place) id d stored same inside =
-    let rest : ids ≡ ids_of nodes = cc in
-    earlier_at slots nodes ids key place id d stored.1 rest (omega (arith, inside))
-
 pub some_node : (nodes : List Node) (place : ℕ) → place < length nodes → Node
 some_node [] place inside = absurd (omega (arith, inside))
 some_node (node ∷ nodes) place inside = node
-
-pub ids_partitioned : (slots : Slab Node) (nodes : List Node) (ids : List NodeId) (key : Key) → IsLane slots nodes ids → IsPartitionedBy (is_earlier_in slots key) ids
-ids_partitioned slots nodes ids key lane i j d ordered inside earlier =
-    let in_nodes : j < length nodes = omega (arith, inside, ap length lane.ids_are, length-ids nodes) in
-    let node : Node = some_node nodes j in_nodes in
-    earlier_at slots nodes ids key i d node lane.stored lane.ids_are (omega (arith, ordered, inside))
-    ∙ is_partitioned key nodes lane.ascending i j node ordered in_nodes (sym (earlier_at slots nodes ids key j d node lane.stored lane.ids_are inside) ∙ earlier)
-
-pub rank_of_ids : (slots : Slab Node) (nodes : List Node) (ids : List NodeId) (key : Key) (place : ℕ) → IsLane slots nodes ids → place ≤ length ids
-    → IsPartitionPoint (λ id. is_earlier_in slots key id ≡ true) (λ id. is_earlier_in slots key id ≡ false) ids place → IsRank key nodes place
-rank_of_ids slots nodes ids key place lane inside point =
-    let as_many : length ids ≡ length nodes = ap length lane.ids_are ∙ length-ids nodes in
-    record {
-      inside = omega (arith, inside, as_many);
-      point = (
-        (λ k node from upto. sym (earlier_at slots nodes ids key k node.id node lane.stored lane.ids_are (omega (arith, inside, upto))) ∙ point.0 k node.id from upto),
-        (λ k node from upto. sym (earlier_at slots nodes ids key k node.id node lane.stored lane.ids_are (omega (arith, upto, as_many))) ∙ point.1 k node.id from (omega (arith, upto, as_many))),
-      );
-    }
-
-pub rank_of_nothing : (slots : Slab Node) (nodes : List Node) (ids : List NodeId) (key : Key) → IsLane slots nodes ids → length ids ≡ 0 → IsRank key nodes 0
-rank_of_nothing slots nodes ids key lane none =
-    rank_of_ids slots nodes ids key 0 lane (omega arith) ((λ k d from upto. absurd (omega (arith, upto))), (λ k d from upto. absurd (omega (arith, upto, none))))
-
--- where the last one is earlier all are
-pub all_earlier : (slots : Slab Node) (nodes : List Node) (ids : List NodeId) (key : Key) (last : NodeId) (place : ℕ) → IsLane slots nodes ids → length ids ≡ suc place → last ≡ get_or ids place last → is_earlier_in slots key last ≡ true → IsRank key nodes (length ids)
-all_earlier slots nodes ids key last place lane len here is =
-    rank_of_ids slots nodes ids key (length ids) lane (omega arith)
-    ((λ k d from upto. ids_partitioned slots nodes ids key lane k place d (omega (arith, upto, len)) (omega (arith, len)) (ap (is_earlier_in slots key) (same_there ids place d last (omega (arith, len)) ∙ sym here) ∙ is)), (λ k d from upto. absurd (omega (arith, from, upto))))
-
--- where the first one isn't earlier none is
-pub none_earlier_in : (slots : Slab Node) (nodes : List Node) (ids : List NodeId) (key : Key) (first : NodeId) → IsLane slots nodes ids → first ≡ get_or ids 0 first → is_earlier_in slots key first ≡ false → IsRank key nodes 0
-none_earlier_in slots nodes ids key first lane here is =
-    rank_of_ids slots nodes ids key 0 lane (omega arith)
-    ((λ k d from upto. absurd (omega (arith, upto))), (λ k d from upto. false_from_ne_true _ (λ earlier. true≢false (sym (ids_partitioned slots nodes ids key lane 0 k d (omega arith) upto earlier) ∙ ap (is_earlier_in slots key) (same_there ids 0 d first (omega (arith, upto)) ∙ sym here) ∙ is))))
 
 -- ---- changes
 

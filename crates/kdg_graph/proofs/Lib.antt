@@ -24,3 +24,5 @@ pub mod Fronting
 pub mod Earliest
 pub mod Walking
 pub mod Exchanging
+pub mod Searching
+pub mod Sought

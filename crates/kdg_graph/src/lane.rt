@@ -1,7 +1,7 @@
-ghost use Rattle.std.specs.Prelude.{◌≡◌, ◌+◌, ◌≤◌, ◌<◌, [], length, slice_index_or, OnOk};
+ghost use Rattle.std.specs.Prelude.{◌≡◌, ◌+◌, ◌^◌, ◌≤◌, ◌<◌, [], length, slice_index_or, MatchResult, OnOk};
 ghost use Rattle.std.specs.List.{insert, remove};
 ghost use Rattle.std.specs.VecDeque.{deque_capacity, deque_len};
-ghost use Rattle.kdg_graph.specs.Lanes.{IsLane, IsRank, is_earlier_in};
+ghost use Rattle.kdg_graph.specs.Lanes.{IsBetween, IsEnded, IsLane, IsRank, IsSearched, cmp_at, cmp_in};
 ghost use Rattle.kdg_graph.specs.Locations.{is_first_before};
 ghost use Rattle.std.specs.Prelude.{List};
 ghost use Rattle.kdg_graph.specs.Node.{Node};
@@ -11,6 +11,7 @@ use crate::entry::Entry;
 use kdg_text::NoRoom;
 use slab::Slab;
 use std::alloc::Global;
+use std::cmp::Ordering;
 use std::collections::VecDeque;
 use task_order::Key;
 
@@ -18,6 +19,10 @@ use task_order::Key;
 #[derive(Drop)]
 pub(crate) struct Lane {
     ids: VecDeque<NodeId>,
+    // behind the id that was last put in before others, and where one was last taken out; should
+    // these be other places by now, a search takes longer
+    put_at: usize,
+    taken_at: usize,
 }
 
 impl Lane {
@@ -27,6 +32,8 @@ impl Lane {
     {
         Lane {
             ids: VecDeque::new(alloc),
+            put_at: 0,
+            taken_at: 0,
         }
     }
 
@@ -57,44 +64,142 @@ impl Lane {
         Ok(())
     }
 
-    /// How many of the nodes are earlier than the key: all or none at once, else by halving.
+    /// How many of the nodes are earlier than the key, which mostly is a new one.
     pub(crate) fn rank(&self, slots: &Slab<Entry>, key: &Key) -> usize
         ensures rank { (nodes : List Node) → IsLane slots.now nodes self.now.ids.items → IsRank key.now nodes result }
         ensures inside { result ≤ length self.now.ids.items }
     {
-        let len = self.len();
-        if len == 0 {
-            return 0;
-        }
-        let last = self.at(len - 1);
-        if is_earlier(slots, last, key) {
-            return len;
-        }
-        let first = self.at(0);
-        if is_earlier(slots, first, key) {
-            self.halve(slots, key)
-        } else {
-            0
+        match self.search_for_new(slots, key) {
+            Ok(place) | Err(place) => place,
         }
     }
 
-    /// How many of the nodes are earlier than the key, by halving.
-    fn halve(&self, slots: &Slab<Entry>, key: &Key) -> usize
-        ensures rank { (nodes : List Node) → IsLane slots.now nodes self.now.ids.items → IsRank key.now nodes result }
-        ensures inside { result ≤ length self.now.ids.items }
+    /// The place of the node with the key, which mostly is there, or else how many are earlier.
+    pub(crate) fn search(&self, slots: &Slab<Entry>, key: &Key) -> Result<usize, usize>
+        ensures found { (nodes : List Node) → IsLane slots.now nodes self.now.ids.items → IsSearched key.now nodes result }
+        ensures inside { MatchResult result (λ place. place < length self.now.ids.items) (λ place. place ≤ length self.now.ids.items) }
     {
-        self.ids.partition_point(|id| is_earlier(slots, *id, key))
+        self.search_for_member(slots, key)
+    }
+
+    /// The place of the node with the key, or else how many are earlier: a new node mostly comes
+    /// last, or near the place where one was last put in.
+    fn search_for_new(&self, slots: &Slab<Entry>, key: &Key) -> Result<usize, usize>
+        ensures { IsEnded slots.now key.now self.now.ids.items result }
+    {
+        let Some(last) = self.len().checked_sub(1) else {
+            return Err(0);
+        };
+        match self.compare_at(slots, last, key) {
+            Ordering::Less => Err(last + 1),
+            Ordering::Equal => Ok(last),
+            Ordering::Greater => self.search_near(slots, key, self.put_at),
+        }
+    }
+
+    /// The same: one that is there mostly is the first, or near the place where one was last taken
+    /// out.
+    fn search_for_member(&self, slots: &Slab<Entry>, key: &Key) -> Result<usize, usize>
+        ensures { IsEnded slots.now key.now self.now.ids.items result }
+    {
+        match self.compare_at(slots, 0, key) {
+            Ordering::Less => self.search_near(slots, key, self.taken_at.max(1)),
+            Ordering::Equal => Ok(0),
+            Ordering::Greater => Err(0),
+        }
+    }
+
+    /// The place of the node with the key, or else how many are earlier, by a search from a place on.
+    fn search_near(&self, slots: &Slab<Entry>, key: &Key, start: usize) -> Result<usize, usize>
+        ensures { IsEnded slots.now key.now self.now.ids.items result }
+    {
+        match self.compare_at(slots, start, key) {
+            Ordering::Less => self.search_up(slots, key, start),
+            Ordering::Equal => Ok(start),
+            Ordering::Greater => self.search_down(slots, key, start.min(self.len())),
+        }
+    }
+
+    /// The same, where the node at the start is earlier: by steps that double, and then by halving.
+    fn search_up(&self, slots: &Slab<Entry>, key: &Key, start: usize) -> Result<usize, usize>
+        requires { cmp_at slots.now key.now self.now.ids.items start ≡ Ordering.Less }
+        ensures { IsEnded slots.now key.now self.now.ids.items result }
+    {
+        let mut low = start + 1;
+        let mut probe = low;
+        loop {
+            match self.compare_at(slots, probe, key) {
+                Ordering::Less => {
+                    low = probe + 1;
+                    probe = probe.saturating_add(low - start);
+                }
+                Ordering::Equal => return Ok(probe),
+                Ordering::Greater => {
+                    return self.search_between(slots, key, low, probe.min(self.len()));
+                }
+            }
+        }
+    }
+
+    /// The same, where no node at the start is earlier.
+    fn search_down(&self, slots: &Slab<Entry>, key: &Key, start: usize) -> Result<usize, usize>
+        requires inside { start ≤ length self.now.ids.items }
+        requires later { cmp_at slots.now key.now self.now.ids.items start ≡ Ordering.Greater }
+        ensures { IsEnded slots.now key.now self.now.ids.items result }
+    {
+        let mut low = start;
+        let mut high = start;
+        while low > 0 {
+            match self.compare_at(slots, low - 1, key) {
+                Ordering::Less => return self.search_between(slots, key, low, high),
+                Ordering::Equal => return Ok(low - 1),
+                Ordering::Greater => {
+                    high = low - 1;
+                    low = high.saturating_sub(start - high);
+                }
+            }
+        }
+        self.search_between(slots, key, low, high)
+    }
+
+    /// The same between two places, by halving.
+    fn search_between(
+        &self,
+        slots: &Slab<Entry>,
+        key: &Key,
+        mut low: usize,
+        mut high: usize,
+    ) -> Result<usize, usize>
+        requires { IsBetween slots.now key.now self.now.ids.items low high }
+        ensures { IsEnded slots.now key.now self.now.ids.items result }
+    {
+        while low < high {
+            let middle = low + (high - low) / 2;
+            match self.compare_at(slots, middle, key) {
+                Ordering::Less => low = middle + 1,
+                Ordering::Equal => return Ok(middle),
+                Ordering::Greater => high = middle,
+            }
+        }
+        Err(low)
+    }
+
+    /// How the node at a place compares with the key; none there counts as later.
+    fn compare_at(&self, slots: &Slab<Entry>, place: usize, key: &Key) -> Ordering
+        ensures order { result ≡ cmp_at slots.now key.now self.now.ids.items place }
+        ensures small { length self.now.ids.items < 2 ^ 63 }
+    {
+        match self.ids.get(place) {
+            Some(id) => compare(slots, *id, key),
+            None => Ordering::Greater,
+        }
     }
 
     /// Whether the first of the nodes is earlier than the key.
     pub(crate) fn starts_before(&self, slots: &Slab<Entry>, key: &Key) -> bool
         ensures { (nodes : List Node) → IsLane slots.now nodes self.now.ids.items → result ≡ is_first_before key.now nodes }
     {
-        if self.len() == 0 {
-            return false;
-        }
-        let first = self.at(0);
-        is_earlier(slots, first, key)
+        self.compare_at(slots, 0, key).is_lt()
     }
 
     /// Puts an id at a place, where `reserve` made room.
@@ -105,6 +210,12 @@ impl Lane {
         ensures room { deque_capacity self.old.ids ≤ deque_capacity self.new.ids }
         ensures len { deque_len self.new.ids ≡ deque_len self.old.ids + 1 }
     {
+        if place < self.len() {
+            self.put_at = place + 1;
+        }
+        if place <= self.taken_at {
+            self.taken_at = self.taken_at.saturating_add(1);
+        }
         match self.ids.insert(place, id) {
             Ok(()) => (),
             Err(_) => unreachable!(),
@@ -119,16 +230,20 @@ impl Lane {
         ensures room { deque_capacity self.new.ids ≡ deque_capacity self.old.ids }
         ensures len { deque_len self.new.ids + 1 ≡ deque_len self.old.ids }
     {
+        if place < self.put_at {
+            self.put_at -= 1;
+        }
+        self.taken_at = place;
         self.ids.remove(place).unwrap()
     }
 }
 
-/// Whether the node with an id is earlier than the key.
-fn is_earlier(slots: &Slab<Entry>, id: NodeId, key: &Key) -> bool
-    ensures { result ≡ is_earlier_in slots.now key.now id }
+/// How the node with an id compares with the key; one that isn't kept counts as later.
+fn compare(slots: &Slab<Entry>, id: NodeId, key: &Key) -> Ordering
+    ensures { result ≡ cmp_in slots.now key.now id }
 {
     match slots.get(id.at) {
-        Some(node) => node.task.key.compare(key).is_lt(),
-        None => false,
+        Some(node) => node.task.key.compare(key),
+        None => Ordering::Greater,
     }
 }

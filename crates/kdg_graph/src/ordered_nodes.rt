@@ -1,13 +1,11 @@
-ghost use Rattle.std.specs.Prelude.{◌≡◌, ◌+◌, ◌<◌, ◌≤◌, [], ◌∷◌, Some, IfSome, OnOk, length, slice_index_or};
+ghost use Rattle.std.specs.Prelude.{◌≡◌, ◌+◌, ◌<◌, ◌≤◌, [], ◌∷◌, Some, IfSome, MatchResult, OnOk, length, slice_index_or};
 ghost use Rattle.std.specs.List.{remove};
 ghost use Rattle.std.specs.Option.{option_map};
 ghost use Rattle.task_order.specs.TaskList.{IsNewKey};
 ghost use Rattle.kdg_graph.specs.Node.{new_node};
 ghost use Rattle.kdg_graph.specs.Nodes.{IsGraph, HasNode, ids_of, least_of, node_at, node_with_key, put_node, set_at, started, tasks_of};
 ghost use Rattle.std.specs.VecDeque.{deque_capacity, deque_len};
-ghost use Rattle.std.specs.Ordering.{is_eq};
-ghost use Rattle.task_order.specs.Key.{key_cmp};
-ghost use Rattle.kdg_graph.specs.Lanes.{IsRank, IsRankPast};
+ghost use Rattle.kdg_graph.specs.Lanes.{IsRank, IsRankPast, IsSearched};
 ghost use Rattle.kdg_graph.specs.Locations.{IsLaneAmong, is_first_before};
 ghost use Rattle.std.specs.Prelude.{Bool, List, filter, ◌||◌};
 ghost use Rattle.kdg_graph.specs.Node.{Node};
@@ -105,16 +103,20 @@ impl OrderedNodes {
         ensures graph { IsGraph self.now.nodes }
         ensures inside { result ≤ length lane.now.ids.items }
     {
-        let place = self.rank_among(lane, key);
-        if place == lane.len() {
-            return place;
+        match self.search_among(lane, key) {
+            Ok(place) => place + 1,
+            Err(place) => place,
         }
-        let first = lane.at(place);
-        if self.has_key(first, key) {
-            place + 1
-        } else {
-            place
-        }
+    }
+
+    /// The place of the node with the key among some of the nodes, by their ids in key order, or else
+    /// how many of these are earlier.
+    fn search_among(&self, lane: &Lane, key: &Key) -> Result<usize, usize>
+        ensures found { (some : List Node) → IsLaneAmong self.now.nodes some lane.now.ids.items → IsSearched key.now some result }
+        ensures inside { MatchResult result (λ place. place < length lane.now.ids.items) (λ place. place ≤ length lane.now.ids.items) }
+        ensures graph { IsGraph self.now.nodes }
+    {
+        lane.search(&self.slots, key)
     }
 
     /// Whether the first of some of the nodes, by their ids in key order, is earlier than the key.
@@ -168,11 +170,7 @@ impl OrderedNodes {
         ensures len { deque_len lane.new.ids ≤ deque_len lane.old.ids }
     {
         let node = self.entry(id);
-        let place = self.rank_among(lane, &node.task.key);
-        if place == lane.len() {
-            return;
-        }
-        if lane.at(place).at == id.at {
+        if let Ok(place) = self.search_among(lane, &node.task.key) {
             let _ = lane.remove(place);
         }
     }
@@ -184,22 +182,27 @@ impl OrderedNodes {
         ensures inside { result < length self.now.nodes }
     {
         let node = self.entry(id);
-        self.rank(&node.task.key)
+        match self.search(&node.task.key) {
+            Ok(place) | Err(place) => place,
+        }
     }
 
-    /// The id of the node whose task has the key, found by halving.
+    /// The place of the node with the key, or else how many nodes are earlier.
+    fn search(&self, key: &Key) -> Result<usize, usize>
+        ensures found { IsSearched key.now self.now.nodes result }
+        ensures graph { IsGraph self.now.nodes }
+    {
+        self.order.search(&self.slots, key)
+    }
+
+    /// The id of the node whose task has the key, found by a search from the place on where a node was
+    /// last taken out.
     pub(crate) fn find(&self, key: &Key) -> Option<NodeId>
         ensures { result ≡ option_map (λ node. node.id) (node_with_key self.now.nodes key.now) }
     {
-        let place = self.rank(key);
-        if place == self.len() {
-            return None;
-        }
-        let node = self.at(place);
-        if node.task.key.compare(key).is_eq() {
-            Some(node.id)
-        } else {
-            None
+        match self.search(key) {
+            Ok(place) => Some(self.at(place).id),
+            Err(_) => None,
         }
     }
 
@@ -276,16 +279,6 @@ impl OrderedNodes {
         let _ascending = set.items();
         let named = &mut self.slots[id.at];
         mem::replace(&mut named.set, set)
-    }
-
-    /// Whether there is a node with the id, and it has the key.
-    fn has_key(&self, id: NodeId, key: &Key) -> bool
-        ensures { IfSome (node_at self.now.nodes id) (λ node. result ≡ is_eq (key_cmp node.task.key key.now)) }
-    {
-        match self.slots.get(id.at) {
-            Some(node) => node.task.key.compare(key).is_eq(),
-            None => false,
-        }
     }
 
     /// Marks a node as running.

@@ -1,22 +1,16 @@
-use Rattle.std.proofs.Common.{rules, ◌≡◌, ◌∙◌, ◌<◌, ◌-◌, suc, List, arith, length, subst, sym}
-use Rattle.kdg_graph.specs.declared.node_id.NodeId.{NodeId}
-use Rattle.kdg_graph.specs.Lanes.{IsRank}
-use Rattle.kdg_graph.proofs.Lanes.{all_earlier, none_earlier_in, rank_of_nothing}
+use Rattle.std.proofs.Common.{◌<◌, length, arith}
+use Rattle.kdg_graph.proofs.Searching.{found_ended, gap_ended, inside_tied}
 use Rattle.kdg_graph.proofs.lane.Lane.rank.Goals as goal
 
-pub returns-then-len-eq0-clause-rank : goal.returns-then-len-eq0-clause-rank
-returns-then-len-eq0-clause-rank c nodes lane =
-    let none : length c.args.self.now.ids.items ≡ 0 = search rules in
-    rank_of_nothing c.args.slots.now nodes c.args.self.now.ids.items c.args.key.now lane none
+pub returns-in-Ok-clause-rank : goal.returns-in-Ok-clause-rank
+returns-in-Ok-clause-rank c nodes lane =
+    (found_ended c.args.slots.now c.args.key.now nodes c.args.self.now.ids.items c.in-Ok.place lane c.in-Ok.ensures).rank
 
-pub returns-then-is_earlier-clause-rank : goal.returns-then-is_earlier-clause-rank
-returns-then-is_earlier-clause-rank c nodes lane =
-    let ids : List NodeId = c.args.self.now.ids.items in
-    let some : 0 < c.len-len.result = search rules in
-    let len : length ids ≡ suc (c.len-len.result - 1) = omega (arith, some, c.len-len.ensures.len) in
-    let is = all_earlier c.args.slots.now nodes ids c.args.key.now c.at-last.result (c.len-len.result - 1) lane len c.at-last.ensures (sym c.is_earlier.ensures ∙ c.if-is_earlier.true) in
-    subst (IsRank c.args.key.now nodes) (sym c.len-len.ensures.len) is
+pub returns-in-Ok-clause-inside : goal.returns-in-Ok-clause-inside
+returns-in-Ok-clause-inside c =
+    let inside : c.in-Ok.place < length c.args.self.now.ids.items = inside_tied c.args.slots.now c.args.key.now c.args.self.now.ids.items c.in-Ok.place c.in-Ok.ensures in
+    omega (arith, inside)
 
-pub returns-else-is_earlier-2-clause-rank : goal.returns-else-is_earlier-2-clause-rank
-returns-else-is_earlier-2-clause-rank c nodes lane =
-    none_earlier_in c.args.slots.now nodes c.args.self.now.ids.items c.args.key.now c.at-first.result lane c.at-first.ensures (sym c.is_earlier-2.ensures ∙ c.if-is_earlier-2.false)
+pub returns-in-Ok-2-clause-rank : goal.returns-in-Ok-2-clause-rank
+returns-in-Ok-2-clause-rank c nodes lane =
+    (gap_ended c.args.slots.now c.args.key.now nodes c.args.self.now.ids.items c.in-Ok.place lane c.in-Ok.ensures).rank

@@ -1,0 +1,83 @@
+-- What a search for a key tells of the nodes of a graph.
+use Rattle.std.proofs.Common.{◌≡◌, ◌≢◌, inl, inr, ℕ, suc, ◌<◌, ◌≤◌, true, false, List, [], ◌∷◌, length, get_or, Some, None, refl, sym, ◌∙◌, ap, subst, arith}
+use Rattle.std.specs.Prelude.{Contains}
+use Rattle.std.specs.Cmp.{tied_itself}
+use Rattle.std.specs.Ordering.{is_eq, ordering_reverse}
+use Rattle.std.specs.declared.cmp.Ordering.TheVariants.{Less, Equal, Greater}
+use Rattle.std.proofs.lemmas.Option.{slice_get_cases}
+use Rattle.task_order.specs.declared.key.Key.{Key}
+use Rattle.task_order.specs.Key.{key_cmp, key_cmp_total}
+use Rattle.task_order.specs.TaskList.{IsAscending}
+use Rattle.kdg_graph.specs.declared.node_id.NodeId.{NodeId}
+use Rattle.kdg_graph.specs.Lanes.{IsFound, IsGap, IsRankPast}
+use Rattle.kdg_graph.specs.Locations.{IsLaneAmong}
+use Rattle.kdg_graph.specs.Node.{Node}
+use Rattle.kdg_graph.specs.Nodes.{IsGraph, node_at, node_with_key, tasks_of}
+use Rattle.kdg_graph.proofs.Among.{contains_at}
+use Rattle.kdg_graph.proofs.Lanes.{id_there, length-ids, some_node}
+use Rattle.kdg_graph.proofs.LookUps.{ids_find_nodes, key_later}
+use Rattle.kdg_graph.proofs.Members.{all_at, cases, none}
+use Rattle.kdg_graph.proofs.Neighbours.{same_found}
+use Rattle.kdg_graph.proofs.Ordering.{found_at_point, no_key_past_all}
+use Rattle.kdg_graph.proofs.Pasts.{past_nothing, past_tied, past_untied}
+
+-- ---- by key
+
+pub none_at_gap : (key : Key) (nodes : List Node) (place : ℕ) → IsAscending (tasks_of nodes) → IsGap key nodes place → node_with_key nodes key ≡ None
+none_at_gap key nodes place up gap = elim (slice_get_cases nodes place).1 [
+  | inl here ↦ found_at_point key nodes place here.0 false up here.1 gap.rank.point (sym here.3) (ap is_eq (subst (λ (n : Node). key_cmp n.task.key key ≡ Greater) here.3 (gap.apart here.0 here.1)))
+  | inr past ↦ no_key_past_all key nodes place past.0 gap.rank.point
+]
+
+pub past_gap : (key : Key) (some : List Node) (place : ℕ) → IsAscending (tasks_of some) → IsGap key some place → IsRankPast key some place
+past_gap key some place up gap = elim (slice_get_cases some place).1 [
+  | inl here ↦ past_untied key some place here.0 up gap.rank (λ inside. ap is_eq (gap.apart here.0 inside))
+  | inr past ↦ past_nothing key some place up gap.rank (omega (arith, past.0, gap.rank.inside))
+]
+
+pub past_found : (key : Key) (some : List Node) (place : ℕ) → IsAscending (tasks_of some) → IsFound key some place → IsRankPast key some (suc place)
+past_found key some place up found =
+    let d : Node = some_node some place found.inside in
+    past_tied key some place d up found.rank found.inside (ap is_eq (found.tied d))
+
+-- ---- the node itself
+
+-- two nodes at one key are one
+same_key : (nodes : List Node) (a b : Node) → IsAscending (tasks_of nodes) → Contains nodes a → Contains nodes b → key_cmp a.task.key b.task.key ≡ Equal → a ≡ b
+same_key [] a b up has_a has_b tied = absurd (none a has_a)
+same_key (node ∷ nodes) a b up has_a has_b tied = elim (cases node a nodes has_a) [
+  | inl is_a ↦ elim (cases node b nodes has_b) [
+      | inl is_b ↦ sym is_a ∙ is_b
+      | inr later ↦
+          let less : key_cmp a.task.key b.task.key ≡ Less = subst (λ (n : Node). key_cmp n.task.key b.task.key ≡ Less) is_a (key_later node nodes b up.0 later) in
+          absurd (let wrong : Equal ≡ Less = sym tied ∙ less in cc)
+    ]
+  | inr later_a ↦ elim (cases node b nodes has_b) [
+      | inl is_b ↦
+          let less : key_cmp b.task.key a.task.key ≡ Less = subst (λ (n : Node). key_cmp n.task.key a.task.key ≡ Less) is_b (key_later node nodes a up.0 later_a) in
+          absurd (let wrong : Equal ≡ Greater = sym tied ∙ key_cmp_total.antisymm a.task.key b.task.key ∙ ap ordering_reverse less in cc)
+      | inr later_b ↦ same_key nodes a b up.1 later_a later_b tied
+    ]
+]
+
+contains_among : (nodes some : List Node) (ids : List NodeId) (place : ℕ) (d : Node) → IsLaneAmong nodes some ids → place < length some → Contains nodes (get_or some place d)
+contains_among nodes some ids place d among inside = all_at (λ (n : Node). Contains nodes n) some (get_or some place d) among.there (contains_at some place d inside)
+
+pub inside_among : (nodes some : List Node) (ids : List NodeId) (place : ℕ) → IsLaneAmong nodes some ids → place < length some → place < length ids
+inside_among nodes some ids place among inside = omega (arith, inside, ap length among.ids_are, length-ids some)
+
+-- where the key of a node is found its id is
+pub id_found : (nodes some : List Node) (ids : List NodeId) (id : NodeId) (node : Node) (place : ℕ) → IsGraph nodes → IsLaneAmong nodes some ids → node_at nodes id ≡ Some node → IsFound node.task.key some place → id ≡ get_or ids place id
+id_found nodes some ids id node place graph among is found =
+    let has : Contains nodes node × (node.id ≡ id) = ids_find_nodes nodes id node is in
+    let same : get_or some place node ≡ node = same_key nodes (get_or some place node) node graph.ascending (contains_among nodes some ids place node among found.inside) has.0 (found.tied node) in
+    sym (id_there some ids place id node among.ids_are (inside_among nodes some ids place among found.inside) ∙ ap (λ (n : Node). n.id) same ∙ has.1)
+
+-- where it isn't found its id isn't there
+pub id_apart : (nodes some : List Node) (ids : List NodeId) (id : NodeId) (node : Node) (place : ℕ) (d : NodeId) → IsGraph nodes → IsLaneAmong nodes some ids → node_at nodes id ≡ Some node → IsGap node.task.key some place → place < length ids → get_or ids place d ≢ id
+id_apart nodes some ids id node place d graph among is gap inside same =
+    let within : place < length some = omega (arith, inside, ap length among.ids_are, length-ids some) in
+    let there : (get_or some place node).id ≡ id = sym (id_there some ids place d node among.ids_are inside) ∙ same in
+    let is_node : get_or some place node ≡ node = same_found nodes id node (get_or some place node) graph (contains_among nodes some ids place node among within) there is in
+    let apart : key_cmp node.task.key node.task.key ≡ Greater = subst (λ (n : Node). key_cmp n.task.key node.task.key ≡ Greater) is_node (gap.apart node within) in
+    absurd (let wrong : Equal ≡ Greater = sym (tied_itself key_cmp_total node.task.key) ∙ apart in cc)
