@@ -20,7 +20,7 @@ use Rattle.kdg_graph.specs.Locations.{AreFiled, IsLaneAmong, clashes_at, clashin
 use Rattle.kdg_graph.specs.Node.{Node}
 use Rattle.kdg_graph.specs.Nodes.{IsGraph, ids_of, is_at, node_at, put_node}
 use Rattle.kdg_graph.specs.Rewrite.{without}
-use Rattle.kdg_graph.specs.Selected.{AreSelected, refreshed}
+use Rattle.kdg_graph.specs.Selected.{AreSelected, is_unblocked, refreshed}
 use Rattle.kdg_graph.proofs.Among.{among_filtered, graph_among}
 use Rattle.kdg_graph.proofs.Filing.{clashing_with, others_among, some_put}
 use Rattle.kdg_graph.proofs.Filtered.{filter_with, filters_commute, same_filter}
@@ -287,4 +287,4 @@ lacking_done nodes set other key i p test ids inside at is selected =
     let joined : ids_of (fronts_after (before ++ p ∷ []) key nodes) ≡ ids_of (fronts_after before key nodes) ++ ids_of (front_after p.0 p.1 key nodes) =
     ap ids_of (flat_map-append front before (p ∷ []) ∙ ap (λ l. flat_map front before ++ l) (append-nil (front p))) ∙ map-append (λ (n : Node). n.id) (flat_map front before) (front p) in
     subst (λ (l : List NodeId). AreSelected nodes (refreshed nodes l test) ids) (sym (ap (λ pairs. ids_of (fronts_after pairs key nodes)) (lacking_more set other i p inside at is) ∙ joined))
-    (select_append nodes (ids_of (fronts_after before key nodes)) (ids_of (front_after p.0 p.1 key nodes)) test ids selected)
+    (select_append (is_unblocked nodes) nodes (ids_of (fronts_after before key nodes)) (ids_of (front_after p.0 p.1 key nodes)) test ids selected)

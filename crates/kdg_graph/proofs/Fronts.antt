@@ -12,18 +12,21 @@ use Rattle.task_order.specs.Key.{key_cmp}
 use Rattle.task_order.specs.TaskList.{IsAscending}
 use Rattle.rw_sets.specs.declared.access.Access.{Access}
 use Rattle.rw_sets.specs.declared.access.Access.TheVariants.{Read, Write}
-use Rattle.rw_sets.specs.Accesses.{Accesses, access_at, allows_write, clash, conflicts_with, writes}
+use Rattle.rw_sets.specs.Accesses.{Accesses, IsAscending as IsAscendingSet, access_at, allows_write, clash, conflicts_with, writes}
 use Rattle.kdg_graph.specs.Node.{Node}
-use Rattle.kdg_graph.specs.Nodes.{earlier_than, ids_of, is_at, later_than, put_node, tasks_of}
-use Rattle.kdg_graph.specs.Edges.{is_blocked, is_source}
+use Rattle.kdg_graph.specs.Nodes.{IsGraph, earlier_than, ids_of, is_at, later_than, put_node, tasks_of}
+use Rattle.kdg_graph.specs.Edges.{is_blocked}
 use Rattle.kdg_graph.specs.Locations.{clashes_at, clashing_at, front_after, up_to_writer}
 use Rattle.kdg_graph.specs.Fronts.{fronts_after}
-use Rattle.kdg_graph.specs.Selected.{is_among}
-use Rattle.kdg_graph.proofs.Blocking.{any_from, has_access, pair_of, some_passes}
+use Rattle.kdg_graph.specs.Selected.{is_among, is_unblocked}
+use Rattle.kdg_graph.specs.declared.node_id.NodeId.{NodeId}
+use Rattle.kdg_graph.proofs.Blocking.{access_of, any_from, has_access, pair_of, some_passes}
 use Rattle.kdg_graph.proofs.Filtered.{ascending_filtered}
-use Rattle.kdg_graph.proofs.Members.{all_at, cases, from_filter, here, in_filter, in_map, none, there}
+use Rattle.kdg_graph.proofs.LookUps.{nodes_have_ids}
+use Rattle.kdg_graph.proofs.Members.{all_at, cases, from_filter, from_map, here, in_filter, in_map, none, there}
+use Rattle.kdg_graph.proofs.Neighbours.{same_found}
 use Rattle.kdg_graph.proofs.Ordering.{is_before}
-use Rattle.kdg_graph.proofs.Places.{is_at-same}
+use Rattle.kdg_graph.proofs.Places.{is_at-same, same_id}
 
 -- ---- one node more among the earlier ones
 
@@ -171,5 +174,47 @@ blocked_outside new nodes node up has outside =
     ] in
     blocked_put new nodes node ∙ by_case _ _ refl refl
 
-pub source_outside : (new : Node) (nodes : List Node) (node : Node) → IsAscending (tasks_of nodes) → Contains nodes node → is_among (ids_of (fronts_after new.set new.task.key nodes)) node ≡ false → is_source (put_node new nodes) node ≡ is_source nodes node
-source_outside new nodes node up has outside = ap (λ b. not node.running && not b) (blocked_outside new nodes node up has outside)
+pub unblocked_outside : (new : Node) (nodes : List Node) (node : Node) → IsAscending (tasks_of nodes) → Contains nodes node → is_among (ids_of (fronts_after new.set new.task.key nodes)) node ≡ false → is_unblocked (put_node new nodes) node ≡ is_unblocked nodes node
+unblocked_outside new nodes node up has outside = ap not (blocked_outside new nodes node up has outside)
+
+-- ---- who is in a front is blocked
+
+from_append : {X : Type 0} (xs ys : List X) (x : X) → Contains (xs ++ ys) x → Contains xs x ⊎ Contains ys x
+from_append [] ys x has = inr has
+from_append {X} (y ∷ xs) ys x has = elim (cases y x (xs ++ ys) has) [
+  | inl same ↦ inl (subst (λ (z : X). Contains (y ∷ xs) z) same (here y xs))
+  | inr later ↦ elim (from_append xs ys x later) [ inl first ↦ inl (there y x xs first) | inr second ↦ inr second ]
+]
+
+from_fronts : (set : Accesses) (key : Key) (nodes : List Node) (node : Node) → Contains (fronts_after set key nodes) node → (p : ℕ × Access) × Contains set p × Contains (front_after p.0 p.1 key nodes) node
+from_fronts [] key nodes node has = absurd (none node has)
+from_fronts (p ∷ set) key nodes node has = elim (from_append (front_after p.0 p.1 key nodes) (fronts_after set key nodes) node has) [
+  | inl first ↦ (p, here p set, first)
+  | inr later ↦ let rest : (q : ℕ × Access) × Contains set q × Contains (front_after q.0 q.1 key nodes) node = from_fronts set key nodes node later in (rest.0, there p rest.0 set rest.1, rest.2)
+]
+
+from_up_to : (loc : ℕ) (nodes : List Node) (node : Node) → Contains (up_to_writer loc nodes) node → Contains nodes node
+from_up_to loc [] node has = has
+from_up_to loc (first ∷ nodes) node has = elim (cases first node (cond (writes first.set loc) [] (up_to_writer loc nodes)) has) [
+  | inl same ↦ subst (λ (n : Node). Contains (first ∷ nodes) n) same (here first nodes)
+  | inr later ↦ there first node nodes (elim (writes first.set loc) as (λ last. Contains (cond last [] (up_to_writer loc nodes)) node → Contains nodes node) [ true ↦ λ is. absurd (none node is) | false ↦ from_up_to loc nodes node ] later)
+]
+
+-- the fronts behind a node that is there are blocked by it
+pub blocked_front : (new : Node) (nodes : List Node) (node : Node) → IsGraph nodes → Contains nodes new → Contains nodes node → is_among (ids_of (fronts_after new.set new.task.key nodes)) node ≡ true → is_unblocked nodes node ≡ false
+blocked_front new nodes node graph has has_node among =
+    let key : Key = new.task.key in
+    let is_later : Node → Bool = λ other. is_lt (key_cmp key other.task.key) in
+    let fronts : List Node = fronts_after new.set key nodes in
+    let id : (i : NodeId) × Contains (ids_of fronts) i × (is_at i node ≡ true) = some_passes (λ i. is_at i node) (ids_of fronts) among in
+    let one : (n : Node) × Contains fronts n × (n.id ≡ id.0) = from_map (λ (n : Node). n.id) fronts id.0 id.1 in
+    let pair : (p : ℕ × Access) × Contains new.set p × Contains (front_after p.0 p.1 key nodes) one.0 = from_fronts new.set key nodes one.0 one.1 in
+    let loc : ℕ = pair.0.0 in
+    let clashes : Contains (later_than key nodes) one.0 × (clashes_at loc pair.0.1 one.0 ≡ true) =
+    from_filter (clashes_at loc pair.0.1) (later_than key nodes) one.0 (from_up_to loc (clashing_at loc pair.0.1 (later_than key nodes)) one.0 pair.2) in
+    let later : Contains nodes one.0 × (is_later one.0 ≡ true) = from_filter is_later nodes one.0 clashes.0 in
+    let same : one.0 ≡ node = same_found nodes node.id node one.0 graph later.0 (one.2 ∙ sym (same_id id.0 node id.2)) (nodes_have_ids nodes node graph has_node) in
+    let named : access_at new.set loc ≡ Some pair.0.1 = access_of new.set pair.0 (all_at (λ (n : Node). IsAscendingSet n.set) nodes new graph.sets has) pair.1 in
+    let clash_is : clash (access_at new.set loc) (access_at node.set loc) ≡ true = ap (λ found. clash found (access_at node.set loc)) named ∙ ap (clashes_at loc pair.0.1) (sym same) ∙ clashes.1 in
+    let conflict : conflicts_with new.set node.set ≡ true = any_from (λ (p : ℕ × Access). clash (access_at new.set p.0) (access_at node.set p.0)) new.set pair.0 pair.1 clash_is in
+    ap not (any_from (λ (other : Node). conflicts_with other.set node.set) (earlier_than node.task.key nodes) new (in_filter (is_before node.task.key) nodes new has (ap is_later (sym same) ∙ later.1)) conflict)

@@ -13,6 +13,8 @@ pub mod Storing
 pub mod Rooms
 pub mod Fronts
 pub mod Selecting
+pub mod Marking
+pub mod Running
 pub mod Settling
 pub mod Filtered
 pub mod Among

@@ -1,9 +1,10 @@
 -- Room for more nodes at the locations of sets.
-use Rattle.std.proofs.Common.{ℕ, suc, ◌+◌, ◌<◌, ◌≤◌, List, [], ◌∷◌, ◌++◌, length, take, get_or, sym, subst, arith, ◌∙◌}
+use Rattle.std.proofs.Common.{◌≡◌, ℕ, suc, ◌+◌, ◌-◌, ◌<◌, ◌≤◌, ◌==◌, Bool, true, false, cond, refl, eqb-true, List, [], ◌∷◌, ◌++◌, length, take, get_or, sym, subst, arith, ◌∙◌}
 use Rattle.std.specs.List.{AllByRecursion}
 use Rattle.std.proofs.lemmas.List.{take_more}
 use Rattle.rw_sets.specs.Accesses.{Accesses}
 use Rattle.kdg_graph.specs.declared.location.Location.{Location}
+use Rattle.kdg_graph.specs.NodeStock.{numbers_with_marks}
 use Rattle.kdg_graph.specs.Locations.{HasRoom, HaveNoLess, HaveSameLanes, room_at}
 
 -- ---- each of several
@@ -50,3 +51,13 @@ first_room others set rooms room = room_left 1 (suc others) 0 set rooms rooms (�
 
 pub same_lanes_twice : (a b c : List Location) → HaveSameLanes a b → HaveSameLanes b c → HaveSameLanes a c
 same_lanes_twice a b c first second loc access = second loc access ∙ first loc access
+
+-- ---- ids that are left
+
+-- where some are left, each key has a mark
+pub keys_have_marks : (numbers keys marks : ℕ) → 0 < numbers_with_marks numbers keys marks → keys ≤ marks
+keys_have_marks numbers keys marks = by_case (keys - marks == 0) refl
+  where
+    by_case : (fits : Bool) → (keys - marks == 0) ≡ fits → 0 < cond fits numbers 0 → keys ≤ marks
+    by_case true is some = omega (arith, eqb-true (keys - marks) 0 is)
+    by_case false is some = absurd (omega (arith, some))

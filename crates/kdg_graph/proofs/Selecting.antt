@@ -1,7 +1,7 @@
 -- Ids of the nodes that pass a test, where one comes in or goes out.
-use Rattle.std.proofs.Common.{◌≡◌, ◌≢◌, inl, inr, ℕ, suc, ◌+◌, ◌-◌, ◌<◌, ◌≤◌, ◌||◌, ◌&&◌, Bool, true, false, not, cond, List, [], ◌∷◌, ◌++◌, length, take, drop, get_or, append-nil, length-drop, Option, Some, None, refl, sym, ◌∙◌, ap, subst, arith}
+use Rattle.std.proofs.Common.{◌≡◌, ◌≢◌, inl, inr, ℕ, suc, ◌+◌, ◌-◌, ◌<◌, ◌≤◌, ◌||◌, ◌&&◌, Bool, true, false, not, cond, List, [], ◌∷◌, ◌++◌, length, take, drop, get_or, append-nil, length-drop, Option, Some, None, refl, sym, ◌∙◌, ap, subst, arith, ◌==◌}
 use Rattle.std.specs.Prelude.{Contains, IfSome, IsSome}
-use Rattle.std.specs.List.{AllByRecursion, filter, flat_map}
+use Rattle.std.specs.List.{AllByRecursion, filter, flat_map, list_any}
 use Rattle.std.specs.Ordering.{is_lt}
 use Rattle.std.specs.declared.cmp.Ordering.TheVariants.{Less}
 use Rattle.std.proofs.lemmas.List.{get_or-drop, map-append, take_more}
@@ -13,20 +13,20 @@ use Rattle.task_order.specs.TaskList.{IsAscending}
 use Rattle.kdg_graph.specs.declared.node_id.NodeId.{NodeId}
 use Rattle.kdg_graph.specs.Node.{Node}
 use Rattle.kdg_graph.specs.Nodes.{HasNode, HaveOwnIds, IsGraph, ids_of, is_at, node_at, put_node, tasks_of}
-use Rattle.kdg_graph.specs.Edges.{is_source}
 use Rattle.kdg_graph.specs.Rewrite.{without}
 use Rattle.rw_sets.specs.declared.access.Access.{Access}
 use Rattle.rw_sets.specs.Accesses.{Accesses}
 use Rattle.kdg_graph.specs.Locations.{IsLaneAmong, front_after}
 use Rattle.kdg_graph.specs.Fronts.{fronts_after}
-use Rattle.kdg_graph.specs.Selected.{AreSelected, is_among, refreshed}
-use Rattle.kdg_graph.proofs.Members.{all_at, all_from, cases, from_filter, from_map, here, none}
+use Rattle.kdg_graph.specs.Selected.{AreSelected, forgotten, is_among, is_unblocked, refreshed, retested}
+use Rattle.kdg_graph.proofs.Blocking.{any_from, same_tests, some_passes}
+use Rattle.kdg_graph.proofs.Members.{all_at, all_from, cases, from_filter, from_map, here, in_filter, in_map, none}
 use Rattle.kdg_graph.proofs.Ordering.{is_before, turned}
 use Rattle.kdg_graph.proofs.Lanes.{length-ids}
 use Rattle.kdg_graph.proofs.Places.{is_at-same, not_at, same_id}
-use Rattle.kdg_graph.proofs.LookUps.{ids_find_nodes}
+use Rattle.kdg_graph.proofs.LookUps.{ids_find_nodes, nodes_have_ids}
 use Rattle.kdg_graph.proofs.Neighbours.{found_some, same_found}
-use Rattle.kdg_graph.proofs.Filtered.{ascending_filtered, filter_twice, filters_commute, put_first, same_filter}
+use Rattle.kdg_graph.proofs.Filtered.{ascending_filtered, filter_twice, put_first, same_filter}
 use Rattle.kdg_graph.proofs.Fronts.{all_tasks}
 
 -- ---- one node more
@@ -72,84 +72,110 @@ some_of_lane nodes test ids up is = record {
   ascending = ascending_filtered test nodes up;
 }
 
--- ---- refreshing
+-- ---- one node is tested anew
 
--- the test that answers anew for one node selects as any that answers so
-pub refreshed_as : (nodes : List Node) (id : NodeId) (node : Node) (test other : Node → Bool) (source : Bool) → IsGraph nodes → node_at nodes id ≡ Some node → is_source nodes node ≡ source → other node ≡ source → ((n : Node) → is_at id n ≡ false → other n ≡ test n)
-    → filter other nodes ≡ filter (refreshed nodes (id ∷ []) test) nodes
-refreshed_as nodes id node test other source graph is source_is answers same =
-    let by_case : (n : Node) → Contains nodes n → (at : Bool) → is_at id n ≡ at → other n ≡ cond (at || false) (is_source nodes n) (test n) = λ n has. elim [
-      | true ↦ λ at.
-          let node_is : n ≡ node = same_found nodes id node n graph has (same_id id n at) is in
-          ap other node_is ∙ answers ∙ sym source_is ∙ ap (is_source nodes) (sym node_is)
-      | false ↦ λ apart. same n apart
+-- two answers for it that are one select the same
+pub same_answer : (nodes : List Node) (id : NodeId) (node : Node) (one other test : Node → Bool) → IsGraph nodes → node_at nodes id ≡ Some node → one node ≡ other node → filter (retested one (id ∷ []) test) nodes ≡ filter (retested other (id ∷ []) test) nodes
+same_answer nodes id node one other test graph is same =
+    let by_case : (n : Node) → Contains nodes n → (at : Bool) → is_at id n ≡ at → cond (at || false) (one n) (test n) ≡ cond (at || false) (other n) (test n) = λ n has. elim [
+      | true ↦ λ at. let node_is : n ≡ node = same_found nodes id node n graph has (same_id id n at) is in ap one node_is ∙ same ∙ ap other (sym node_is)
+      | false ↦ λ _. refl
     ] in
-    same_filter other (refreshed nodes (id ∷ []) test) nodes (λ n has. by_case n has (is_at id n) refl)
+    same_filter (retested one (id ∷ []) test) (retested other (id ∷ []) test) nodes (λ n has. by_case n has (is_at id n) refl)
+
+-- nor does the answer that the test gives change anything
+pub known_answer : (nodes : List Node) (id : NodeId) (node : Node) (answer test : Node → Bool) → IsGraph nodes → node_at nodes id ≡ Some node → test node ≡ answer node → filter test nodes ≡ filter (retested answer (id ∷ []) test) nodes
+known_answer nodes id node answer test graph is same =
+    same_filter test (retested test (id ∷ []) test) nodes (λ n _. own_answer (is_among (id ∷ []) n) (test n)) ∙ same_answer nodes id node test answer test graph is same
+  where
+    own_answer : (among answers : Bool) → answers ≡ cond among answers answers
+    own_answer true answers = refl
+    own_answer false answers = refl
 
 pub at_some : (P : Node → Type 0) (found : Option Node) (node : Node) → found ≡ Some node → IfSome found P → P node
 at_some P found node is holds = subst (λ (o : Option Node). IfSome o P) is holds
 
--- the ids without one of them
-pub select_without : (nodes : List Node) (test : Node → Bool) (id : NodeId) (ids : List NodeId) → ids ≡ ids_of (without id (filter test nodes)) → AreSelected nodes (λ node. test node && not (is_at id node)) ids
-select_without nodes test id ids is = is ∙ ap ids_of (filter_twice (λ node. not (is_at id node)) test nodes)
+-- a node is among the ids that are selected where it passes the test
+pub among_selected : (nodes : List Node) (test : Node → Bool) (ids : List NodeId) (node : Node) → IsGraph nodes → Contains nodes node → AreSelected nodes test ids → is_among ids node ≡ test node
+among_selected nodes test ids node graph has is = same_tests (is_among ids node) (test node) passes listed
+  where
+    passes : is_among ids node ≡ true → test node ≡ true
+    passes among =
+        let found : (id : NodeId) × Contains ids id × (is_at id node ≡ true) = some_passes (λ id. is_at id node) ids among in
+        let one : (n : Node) × Contains (filter test nodes) n × (n.id ≡ found.0) = from_map (λ (n : Node). n.id) (filter test nodes) found.0 (subst (λ (l : List NodeId). Contains l found.0) is found.1) in
+        let one_is : Contains nodes one.0 × (test one.0 ≡ true) = from_filter test nodes one.0 one.1 in
+        let same : one.0 ≡ node = same_found nodes node.id node one.0 graph one_is.0 (one.2 ∙ sym (same_id found.0 node found.2)) (nodes_have_ids nodes node graph has) in
+        ap test (sym same) ∙ one_is.1
 
-and_false : (test : Bool) → (test && false) ≡ false
-and_false true = refl
-and_false false = refl
+    listed : test node ≡ true → is_among ids node ≡ true
+    listed is_in =
+        any_from (λ id. is_at id node) ids node.id (subst (λ (l : List NodeId). Contains l node.id) (sym is) (in_map (λ (n : Node). n.id) (filter test nodes) node (in_filter test nodes node has is_in))) (is_at-same node.id node refl)
 
-and_true : (test : Bool) → (test && true) ≡ test
-and_true true = refl
-and_true false = refl
+-- the same of the number of its id
+pub listed_selected : (nodes : List Node) (test : Node → Bool) (ids : List NodeId) (id : NodeId) (node : Node) → IsGraph nodes → node_at nodes id ≡ Some node → AreSelected nodes test ids → list_any (λ (other : NodeId). id.at == other.at) ids ≡ test node
+listed_selected nodes test ids id node graph found is =
+    let is_node : Contains nodes node × (node.id ≡ id) = ids_find_nodes nodes id node found in
+    ap (λ (i : NodeId). list_any (λ (other : NodeId). i.at == other.at) ids) (sym is_node.1) ∙ among_selected nodes test ids node graph is_node.0 is
 
 -- the test that fails for the node with the id
 abbrev pub but : NodeId → (Node → Bool) → Node → Bool
 but id test node = test node && not (is_at id node)
 
-but_fails : (id : NodeId) (test : Node → Bool) (node : Node) → is_at id node ≡ true → but id test node ≡ false
-but_fails id test node at = ap (λ b. test node && not b) at ∙ and_false (test node)
-
 pub but_same : (id : NodeId) (test : Node → Bool) (node : Node) → is_at id node ≡ false → but id test node ≡ test node
 but_same id test node apart = ap (λ b. test node && not b) apart ∙ and_true (test node)
+  where
+    and_true : (test : Bool) → (test && true) ≡ test
+    and_true true = refl
+    and_true false = refl
 
--- a node that is refreshed and is no source
-pub refreshed_out : (nodes : List Node) (id : NodeId) (node : Node) (ids : List NodeId) (test : Node → Bool) → IsGraph nodes → node_at nodes id ≡ Some node → is_source nodes node ≡ false → ids ≡ ids_of (without id (filter test nodes))
-    → AreSelected nodes (refreshed nodes (id ∷ []) test) ids
-refreshed_out nodes id node ids test graph is source selected =
-    select_without nodes test id ids selected
-    ∙ ap ids_of (refreshed_as nodes id node test (but id test) false graph is source (but_fails id test node (is_at-same id node (ids_find_nodes nodes id node is).1)) (but_same id test))
+-- one id out
+pub but_is_forgotten : (nodes : List Node) (id : NodeId) (test : Node → Bool) → filter (but id test) nodes ≡ filter (forgotten (id ∷ []) test) nodes
+but_is_forgotten nodes id test = same_filter (but id test) (forgotten (id ∷ []) test) nodes (λ node _. by_case (is_at id node) (test node))
+  where
+    by_case : (at passes : Bool) → (passes && not at) ≡ cond (at || false) false passes
+    by_case true true = refl
+    by_case true false = refl
+    by_case false true = refl
+    by_case false false = refl
 
--- and one that is a source
-put_refreshed : (nodes : List Node) (id : NodeId) (node : Node) (test : Node → Bool) → IsGraph nodes → node_at nodes id ≡ Some node → is_source nodes node ≡ true → put_node node (filter (but id test) nodes) ≡ filter (refreshed nodes (id ∷ []) test) nodes
-put_refreshed nodes id node test graph is source =
+pub taken_out : (nodes : List Node) (test : Node → Bool) (id : NodeId) (ids : List NodeId) → ids ≡ ids_of (without id (filter test nodes)) → AreSelected nodes (forgotten (id ∷ []) test) ids
+taken_out nodes test id ids is = is ∙ ap ids_of (filter_twice (λ node. not (is_at id node)) test nodes ∙ but_is_forgotten nodes id test)
+
+-- one id in
+abbrev with_one : NodeId → (Node → Bool) → Node → Bool
+with_one id test = retested (λ _. true) (id ∷ []) test
+
+put_one : (nodes : List Node) (id : NodeId) (node : Node) (test : Node → Bool) → IsGraph nodes → node_at nodes id ≡ Some node → test node ≡ false → put_node node (filter test nodes) ≡ filter (with_one id test) nodes
+put_one nodes id node test graph is is_out =
     let is_node : Contains nodes node × (node.id ≡ id) = ids_find_nodes nodes id node is in
     let at : is_at id node ≡ true = is_at-same id node is_node.1 in
-    put_among (but id test) (refreshed nodes (id ∷ []) test) node nodes graph.ascending graph.own_ids is_node.0 (but_fails id test node at) (ap (λ b. cond (b || false) (is_source nodes node) (test node)) at ∙ source)
+    put_among test (with_one id test) node nodes graph.ascending graph.own_ids is_node.0 is_out (ap (λ b. cond (b || false) true (test node)) at)
     (λ other apart.
     let differs : is_at id other ≡ false = ap (λ (i : NodeId). is_at i other) (sym is_node.1) ∙ apart in
-    ap (λ b. cond (b || false) (is_source nodes other) (test other)) differs ∙ sym (but_same id test other differs))
+    ap (λ b. cond (b || false) true (test other)) differs)
 
-pub refreshed_in : (nodes : List Node) (id : NodeId) (node : Node) (before ids : List NodeId) (test : Node → Bool) → IsGraph nodes → node_at nodes id ≡ Some node → is_source nodes node ≡ true → before ≡ ids_of (without id (filter test nodes))
-    → ((some : List Node) → IsLaneAmong nodes some before → IfSome (node_at nodes id) (λ (n : Node). ids ≡ ids_of (put_node n some))) → AreSelected nodes (refreshed nodes (id ∷ []) test) ids
-refreshed_in nodes id node before ids test graph is source selected puts =
-    let some : List Node = filter (but id test) nodes in
-    let among : IsLaneAmong nodes some before = some_of_lane nodes (but id test) before graph.ascending (select_without nodes test id before selected) in
-    at_some (λ (n : Node). ids ≡ ids_of (put_node n some)) (node_at nodes id) node is (puts some among) ∙ ap ids_of (put_refreshed nodes id node test graph is source)
+pub put_in_place : (nodes : List Node) (id : NodeId) (node : Node) (before ids : List NodeId) (test : Node → Bool) → IsGraph nodes → node_at nodes id ≡ Some node → test node ≡ false → AreSelected nodes test before
+    → ((some : List Node) → IsLaneAmong nodes some before → IfSome (node_at nodes id) (λ (n : Node). ids ≡ ids_of (put_node n some))) → AreSelected nodes (retested (λ _. true) (id ∷ []) test) ids
+put_in_place nodes id node before ids test graph is is_out selected puts =
+    let some : List Node = filter test nodes in
+    let among : IsLaneAmong nodes some before = some_of_lane nodes test before graph.ascending selected in
+    at_some (λ (n : Node). ids ≡ ids_of (put_node n some)) (node_at nodes id) node is (puts some among) ∙ ap ids_of (put_one nodes id node test graph is is_out)
 
 -- an id that comes in has room where each node has
 pub length-put : (node : Node) (nodes : List Node) → length (put_node node nodes) ≡ suc (length nodes)
 length-put node [] = refl
 length-put node (other ∷ nodes) = elim (is_before node.task.key other) as (λ b. length (cond b (other ∷ put_node node nodes) (node ∷ other ∷ nodes)) ≡ suc (suc (length nodes))) [ true ↦ ap suc (length-put node nodes) | false ↦ refl ]
 
-pub has_room : (nodes : List Node) (id : NodeId) (node : Node) (ids : List NodeId) (test : Node → Bool) (room : ℕ) → IsGraph nodes → node_at nodes id ≡ Some node → is_source nodes node ≡ true → ids ≡ ids_of (without id (filter test nodes)) → length nodes ≤ room → length ids < room
-has_room nodes id node ids test room graph is source selected fits =
-    let more : Node → Bool = refreshed nodes (id ∷ []) test in
+pub has_room : (nodes : List Node) (id : NodeId) (node : Node) (ids : List NodeId) (test : Node → Bool) (room : ℕ) → IsGraph nodes → node_at nodes id ≡ Some node → test node ≡ false → AreSelected nodes test ids → length nodes ≤ room → length ids < room
+has_room nodes id node ids test room graph is is_out selected fits =
+    let more : Node → Bool = with_one id test in
     omega (
       arith,
       fits,
-      ap length (select_without nodes test id ids selected),
-      length-ids (filter (but id test) nodes),
-      length-put node (filter (but id test) nodes),
-      ap length (put_refreshed nodes id node test graph is source),
+      ap length selected,
+      length-ids (filter test nodes),
+      length-put node (filter test nodes),
+      ap length (put_one nodes id node test graph is is_out),
       length-filter more nodes,
       count_by-le-length more nodes,
     )
@@ -161,29 +187,26 @@ found_node nodes id has = go (node_at nodes id) has
     go None has = cc
     go (Some node) has = (node, refl)
 
-pub forgotten : (nodes : List Node) (id : NodeId) (test : Node → Bool) (ids : List NodeId) → ids ≡ ids_of (without id (filter test nodes)) → AreSelected (without id nodes) test ids
-forgotten nodes id test ids is = is ∙ ap ids_of (filters_commute (λ node. not (is_at id node)) test nodes)
-
--- ---- several are refreshed
+-- ---- several are tested anew
 
 pub among_append : (some more : List NodeId) (node : Node) → is_among (some ++ more) node ≡ (is_among some node || is_among more node)
 among_append [] more node = refl
 among_append (id ∷ some) more node = elim (is_at id node) as (λ b. (b || is_among (some ++ more) node) ≡ ((b || is_among some node) || is_among more node)) [ true ↦ refl | false ↦ among_append some more node ]
 
-pub refreshed_append : (nodes : List Node) (some more : List NodeId) (test : Node → Bool) (node : Node) → refreshed nodes more (refreshed nodes some test) node ≡ refreshed nodes (some ++ more) test node
-refreshed_append nodes some more test node =
-    by_tests (is_among some node) (is_among more node) ∙ sym (ap (λ b. cond b (is_source nodes node) (test node)) (among_append some more node))
+retested_append : (answer : Node → Bool) (some more : List NodeId) (test : Node → Bool) (node : Node) → retested answer more (retested answer some test) node ≡ retested answer (some ++ more) test node
+retested_append answer some more test node =
+    by_tests (is_among some node) (is_among more node) ∙ sym (ap (λ b. cond b (answer node) (test node)) (among_append some more node))
   where
-    by_tests : (first second : Bool) → cond second (is_source nodes node) (cond first (is_source nodes node) (test node)) ≡ cond (first || second) (is_source nodes node) (test node)
+    by_tests : (first second : Bool) → cond second (answer node) (cond first (answer node) (test node)) ≡ cond (first || second) (answer node) (test node)
     by_tests true true = refl
     by_tests true false = refl
     by_tests false true = refl
     by_tests false false = refl
 
-pub select_append : (nodes : List Node) (some more : List NodeId) (test : Node → Bool) (ids : List NodeId) → AreSelected nodes (refreshed nodes more (refreshed nodes some test)) ids → AreSelected nodes (refreshed nodes (some ++ more) test) ids
-select_append nodes some more test ids is = is ∙ ap ids_of (same_filter _ _ nodes (λ node _. refreshed_append nodes some more test node))
+pub select_append : (answer : Node → Bool) (nodes : List Node) (some more : List NodeId) (test : Node → Bool) (ids : List NodeId) → AreSelected nodes (retested answer more (retested answer some test)) ids → AreSelected nodes (retested answer (some ++ more) test) ids
+select_append answer nodes some more test ids is = is ∙ ap ids_of (same_filter _ _ nodes (λ node _. retested_append answer some more test node))
 
--- ---- the walks that refresh
+-- ---- the walks over fronts
 
 -- one place more of a front
 pub front_step : (lane : List NodeId) (start i : ℕ) (id : NodeId) → start ≤ i → i < length lane → id ≡ get_or lane i id → take (i + 1 - start) (drop start lane) ≡ take (i - start) (drop start lane) ++ id ∷ []
@@ -195,10 +218,10 @@ front_step lane start i id ordered inside here =
     ∙ take_more (drop start lane) (i - start) id within
     ∙ ap (λ x. take (i - start) (drop start lane) ++ x ∷ []) (get_or-drop start lane (i - start) id ∙ ap (λ n. get_or lane n id) at ∙ sym here)
 
-pub front_done : (nodes : List Node) (lane : List NodeId) (start i : ℕ) (id : NodeId) (test : Node → Bool) (ids : List NodeId) → start ≤ i → i < length lane → id ≡ get_or lane i id → AreSelected nodes (refreshed nodes (id ∷ []) (refreshed nodes (take (i - start) (drop start lane)) test)) ids
-    → AreSelected nodes (refreshed nodes (take (i + 1 - start) (drop start lane)) test) ids
-front_done nodes lane start i id test ids ordered inside here is =
-    subst (λ (l : List NodeId). AreSelected nodes (refreshed nodes l test) ids) (sym (front_step lane start i id ordered inside here)) (select_append nodes (take (i - start) (drop start lane)) (id ∷ []) test ids is)
+pub front_done : (answer : Node → Bool) (nodes : List Node) (lane : List NodeId) (start i : ℕ) (id : NodeId) (test : Node → Bool) (ids : List NodeId) → start ≤ i → i < length lane → id ≡ get_or lane i id → AreSelected nodes (retested answer (id ∷ []) (retested answer (take (i - start) (drop start lane)) test)) ids
+    → AreSelected nodes (retested answer (take (i + 1 - start) (drop start lane)) test) ids
+front_done answer nodes lane start i id test ids ordered inside here is =
+    subst (λ (l : List NodeId). AreSelected nodes (retested answer l test) ids) (sym (front_step lane start i id ordered inside here)) (select_append answer nodes (take (i - start) (drop start lane)) (id ∷ []) test ids is)
 
 -- the ids of a location are those of nodes
 pub lane_has : (nodes : List Node) (p : Node → Bool) (lane : List NodeId) (place : ℕ) (id : NodeId) → IsGraph nodes → lane ≡ ids_of (filter p nodes) → place < length lane → id ≡ get_or lane place id → HasNode nodes id
@@ -215,21 +238,21 @@ fronts_step set key nodes i d inside =
     ap ids_of (ap (flat_map front) (take_more set i d inside) ∙ flat_map-append front (take i set) (p ∷ []) ∙ ap (λ l. flat_map front (take i set) ++ l) (append-nil (front p)))
     ∙ map-append (λ (n : Node). n.id) (flat_map front (take i set)) (front p)
 
-pub fronts_done : (nodes : List Node) (items set : Accesses) (key : Key) (i : ℕ) (d : ℕ × Access) (test : Node → Bool) (ids : List NodeId) → items ≡ set → i < length items
-    → AreSelected nodes (refreshed nodes (ids_of (front_after (get_or items i d).0 (get_or items i d).1 key nodes)) (refreshed nodes (ids_of (fronts_after (take i set) key nodes)) test)) ids
-    → AreSelected nodes (refreshed nodes (ids_of (fronts_after (take (i + 1) set) key nodes)) test) ids
-fronts_done nodes items set key i d test ids same inside is =
+pub fronts_done : (answer : Node → Bool) (nodes : List Node) (items set : Accesses) (key : Key) (i : ℕ) (d : ℕ × Access) (test : Node → Bool) (ids : List NodeId) → items ≡ set → i < length items
+    → AreSelected nodes (retested answer (ids_of (front_after (get_or items i d).0 (get_or items i d).1 key nodes)) (retested answer (ids_of (fronts_after (take i set) key nodes)) test)) ids
+    → AreSelected nodes (retested answer (ids_of (fronts_after (take (i + 1) set) key nodes)) test) ids
+fronts_done answer nodes items set key i d test ids same inside is =
     let within : i < length set = subst (λ (s : Accesses). i < length s) same inside in
     let before : List NodeId = ids_of (fronts_after (take i set) key nodes) in
-    let now = subst (λ (s : Accesses). AreSelected nodes (refreshed nodes (ids_of (front_after (get_or s i d).0 (get_or s i d).1 key nodes)) (refreshed nodes before test)) ids) same is in
-    subst (λ (l : List NodeId). AreSelected nodes (refreshed nodes l test) ids) (sym (fronts_step set key nodes i d within)) (select_append nodes before (ids_of (front_after (get_or set i d).0 (get_or set i d).1 key nodes)) test ids now)
+    let now = subst (λ (s : Accesses). AreSelected nodes (retested answer (ids_of (front_after (get_or s i d).0 (get_or s i d).1 key nodes)) (retested answer before test)) ids) same is in
+    subst (λ (l : List NodeId). AreSelected nodes (retested answer l test) ids) (sym (fronts_step set key nodes i d within)) (select_append answer nodes before (ids_of (front_after (get_or set i d).0 (get_or set i d).1 key nodes)) test ids now)
 
 -- ---- the end of the walks
 
--- once each node in doubt is refreshed, the sources are selected
-pub settled : (nodes : List Node) (done : List NodeId) (test : Node → Bool) (ids : List NodeId) → ((node : Node) → Contains nodes node → is_among done node ≡ false → test node ≡ is_source nodes node) → AreSelected nodes (refreshed nodes done test) ids → AreSelected nodes (is_source nodes) ids
+-- once each node in doubt is refreshed, the unblocked nodes are selected
+pub settled : (nodes : List Node) (done : List NodeId) (test : Node → Bool) (ids : List NodeId) → ((node : Node) → Contains nodes node → is_among done node ≡ false → test node ≡ is_unblocked nodes node) → AreSelected nodes (refreshed nodes done test) ids → AreSelected nodes (is_unblocked nodes) ids
 settled nodes done test ids same is =
-    let by_case : (node : Node) → Contains nodes node → (among : Bool) → is_among done node ≡ among → cond among (is_source nodes node) (test node) ≡ is_source nodes node = λ node has. elim [
+    let by_case : (node : Node) → Contains nodes node → (among : Bool) → is_among done node ≡ among → cond among (is_unblocked nodes node) (test node) ≡ is_unblocked nodes node = λ node has. elim [
       | true ↦ λ _. refl
       | false ↦ λ apart. same node has apart
     ] in

@@ -1,5 +1,5 @@
--- The sources after a node came, went or changed, once the nodes in doubt are refreshed.
-use Rattle.std.proofs.Common.{◌≡◌, ◌≢◌, ℕ, suc, length, ◌||◌, ◌&&◌, Bool, true, false, not, cond, List, [], ◌∷◌, ◌++◌, map, Some, refl, sym, ◌∙◌, ap, subst}
+-- The unblocked nodes after a node came, went or changed, once the nodes in doubt are refreshed.
+use Rattle.std.proofs.Common.{◌≡◌, ◌≢◌, ℕ, suc, ◌<◌, length, ◌||◌, ◌&&◌, Bool, true, false, not, cond, List, [], ◌∷◌, ◌++◌, map, Some, refl, sym, ◌∙◌, ap, subst}
 use Rattle.std.specs.Prelude.{Contains}
 use Rattle.std.specs.List.{AllByRecursion, filter, flat_map, list_any}
 use Rattle.std.specs.Ordering.{is_lt}
@@ -13,30 +13,35 @@ use Rattle.kdg_graph.specs.declared.node_id.NodeId.{NodeId}
 use Rattle.kdg_graph.specs.declared.change.SetChange.{SetChange}
 use Rattle.kdg_graph.specs.Node.{Node}
 use Rattle.kdg_graph.specs.Nodes.{HaveOwnIds, IsGraph, earlier_than, ids_of, is_at, node_at, put_node, started, tasks_of}
-use Rattle.kdg_graph.specs.Edges.{is_blocked, is_source, sources_of}
+use Rattle.kdg_graph.specs.Edges.{is_blocked}
 use Rattle.kdg_graph.specs.Exchange.{is_same, lacking}
 use Rattle.kdg_graph.specs.Fronts.{fronts_after}
 use Rattle.kdg_graph.specs.declared.location.Location.{Location}
 use Rattle.kdg_graph.specs.Locations.{AreFiled, clashes_at, clashing_at, up_to_writer}
 use Rattle.kdg_graph.specs.Rewrite.{with_sets, without}
-use Rattle.kdg_graph.specs.Selected.{AreSelected, is_among, refreshed}
+use Rattle.kdg_graph.specs.Selected.{AreSelected, HaveMarks, forgotten, is_among, is_unblocked, refreshed, unblocked_of}
 use Rattle.kdg_graph.proofs.Blocking.{any_from, pair_of}
-use Rattle.kdg_graph.proofs.Filtered.{ascending_filtered, filter_twice, filters_commute, put_dropped, put_without}
 use Rattle.kdg_graph.proofs.Exchanging.{same_access}
-use Rattle.kdg_graph.proofs.Fronts.{ClashingPair, blocked_put, clashing_pair, met_in_front, source_outside}
-use Rattle.kdg_graph.proofs.Keeping.{changed, start, start_keeps_id, start_keeps_task, with_set_if}
+use Rattle.kdg_graph.proofs.Filtered.{ascending_filtered, filter_twice, filters_commute, put_dropped, put_without, same_filter}
+use Rattle.kdg_graph.proofs.Fronts.{ClashingPair, blocked_front, blocked_put, clashing_pair, met_in_front, unblocked_outside}
+use Rattle.kdg_graph.proofs.Keeping.{changed, ids-map, start, start_keeps_id, start_keeps_task, with_set_if}
 use Rattle.kdg_graph.proofs.LookUps.{ids_find_nodes, nodes_have_ids}
 use Rattle.kdg_graph.proofs.Members.{all_from, from_filter, in_filter}
 use Rattle.kdg_graph.proofs.Ordering.{is_before, not_itself}
 use Rattle.kdg_graph.proofs.Places.{is_at-same, map_none, none_at, not_at, without_none}
 use Rattle.kdg_graph.proofs.Rewritten.{in_put_new}
-use Rattle.kdg_graph.proofs.Selecting.{among_append, but, but_same, select_append, settled}
+use Rattle.kdg_graph.proofs.Selecting.{among_append, but, but_is_forgotten, but_same, select_append, settled}
 
 -- ---- the nodes but for one
 
 -- the ids that are selected among the others are selected among all
 pub select_but : (nodes : List Node) (test : Node → Bool) (id : NodeId) (ids : List NodeId) → AreSelected (without id nodes) test ids → AreSelected nodes (but id test) ids
 select_but nodes test id ids is = is ∙ ap ids_of (filters_commute test (λ node. not (is_at id node)) nodes ∙ filter_twice (λ node. not (is_at id node)) test nodes)
+
+-- and those that are selected once its id is taken out are selected among the others
+pub select_left : (nodes : List Node) (test : Node → Bool) (id : NodeId) (ids : List NodeId) → AreSelected nodes (forgotten (id ∷ []) test) ids → AreSelected (without id nodes) test ids
+select_left nodes test id ids is =
+    is ∙ ap ids_of (sym (filters_commute test (λ node. not (is_at id node)) nodes ∙ filter_twice (λ node. not (is_at id node)) test nodes ∙ but_is_forgotten nodes id test))
 
 -- a node that was put in is taken out again
 pub without_put : (new : Node) (nodes : List Node) → HaveOwnIds (put_node new nodes) → without new.id (put_node new nodes) ≡ nodes
@@ -79,33 +84,45 @@ neither : (a b : Bool) → (a || b) ≡ false → (a ≡ false) × (b ≡ false)
 neither true b is = (is, elim b as (λ c. c ≡ false) [ true ↦ is | false ↦ refl ])
 neither false b is = (refl, is)
 
+-- to forget the fronts behind it is to refresh them
+fronts_forgotten : (new : Node) (now : List Node) (test : Node → Bool) (ids : List NodeId) → IsGraph now → Contains now new → AreSelected now (forgotten (ids_of (fronts_after new.set new.task.key now)) test) ids → AreSelected now (refreshed now (ids_of (fronts_after new.set new.task.key now)) test) ids
+fronts_forgotten new now test ids graph has is =
+    let front : List NodeId = ids_of (fronts_after new.set new.task.key now) in
+    let by_case : (node : Node) → Contains now node → (among : Bool) → is_among front node ≡ among → cond among false (test node) ≡ cond among (is_unblocked now node) (test node) = λ node has_node. elim [
+      | true ↦ λ among. sym (blocked_front new now node graph has has_node among)
+      | false ↦ λ _. refl
+    ] in
+    is ∙ ap ids_of (same_filter (forgotten front test) (refreshed now front test) now (λ node has_node. by_case node has_node (is_among front node) refl))
+
 -- where the others were tested right but for some that are refreshed as well
-pub settled_put : (new : Node) (rest now : List Node) (more : List NodeId) (test : Node → Bool) (ids : List NodeId) → IsAscending (tasks_of rest) → HaveOwnIds now → now ≡ put_node new rest → ((node : Node) → Contains rest node → is_among more node ≡ false → test node ≡ is_source rest node)
-    → AreSelected now (refreshed now (ids_of (fronts_after new.set new.task.key now)) (refreshed now more (refreshed now (new.id ∷ []) (but new.id test)))) ids → ids ≡ sources_of now
-settled_put new rest now more test ids up own is right selected =
+pub settled_put : (new : Node) (rest now : List Node) (more : List NodeId) (test : Node → Bool) (ids : List NodeId) → IsAscending (tasks_of rest) → IsGraph now → now ≡ put_node new rest → ((node : Node) → Contains rest node → is_among more node ≡ false → test node ≡ is_unblocked rest node)
+    → AreSelected now (forgotten (ids_of (fronts_after new.set new.task.key now)) (refreshed now more (refreshed now (new.id ∷ []) (but new.id test)))) ids → ids ≡ unblocked_of now
+settled_put new rest now more test ids up graph is right selected =
     let front : List NodeId = ids_of (fronts_after new.set new.task.key now) in
     let first : Node → Bool = refreshed now (new.id ∷ []) (but new.id test) in
-    let all : AreSelected now (refreshed now (new.id ∷ more ++ front) (but new.id test)) ids = select_append now (new.id ∷ []) (more ++ front) (but new.id test) ids (select_append now more front first ids selected) in
-    let left : without new.id now ≡ rest = ap (without new.id) is ∙ without_put new rest (subst HaveOwnIds is own) in
+    let has : Contains now new = subst (λ (l : List Node). Contains l new) (sym is) (in_put_new new rest) in
+    let last : AreSelected now (refreshed now front (refreshed now more first)) ids = fronts_forgotten new now (refreshed now more first) ids graph has selected in
+    let all : AreSelected now (refreshed now (new.id ∷ more ++ front) (but new.id test)) ids = select_append (is_unblocked now) now (new.id ∷ []) (more ++ front) (but new.id test) ids (select_append (is_unblocked now) now more front first ids last) in
+    let left : without new.id now ≡ rest = ap (without new.id) is ∙ without_put new rest (subst HaveOwnIds is graph.own_ids) in
     settled now (new.id ∷ more ++ front) (but new.id test) ids (λ node has apart.
     let tests = neither (is_at new.id node) (is_among (more ++ front) node) apart in
     let fronts = neither (is_among more node) (is_among front node) (sym (among_append more front node) ∙ tests.1) in
     let in_rest : Contains rest node = subst (λ (l : List Node). Contains l node) left (in_filter (λ n. not (is_at new.id n)) now node has (ap not tests.0)) in
     let outside : is_among (ids_of (fronts_after new.set new.task.key rest)) node ≡ false = ap (λ l. is_among (ids_of l) node) (sym (ap (fronts_after new.set new.task.key) is ∙ fronts_put new.set new rest)) ∙ fronts.1 in
-    but_same new.id test node tests.0 ∙ right node in_rest fronts.0 ∙ sym (source_outside new rest node up in_rest outside) ∙ ap (λ l. is_source l node) (sym is)) all
+    but_same new.id test node tests.0 ∙ right node in_rest fronts.0 ∙ sym (unblocked_outside new rest node up in_rest outside) ∙ ap (λ l. is_unblocked l node) (sym is)) all
 
 -- ---- after a node went
 
 -- the others are sources as before, but for the fronts
-pub source_without : (id : NodeId) (gone : Node) (nodes : List Node) (node : Node) → IsGraph nodes → node_at nodes id ≡ Some gone → Contains (without id nodes) node → is_among (ids_of (fronts_after gone.set gone.task.key (without id nodes))) node ≡ false
-    → is_source nodes node ≡ is_source (without id nodes) node
-source_without id gone nodes node graph is has outside =
-    ap (λ l. is_source l node) (sym (put_without id nodes gone graph is)) ∙ source_outside gone (without id nodes) node (ascending_filtered (λ n. not (is_at id n)) nodes graph.ascending) has outside
+pub unblocked_without : (id : NodeId) (gone : Node) (nodes : List Node) (node : Node) → IsGraph nodes → node_at nodes id ≡ Some gone → Contains (without id nodes) node → is_among (ids_of (fronts_after gone.set gone.task.key (without id nodes))) node ≡ false
+    → is_unblocked nodes node ≡ is_unblocked (without id nodes) node
+unblocked_without id gone nodes node graph is has outside =
+    ap (λ l. is_unblocked l node) (sym (put_without id nodes gone graph is)) ∙ unblocked_outside gone (without id nodes) node (ascending_filtered (λ n. not (is_at id n)) nodes graph.ascending) has outside
 
-pub settled_without : (id : NodeId) (gone : Node) (nodes now : List Node) (ids : List NodeId) → IsGraph nodes → node_at nodes id ≡ Some gone → now ≡ without id nodes → AreSelected now (refreshed now (ids_of (fronts_after gone.set gone.task.key now)) (is_source nodes)) ids → ids ≡ sources_of now
+pub settled_without : (id : NodeId) (gone : Node) (nodes now : List Node) (ids : List NodeId) → IsGraph nodes → node_at nodes id ≡ Some gone → now ≡ without id nodes → AreSelected now (refreshed now (ids_of (fronts_after gone.set gone.task.key now)) (is_unblocked nodes)) ids → ids ≡ unblocked_of now
 settled_without id gone nodes now ids graph is are selected =
-    settled now (ids_of (fronts_after gone.set gone.task.key now)) (is_source nodes) ids (λ node has apart.
-    source_without id gone nodes node graph is (subst (λ (l : List Node). Contains l node) are has) (ap (λ l. is_among (ids_of (fronts_after gone.set gone.task.key l)) node) (sym are) ∙ apart) ∙ ap (λ l. is_source l node) (sym are)) selected
+    settled now (ids_of (fronts_after gone.set gone.task.key now)) (is_unblocked nodes) ids (λ node has apart.
+    unblocked_without id gone nodes node graph is (subst (λ (l : List Node). Contains l node) are has) (ap (λ l. is_among (ids_of (fronts_after gone.set gone.task.key l)) node) (sym are) ∙ apart) ∙ ap (λ l. is_unblocked l node) (sym are)) selected
 
 -- ---- after a node's set changed
 
@@ -181,32 +198,26 @@ blocked_exchanged gone set rest node up has gone_out come_out =
     blocked_put gone rest node ∙ by_case _ _ _ refl refl refl ∙ sym (blocked_put new rest node)
 
 pub settled_exchanged : (id : NodeId) (gone : Node) (set : Accesses) (nodes now : List Node) (ids : List NodeId) → IsGraph nodes → IsGraph now → node_at nodes id ≡ Some gone → now ≡ with_sets (record { node = id; set = set } ∷ []) nodes
-    → AreSelected now (refreshed now (ids_of (fronts_after (lacking set gone.set) gone.task.key now)) (refreshed now (ids_of (fronts_after (lacking gone.set set) gone.task.key now)) (refreshed now (id ∷ []) (but id (is_source nodes))))) ids → ids ≡ sources_of now
+    → AreSelected now (refreshed now (ids_of (fronts_after (lacking set gone.set) gone.task.key now)) (refreshed now (ids_of (fronts_after (lacking gone.set set) gone.task.key now)) (refreshed now (id ∷ []) (but id (is_unblocked nodes))))) ids → ids ≡ unblocked_of now
 settled_exchanged id gone set nodes now ids graph after is are selected =
     let rest : List Node = without id nodes in
     let new : Node = record gone { set = set } in
     let put : now ≡ put_node new rest = are ∙ changed_put id gone set nodes graph is in
     let left : List NodeId = ids_of (fronts_after (lacking gone.set set) gone.task.key now) in
     let come : List NodeId = ids_of (fronts_after (lacking set gone.set) gone.task.key now) in
-    let first : Node → Bool = refreshed now (id ∷ []) (but id (is_source nodes)) in
-    let all : AreSelected now (refreshed now (id ∷ left ++ come) (but id (is_source nodes))) ids = select_append now (id ∷ []) (left ++ come) (but id (is_source nodes)) ids (select_append now left come first ids selected) in
+    let first : Node → Bool = refreshed now (id ∷ []) (but id (is_unblocked nodes)) in
+    let all : AreSelected now (refreshed now (id ∷ left ++ come) (but id (is_unblocked nodes))) ids = select_append (is_unblocked now) now (id ∷ []) (left ++ come) (but id (is_unblocked nodes)) ids (select_append (is_unblocked now) now left come first ids selected) in
     let up : IsAscending (tasks_of rest) = ascending_filtered (λ n. not (is_at id n)) nodes graph.ascending in
-    settled now (id ∷ left ++ come) (but id (is_source nodes)) ids (λ node has apart.
+    settled now (id ∷ left ++ come) (but id (is_unblocked nodes)) ids (λ node has apart.
     let tests = neither (is_at id node) (is_among (left ++ come) node) apart in
     let fronts = neither (is_among left node) (is_among come node) (sym (among_append left come node) ∙ tests.1) in
     let in_rest : Contains rest node = subst (λ (l : List Node). Contains l node) (without_changed id gone set nodes now graph after is are) (in_filter (λ n. not (is_at id n)) now node has (ap not tests.0)) in
     let outside : (pairs : Accesses) → is_among (ids_of (fronts_after pairs gone.task.key now)) node ≡ false → is_among (ids_of (fronts_after pairs gone.task.key rest)) node ≡ false =
     λ pairs out. ap (λ l. is_among (ids_of l) node) (sym (ap (fronts_after pairs gone.task.key) put ∙ fronts_put pairs new rest)) ∙ out in
-    but_same id (is_source nodes) node tests.0 ∙ ap (λ l. is_source l node) (sym (put_without id nodes gone graph is))
-    ∙ ap (λ b. not node.running && not b) (blocked_exchanged gone set rest node up in_rest (outside (lacking gone.set set) fronts.0) (outside (lacking set gone.set) fronts.1)) ∙ ap (λ l. is_source l node) (sym put)) all
+    but_same id (is_unblocked nodes) node tests.0 ∙ ap (λ l. is_unblocked l node) (sym (put_without id nodes gone graph is))
+    ∙ ap not (blocked_exchanged gone set rest node up in_rest (outside (lacking gone.set set) fronts.0) (outside (lacking set gone.set) fronts.1)) ∙ ap (λ l. is_unblocked l node) (sym put)) all
 
 -- ---- after a node started
-
-start_same : (id : NodeId) (node : Node) → is_at id node ≡ false → start id node ≡ node
-start_same id node apart = ap (λ b. let n : Node = cond b (record node { running = true }) node in n) apart
-
-start_runs : (id : NodeId) (node : Node) → is_at id node ≡ true → (start id node).running ≡ true
-start_runs id node at = ap (λ b. let n : Node = cond b (record node { running = true }) node in n.running) at
 
 same_set : (id : NodeId) (node : Node) → (start id node).set ≡ node.set
 same_set id node = elim (is_at id node) as (λ test. (let n : Node = cond test (record node { running = true }) node in n.set) ≡ node.set) [ true ↦ refl | false ↦ refl ]
@@ -223,22 +234,22 @@ any_started id key set (node ∷ nodes) =
       | false ↦ rest
     ]
 
--- its start makes it no source and changes no other
-pub sources_started : (id : NodeId) (nodes : List Node) (ids : List NodeId) → AreSelected (without id nodes) (is_source nodes) ids → ids ≡ sources_of (started id nodes)
-sources_started id nodes ids is = is ∙ ap ids_of (sym (each nodes))
+-- its start unblocks and blocks none
+pub unblocked_started : (id : NodeId) (nodes : List Node) → unblocked_of (started id nodes) ≡ unblocked_of nodes
+unblocked_started id nodes = each nodes
   where
-    each : (some : List Node) → filter (is_source (started id nodes)) (started id some) ≡ filter (is_source nodes) (without id some)
+    each : (some : List Node) → ids_of (filter (is_unblocked (started id nodes)) (started id some)) ≡ ids_of (filter (is_unblocked nodes) some)
     each [] = refl
     each (node ∷ some) =
         let now : List Node = started id nodes in
-        let rest : List Node = started id some in
-        let by_case : (at : Bool) → is_at id node ≡ at → filter (is_source now) (start id node ∷ rest) ≡ filter (is_source nodes) (cond (not at) (node ∷ without id some) (without id some)) = elim [
-          | true ↦ λ at. ap (λ b. cond (not b && not (is_blocked now (start id node))) (start id node ∷ filter (is_source now) rest) (filter (is_source now) rest)) (start_runs id node at) ∙ each some
-          | false ↦ λ apart.
-              let blocked : is_blocked now node ≡ is_blocked nodes node = any_started id node.task.key node.set nodes in
-              ap (λ n. filter (is_source now) (n ∷ rest)) (start_same id node apart) ∙ (λ i. cond (not node.running && not (blocked i)) (node ∷ each some i) (each some i))
-        ] in
-        by_case (is_at id node) refl
+        let behind : List Node = filter (is_unblocked now) (started id some) in
+        let same : is_unblocked now (start id node) ≡ is_unblocked nodes node =
+        (λ i. not (list_any (λ other. conflicts_with other.set (same_set id node i)) (earlier_than (start_keeps_task id node i).key now))) ∙ ap not (any_started id node.task.key node.set nodes) in
+        ap (λ b. ids_of (cond b (start id node ∷ behind) behind)) same
+        ∙ elim (is_unblocked nodes node) as (λ b. ids_of (cond b (start id node ∷ behind) behind) ≡ ids_of (cond b (node ∷ filter (is_unblocked nodes) some) (filter (is_unblocked nodes) some))) [
+          | true ↦ λ i. start_keeps_id id node i ∷ each some i
+          | false ↦ each some
+        ]
 
 -- and leaves it where it is filed
 clashing_started : (id : NodeId) (loc : ℕ) (access : Access) (nodes : List Node) → ids_of (clashing_at loc access (started id nodes)) ≡ ids_of (clashing_at loc access nodes)
@@ -258,3 +269,29 @@ filed_started id nodes locations filed loc access = filed loc access ∙ sym (cl
 pub length-started : (id : NodeId) (nodes : List Node) → length (started id nodes) ≡ length nodes
 length-started id [] = refl
 length-started id (node ∷ nodes) = ap suc (length-started id nodes)
+
+-- ---- the marks of the ids
+
+pub marks_put : (new : Node) (nodes : List Node) (marks : ℕ) → HaveMarks nodes marks → new.id.at < marks → HaveMarks (put_node new nodes) marks
+marks_put new [] marks all inside = (inside, tt)
+marks_put new (node ∷ nodes) marks all inside = elim (is_before new.task.key node) as (λ b. HaveMarks (cond b (node ∷ put_node new nodes) (new ∷ node ∷ nodes)) marks) [
+  | true ↦ (all.0, marks_put new nodes marks all.1 inside)
+  | false ↦ (inside, all)
+]
+
+pub marks_without : (id : NodeId) (nodes : List Node) (marks : ℕ) → HaveMarks nodes marks → HaveMarks (without id nodes) marks
+marks_without id [] marks all = tt
+marks_without id (node ∷ nodes) marks all = elim (is_at id node) as (λ b. HaveMarks (cond (not b) (node ∷ without id nodes) (without id nodes)) marks) [
+  | true ↦ marks_without id nodes marks all.1
+  | false ↦ (all.0, marks_without id nodes marks all.1)
+]
+
+-- a change that keeps the ids keeps the marks
+pub marks_kept : (nodes now : List Node) (marks : ℕ) → ids_of now ≡ ids_of nodes → HaveMarks nodes marks → HaveMarks now marks
+marks_kept nodes now marks same all = subst (AllByRecursion (λ (id : NodeId). id.at < marks)) (sym same) all
+
+pub ids-started : (id : NodeId) (nodes : List Node) → ids_of (started id nodes) ≡ ids_of nodes
+ids-started id = ids-map (start id) (start_keeps_id id)
+
+pub ids-changed : (changes : List SetChange) (nodes : List Node) → ids_of (with_sets changes nodes) ≡ ids_of nodes
+ids-changed changes = ids-map (changed changes) (λ node. refl)

@@ -1,12 +1,11 @@
-ghost use Rattle.std.specs.Prelude.{◌≡◌, ◌<◌, ◌≤◌, ℕ, Bool, Some, length};
-ghost use Rattle.std.specs.VecDeque.{deque_capacity};
+ghost use Rattle.std.specs.Prelude.{◌≡◌, ◌<◌, ◌≤◌, ℕ, Bool, Some};
 ghost use Rattle.rw_sets.specs.Accesses.{IsAscending, access_at};
 ghost use Rattle.kdg_graph.specs.Exchange.{is_same, lacking};
 ghost use Rattle.kdg_graph.specs.Fronts.{fronts_after};
 ghost use Rattle.kdg_graph.specs.Locations.{AreFiled};
 ghost use Rattle.kdg_graph.specs.Node.{Node};
 ghost use Rattle.kdg_graph.specs.Nodes.{IsGraph, ids_of};
-ghost use Rattle.kdg_graph.specs.Selected.{ArePartOf, AreSelected, refreshed};
+ghost use Rattle.kdg_graph.specs.Selected.{AreSelected, AreSome, refreshed};
 
 use crate::locations::Locations;
 use crate::ordered_nodes::OrderedNodes;
@@ -61,11 +60,12 @@ pub(crate) fn refresh_lacking(
 )
     requires graph { IsGraph nodes.now.nodes }
     requires filed { AreFiled nodes.now.nodes locations.now.locations.items }
-    requires part { ArePartOf nodes.now.nodes sources.old.lane.ids.items }
-    requires room { length nodes.now.nodes ≤ deque_capacity sources.old.lane.ids }
-    ensures ids { (test : Node → Bool) → AreSelected nodes.now.nodes test sources.old.lane.ids.items
-        → AreSelected nodes.now.nodes (refreshed nodes.now.nodes (ids_of (fronts_after (lacking set.now other.now) key.now nodes.now.nodes)) test) sources.new.lane.ids.items }
-    ensures room { deque_capacity sources.old.lane.ids ≤ deque_capacity sources.new.lane.ids }
+    requires some { AreSome nodes.now.nodes sources.old }
+    ensures ids { (test : Node → Bool) → AreSelected nodes.now.nodes test sources.old.ids
+        → AreSelected nodes.now.nodes (refreshed nodes.now.nodes (ids_of (fronts_after (lacking set.now other.now) key.now nodes.now.nodes)) test) sources.new.ids }
+    ensures some { AreSome nodes.now.nodes sources.new }
+    ensures room { sources.old.room ≤ sources.new.room }
+    ensures marks { sources.new.marks ≡ sources.old.marks }
 {
     let mut walk = SetWalk::new(other);
     for pair in set.items() {

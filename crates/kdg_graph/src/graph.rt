@@ -19,9 +19,11 @@ use task_order::{Key, Task, TaskList, key_order, put_in_laws, without_laws};
 /// where the task is running.
 ///
 /// A node is found by its id at once, and by its key in the logarithm of their number. At each
-/// location the graph has those that name it in order, and it keeps the sources: where a node comes,
-/// goes or changes its set, only those are tested again that it may block alone, which at each
-/// location are the nodes behind it up to the first that writes there.
+/// location the graph has those that name it in order, and it keeps the unblocked nodes, of which
+/// the sources are those that are not running. So a start moves nothing; where a node goes or
+/// changes its set, only those are tested again that it may have blocked alone, which at each
+/// location are the nodes behind it up to the first that writes there; and one that comes blocks
+/// these without a test.
 #[derive(Drop)]
 pub struct Graph {
     nodes: NodeList,
@@ -119,7 +121,7 @@ impl Graph {
         ensures sources { result ≡ sources_of self.now }
         ensures graph { IsGraph self.now }
     {
-        Sources::of(self.nodes.sources())
+        self.nodes.sources()
     }
 
     /// The later nodes whose recorded sets conflict with that of a node.

@@ -17,14 +17,14 @@ mod node_list;
 mod ordered_nodes;
 mod room;
 mod source_lane;
-mod walk;
+mod sources;
 
 pub use change::{Fresh, SetChange};
 pub use graph::Graph;
 pub use laters::Laters;
 pub use laws::{later_laws, node_laws, put_laws, rewrite_laws, source_laws};
 pub use node_id::NodeId;
-pub use walk::Sources;
+pub use sources::Sources;
 
 #[cfg(test)]
 mod plain;

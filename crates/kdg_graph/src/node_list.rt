@@ -8,19 +8,18 @@ ghost use Rattle.kdg_graph.specs.Locations.{AreFiled, HasRoom, HaveNoLess, room_
 ghost use Rattle.kdg_graph.specs.Rewrite.{AreAdded, AreOfOwnNodes, HaveNewKeys, without, with_sets};
 
 use crate::exchange::refresh_lacking;
-use crate::lane::Lane;
 use crate::locations::Locations;
 use crate::ordered_nodes::OrderedNodes;
 use crate::room::{reserve_changed, reserve_fresh};
 use crate::source_lane::SourceLane;
-use crate::{Fresh, NodeId, SetChange};
+use crate::{Fresh, NodeId, SetChange, Sources};
 use kdg_text::NoRoom;
 use rw_sets::{RwSet, lookup_laws};
 use std::alloc::Global;
 use std::marker::Model;
 use task_order::Task;
 
-/// The nodes of a graph, the order of those of each location, and the sources.
+/// The nodes of a graph, the order of those of each location, and the unblocked ones.
 #[derive(Drop)]
 pub(crate) struct NodeList {
     nodes: OrderedNodes,
@@ -30,22 +29,21 @@ pub(crate) struct NodeList {
 
 impl Model for NodeList {
     ghost use Rattle.std.specs.Prelude.{◌-◌, length};
-    ghost use Rattle.std.specs.VecDeque.{deque_capacity};
     ghost use Rattle.kdg_graph.specs.Kept.{IsKept};
     ghost use Rattle.kdg_graph.specs.Locations.{rooms_of};
-    ghost use Rattle.kdg_graph.specs.NodeStock.{NodeStock};
+    ghost use Rattle.kdg_graph.specs.NodeStock.{NodeStock, numbers_with_marks};
 
     ghost Value = { NodeStock };
 
     ghost view = { λ l. record {
       nodes = l.nodes.nodes;
       places = l.nodes.places;
-      numbers = l.nodes.numbers;
-      marks = deque_capacity l.sources.lane.ids - length l.nodes.nodes;
+      numbers = numbers_with_marks l.nodes.numbers l.nodes.keys l.sources.marks;
+      marks = l.sources.room - length l.nodes.nodes;
       rooms = rooms_of l.locations.locations.items;
     } };
 
-    ghost invariant = { λ l. IsKept l.nodes.nodes l.locations.locations.items l.sources.lane.ids.items (deque_capacity l.sources.lane.ids) };
+    ghost invariant = { λ l. IsKept l.nodes.nodes l.locations.locations.items l.sources };
 }
 
 impl NodeList {
@@ -76,11 +74,11 @@ impl NodeList {
     }
 
     /// The sources.
-    pub(crate) fn sources(&self) -> &Lane
-        ensures sources { result.now.ids.items ≡ sources_of self.now.nodes }
+    pub(crate) fn sources(&self) -> Sources<'_>
+        ensures sources { result ≡ sources_of self.now.nodes }
         ensures graph { IsGraph self.now.nodes }
     {
-        self.sources.lane()
+        Sources::among(&self.nodes, self.sources.lane())
     }
 
     /// Makes room for one more node with the set.
@@ -123,7 +121,7 @@ impl NodeList {
     {
         self.nodes.reserve(additional)?;
         let nodes = self.nodes.len().checked_add(additional).ok_or(NoRoom)?;
-        self.sources.reserve(nodes)
+        self.sources.reserve(nodes, self.nodes.keys())
     }
 
     /// Puts a node at its place, where `reserve` made room. It takes no memory.
@@ -147,7 +145,7 @@ impl NodeList {
         let node = self.nodes.entry(id);
         self.sources.refresh(&self.nodes, &self.locations, id);
         self.sources
-            .refresh_fronts(&self.nodes, &self.locations, &node.set, &node.task.key);
+            .forget_fronts(&self.nodes, &self.locations, &node.set, &node.task.key);
         id
     }
 
@@ -260,13 +258,12 @@ impl NodeList {
         }
     }
 
-    /// Marks a node as running, which makes it no source.
+    /// Marks a node as running, which makes it no source, but leaves it where it is kept.
     pub(crate) fn mark_running(&mut self, id: NodeId)
         requires { HasNode self.old.nodes id }
         ensures nodes { self.new.nodes ≡ started id self.old.nodes }
         ensures graph { IsGraph self.new.nodes }
     {
-        self.sources.forget(&self.nodes, id);
         self.nodes.mark_running(id);
     }
 }

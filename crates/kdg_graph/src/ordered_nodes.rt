@@ -39,7 +39,7 @@ impl Model for OrderedNodes {
 
     ghost Value = { NodeShelf };
 
-    ghost view = { λ o. record { nodes = nodes_in o.slots o.order.ids.items; places = deque_capacity o.order.ids - deque_len o.order.ids; numbers = o.slots.capacity - slab_len o.slots } };
+    ghost view = { λ o. record { nodes = nodes_in o.slots o.order.ids.items; places = deque_capacity o.order.ids - deque_len o.order.ids; numbers = o.slots.capacity - slab_len o.slots; keys = o.slots.capacity } };
 
     ghost invariant = { λ o. IsStored o.slots o.order.ids.items };
 }
@@ -61,6 +61,13 @@ impl OrderedNodes {
         ensures graph { IsGraph self.now.nodes }
     {
         self.order.len()
+    }
+
+    /// The number that each id, and that of each node to come until `reserve`, is below.
+    pub(crate) fn keys(&self) -> usize
+        ensures { result ≡ self.now.keys }
+    {
+        self.slots.capacity()
     }
 
     /// The node at a place in the order.
@@ -236,6 +243,8 @@ impl OrderedNodes {
         ensures nodes { self.new.nodes ≡ put_node (new_node result task set) self.old.nodes }
         ensures places { self.old.places ≤ self.new.places + 1 }
         ensures numbers { self.old.numbers ≤ self.new.numbers + 1 }
+        ensures keys { self.new.keys ≡ self.old.keys }
+        ensures key { result.at < self.new.keys }
         ensures there { HasNode self.new.nodes result }
         ensures graph { IsGraph self.new.nodes }
     {
@@ -261,6 +270,7 @@ impl OrderedNodes {
         ensures nodes { self.new.nodes ≡ remove self.old.nodes place }
         ensures places { self.old.places ≤ self.new.places }
         ensures numbers { self.old.numbers ≤ self.new.numbers }
+        ensures keys { self.new.keys ≡ self.old.keys }
         ensures graph { IsGraph self.new.nodes }
     {
         let id = self.order.remove(place);
@@ -274,6 +284,7 @@ impl OrderedNodes {
         ensures nodes { self.new.nodes ≡ with_sets (record { node = id; set = set } ∷ []) self.old.nodes }
         ensures places { self.old.places ≤ self.new.places }
         ensures numbers { self.old.numbers ≤ self.new.numbers }
+        ensures keys { self.new.keys ≡ self.old.keys }
         ensures graph { IsGraph self.new.nodes }
     {
         let _ascending = set.items();
@@ -287,6 +298,7 @@ impl OrderedNodes {
         ensures nodes { self.new.nodes ≡ started id self.old.nodes }
         ensures places { self.old.places ≤ self.new.places }
         ensures numbers { self.old.numbers ≤ self.new.numbers }
+        ensures keys { self.new.keys ≡ self.old.keys }
         ensures graph { IsGraph self.new.nodes }
     {
         let named = &mut self.slots[id.at];

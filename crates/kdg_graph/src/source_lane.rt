@@ -1,12 +1,10 @@
-ghost use Rattle.std.specs.Prelude.{◌≡◌, ◌∷◌, ◌≤◌, [], Bool, List, length, IfSome, OnOk};
-ghost use Rattle.std.specs.VecDeque.{deque_capacity};
+ghost use Rattle.std.specs.Prelude.{◌≡◌, ◌∷◌, ◌≤◌, ◌<◌, ◌==◌, [], Bool, true, OnOk};
+ghost use Rattle.std.specs.List.{list_any};
 ghost use Rattle.kdg_graph.specs.Node.{Node};
-ghost use Rattle.kdg_graph.specs.Nodes.{HasNode, IsGraph, ids_of, node_at};
-ghost use Rattle.kdg_graph.specs.Edges.{is_source};
+ghost use Rattle.kdg_graph.specs.Nodes.{HasNode, IsGraph, ids_of};
 ghost use Rattle.kdg_graph.specs.Fronts.{fronts_after};
 ghost use Rattle.kdg_graph.specs.Locations.{AreFiled, front_after};
-ghost use Rattle.kdg_graph.specs.Rewrite.{without};
-ghost use Rattle.kdg_graph.specs.Selected.{ArePartOf, AreSelected, refreshed};
+ghost use Rattle.kdg_graph.specs.Selected.{AreSelected, AreSome, forgotten, refreshed, retested};
 
 use crate::NodeId;
 use crate::lane::Lane;
@@ -15,66 +13,127 @@ use crate::ordered_nodes::OrderedNodes;
 use kdg_text::NoRoom;
 use rw_sets::{Access, RwSet};
 use std::alloc::Global;
+use std::marker::Model;
 use task_order::Key;
 
-/// The ids of the sources of a graph, in key order, which are tested anew where a node comes, goes
-/// or changes: the node, and the fronts behind it at the locations of its set.
+/// The ids of the nodes of a graph that no earlier node is in conflict with, in key order. Where a
+/// node comes, goes or changes, it and the fronts behind it at the locations of its set are tested
+/// anew; only an id that comes in or goes out is looked for.
 #[derive(Drop)]
 pub(crate) struct SourceLane {
     lane: Lane,
+    /// Whether each id is in the list, by its number.
+    listed: Vec<bool>,
+}
+
+impl Model for SourceLane {
+    ghost use Rattle.std.specs.Prelude.{length};
+    ghost use Rattle.std.specs.VecDeque.{deque_capacity};
+    ghost use Rattle.kdg_graph.specs.Selected.{AreMarked, MarkedIds};
+
+    ghost Value = { MarkedIds };
+
+    ghost view = { λ s. record {
+      ids = s.lane.ids.items;
+      room = deque_capacity s.lane.ids;
+      marks = length s.listed.items;
+    } };
+
+    ghost invariant = { λ s. AreMarked s.lane.ids.items s.listed.items };
 }
 
 impl SourceLane {
     /// No ids, which take no memory.
     pub(crate) fn new(alloc: Global) -> SourceLane
-        ensures { result.lane.ids.items ≡ [] }
+        ensures { result.ids ≡ [] }
     {
         SourceLane {
             lane: Lane::new(alloc),
+            listed: Vec::new(alloc),
         }
     }
 
     /// The ids.
     pub(crate) fn lane(&self) -> &Lane
-        ensures { result.now.ids.items ≡ self.now.lane.ids.items }
+        ensures { result.now.ids.items ≡ self.now.ids }
     {
         &self.lane
     }
 
-    /// Makes room for the ids of so many nodes.
-    pub(crate) fn reserve(&mut self, nodes: usize) -> Result<(), NoRoom>
-        ensures room { OnOk result (nodes ≤ deque_capacity self.new.lane.ids) }
-        ensures no_less { deque_capacity self.old.lane.ids ≤ deque_capacity self.new.lane.ids }
-        ensures ids { self.new.lane.ids.items ≡ self.old.lane.ids.items }
+    /// Makes room for the ids of so many nodes, and marks for ids below a number.
+    pub(crate) fn reserve(&mut self, nodes: usize, below: usize) -> Result<(), NoRoom>
+        ensures room { OnOk result (nodes ≤ self.new.room) }
+        ensures marks { OnOk result (below ≤ self.new.marks) }
+        ensures no_less { self.old.room ≤ self.new.room }
+        ensures no_fewer { self.old.marks ≤ self.new.marks }
+        ensures ids { self.new.ids ≡ self.old.ids }
     {
         let len = self.lane.len();
-        self.lane.reserve(nodes.saturating_sub(len))
+        self.lane.reserve(nodes.saturating_sub(len))?;
+        if self.listed.len() < below {
+            self.listed.resize(below, false)?;
+        }
+        Ok(())
     }
 
     /// Takes the id of a node out, if it is there.
     pub(crate) fn forget(&mut self, nodes: &OrderedNodes, id: NodeId)
         requires graph { IsGraph nodes.now.nodes }
         requires there { HasNode nodes.now.nodes id }
-        ensures ids { (test : Node → Bool) → AreSelected nodes.now.nodes test self.old.lane.ids.items → AreSelected (without id nodes.now.nodes) test self.new.lane.ids.items }
-        ensures room { deque_capacity self.old.lane.ids ≤ deque_capacity self.new.lane.ids }
+        requires some { AreSome nodes.now.nodes self.old }
+        ensures ids { (test : Node → Bool) → AreSelected nodes.now.nodes test self.old.ids → AreSelected nodes.now.nodes (forgotten (id ∷ []) test) self.new.ids }
+        ensures some { AreSome nodes.now.nodes self.new }
+        ensures room { self.old.room ≤ self.new.room }
+        ensures marks { self.new.marks ≡ self.old.marks }
     {
-        nodes.take_from(&mut self.lane, id);
+        if self.is_listed(id) {
+            nodes.take_from(&mut self.lane, id);
+            self.listed[id.at] = false;
+        }
     }
 
-    /// Puts the id of a node in or takes it out, by whether the node is a source.
+    /// Puts the id of a node in, if it is not there.
+    fn list(&mut self, nodes: &OrderedNodes, id: NodeId)
+        requires graph { IsGraph nodes.now.nodes }
+        requires there { HasNode nodes.now.nodes id }
+        requires some { AreSome nodes.now.nodes self.old }
+        ensures ids { (test : Node → Bool) → AreSelected nodes.now.nodes test self.old.ids → AreSelected nodes.now.nodes (retested (λ _. true) (id ∷ []) test) self.new.ids }
+        ensures some { AreSome nodes.now.nodes self.new }
+        ensures room { self.old.room ≤ self.new.room }
+        ensures marks { self.new.marks ≡ self.old.marks }
+    {
+        if !self.is_listed(id) {
+            let _counted = self.lane.len();
+            nodes.put_into(&mut self.lane, id);
+            self.listed[id.at] = true;
+        }
+    }
+
+    /// Whether an id is there.
+    fn is_listed(&self, id: NodeId) -> bool
+        ensures { result ≡ list_any (λ other. id.at == other.at) self.now.ids }
+    {
+        match self.listed.get(id.at) {
+            Some(mark) => *mark,
+            None => false,
+        }
+    }
+
+    /// Puts the id of a node in or takes it out, by whether an earlier node is in conflict with it.
     pub(crate) fn refresh(&mut self, nodes: &OrderedNodes, locations: &Locations, id: NodeId)
         requires graph { IsGraph nodes.now.nodes }
         requires there { HasNode nodes.now.nodes id }
         requires filed { AreFiled nodes.now.nodes locations.now.locations.items }
-        requires part { ArePartOf nodes.now.nodes self.old.lane.ids.items }
-        requires room { length nodes.now.nodes ≤ deque_capacity self.old.lane.ids }
-        ensures ids { (test : Node → Bool) → AreSelected nodes.now.nodes test self.old.lane.ids.items → AreSelected nodes.now.nodes (refreshed nodes.now.nodes (id ∷ []) test) self.new.lane.ids.items }
-        ensures room { deque_capacity self.old.lane.ids ≤ deque_capacity self.new.lane.ids }
+        requires some { AreSome nodes.now.nodes self.old }
+        ensures ids { (test : Node → Bool) → AreSelected nodes.now.nodes test self.old.ids → AreSelected nodes.now.nodes (refreshed nodes.now.nodes (id ∷ []) test) self.new.ids }
+        ensures some { AreSome nodes.now.nodes self.new }
+        ensures room { self.old.room ≤ self.new.room }
+        ensures marks { self.new.marks ≡ self.old.marks }
     {
-        nodes.take_from(&mut self.lane, id);
-        let _counted = self.lane.len();
-        if is_source(nodes, locations, id) {
-            nodes.put_into(&mut self.lane, id);
+        if locations.is_blocked(nodes, id) {
+            self.forget(nodes, id);
+        } else {
+            self.list(nodes, id);
         }
     }
 
@@ -89,11 +148,12 @@ impl SourceLane {
     )
         requires graph { IsGraph nodes.now.nodes }
         requires filed { AreFiled nodes.now.nodes locations.now.locations.items }
-        requires part { ArePartOf nodes.now.nodes self.old.lane.ids.items }
-        requires room { length nodes.now.nodes ≤ deque_capacity self.old.lane.ids }
-        ensures ids { (test : Node → Bool) → AreSelected nodes.now.nodes test self.old.lane.ids.items
-            → AreSelected nodes.now.nodes (refreshed nodes.now.nodes (ids_of (front_after loc access key.now nodes.now.nodes)) test) self.new.lane.ids.items }
-        ensures room { deque_capacity self.old.lane.ids ≤ deque_capacity self.new.lane.ids }
+        requires some { AreSome nodes.now.nodes self.old }
+        ensures ids { (test : Node → Bool) → AreSelected nodes.now.nodes test self.old.ids
+            → AreSelected nodes.now.nodes (refreshed nodes.now.nodes (ids_of (front_after loc access key.now nodes.now.nodes)) test) self.new.ids }
+        ensures some { AreSome nodes.now.nodes self.new }
+        ensures room { self.old.room ≤ self.new.room }
+        ensures marks { self.new.marks ≡ self.old.marks }
     {
         let front = locations.front(nodes, loc, access, key);
         for place in front.start..front.end {
@@ -111,25 +171,61 @@ impl SourceLane {
     )
         requires graph { IsGraph nodes.now.nodes }
         requires filed { AreFiled nodes.now.nodes locations.now.locations.items }
-        requires part { ArePartOf nodes.now.nodes self.old.lane.ids.items }
-        requires room { length nodes.now.nodes ≤ deque_capacity self.old.lane.ids }
-        ensures ids { (test : Node → Bool) → AreSelected nodes.now.nodes test self.old.lane.ids.items
-            → AreSelected nodes.now.nodes (refreshed nodes.now.nodes (ids_of (fronts_after set.now key.now nodes.now.nodes)) test) self.new.lane.ids.items }
-        ensures room { deque_capacity self.old.lane.ids ≤ deque_capacity self.new.lane.ids }
+        requires some { AreSome nodes.now.nodes self.old }
+        ensures ids { (test : Node → Bool) → AreSelected nodes.now.nodes test self.old.ids
+            → AreSelected nodes.now.nodes (refreshed nodes.now.nodes (ids_of (fronts_after set.now key.now nodes.now.nodes)) test) self.new.ids }
+        ensures some { AreSome nodes.now.nodes self.new }
+        ensures room { self.old.room ≤ self.new.room }
+        ensures marks { self.new.marks ≡ self.old.marks }
     {
         for pair in set.items() {
             self.refresh_front(nodes, locations, pair.0, pair.1, key);
         }
     }
-}
 
-/// Whether a node is not running and no earlier node is in conflict with it.
-fn is_source(nodes: &OrderedNodes, locations: &Locations, id: NodeId) -> bool
-    requires there { HasNode nodes.now.nodes id }
-    requires filed { AreFiled nodes.now.nodes locations.now.locations.items }
-    ensures { IfSome (node_at nodes.now.nodes id) (λ node. result ≡ is_source nodes.now.nodes node) }
-{
-    let blocked = locations.is_blocked(nodes, id);
-    let node = nodes.entry(id);
-    !node.running && !blocked
+    /// Takes the nodes of the front behind a key at one location out.
+    fn forget_front(
+        &mut self,
+        nodes: &OrderedNodes,
+        locations: &Locations,
+        loc: u32,
+        access: Access,
+        key: &Key,
+    )
+        requires graph { IsGraph nodes.now.nodes }
+        requires filed { AreFiled nodes.now.nodes locations.now.locations.items }
+        requires some { AreSome nodes.now.nodes self.old }
+        ensures ids { (test : Node → Bool) → AreSelected nodes.now.nodes test self.old.ids
+            → AreSelected nodes.now.nodes (forgotten (ids_of (front_after loc access key.now nodes.now.nodes)) test) self.new.ids }
+        ensures some { AreSome nodes.now.nodes self.new }
+        ensures room { self.old.room ≤ self.new.room }
+        ensures marks { self.new.marks ≡ self.old.marks }
+    {
+        let behind = locations.front(nodes, loc, access, key);
+        for place in behind.start..behind.end {
+            self.forget(nodes, locations.at(loc, access, place));
+        }
+    }
+
+    /// Takes the nodes of the fronts behind a key at the locations of a set out.
+    pub(crate) fn forget_fronts(
+        &mut self,
+        nodes: &OrderedNodes,
+        locations: &Locations,
+        set: &RwSet,
+        key: &Key,
+    )
+        requires graph { IsGraph nodes.now.nodes }
+        requires filed { AreFiled nodes.now.nodes locations.now.locations.items }
+        requires some { AreSome nodes.now.nodes self.old }
+        ensures ids { (test : Node → Bool) → AreSelected nodes.now.nodes test self.old.ids
+            → AreSelected nodes.now.nodes (forgotten (ids_of (fronts_after set.now key.now nodes.now.nodes)) test) self.new.ids }
+        ensures some { AreSome nodes.now.nodes self.new }
+        ensures room { self.old.room ≤ self.new.room }
+        ensures marks { self.new.marks ≡ self.old.marks }
+    {
+        for pair in set.items() {
+            self.forget_front(nodes, locations, pair.0, pair.1, key);
+        }
+    }
 }

@@ -26,8 +26,10 @@ loop-pair-preserved-then-has c =
       ascending = c.has.ensures.ascending;
       beside = still_beside ps c.loop-pair.walk.left.now c.has.new.self.left.now c.args.other.now i p up at c.loop-pair.invariant.beside c.has.ensures.beyond;
       ids = λ test selected.
-          subst (λ (pairs : Accesses). AreSelected nodes (refreshed nodes (ids_of (fronts_after pairs c.args.key.now nodes)) test) c.loop-pair.sources.lane.ids.items) (sym (lacking_passed ps c.args.other.now i p inside at has)) (c.loop-pair.invariant.ids test selected);
+          subst (λ (pairs : Accesses). AreSelected nodes (refreshed nodes (ids_of (fronts_after pairs c.args.key.now nodes)) test) c.loop-pair.sources.ids) (sym (lacking_passed ps c.args.other.now i p inside at has)) (c.loop-pair.invariant.ids test selected);
+      some = c.loop-pair.invariant.some;
       room = c.loop-pair.invariant.room;
+      marks = c.loop-pair.invariant.marks;
     }
 
 pub loop-pair-preserved : goal.loop-pair-preserved
@@ -45,7 +47,9 @@ loop-pair-preserved c =
       ascending = c.has.ensures.ascending;
       beside = still_beside ps c.loop-pair.walk.left.now c.has.new.self.left.now c.args.other.now i p up at c.loop-pair.invariant.beside c.has.ensures.beyond;
       ids = λ test selected.
-          lacking_done nodes ps c.args.other.now c.args.key.now i p test c.refresh_front.new.self.lane.ids.items inside at lacks
+          lacking_done nodes ps c.args.other.now c.args.key.now i p test c.refresh_front.new.self.ids inside at lacks
           (c.refresh_front.ensures.ids (refreshed nodes (ids_of (fronts_after (lacking (take i ps) c.args.other.now) c.args.key.now nodes)) test) (c.loop-pair.invariant.ids test selected));
+      some = c.refresh_front.ensures.some;
       room = omega (arith, c.loop-pair.invariant.room, c.refresh_front.ensures.room);
+      marks = c.refresh_front.ensures.marks ∙ c.loop-pair.invariant.marks;
     }

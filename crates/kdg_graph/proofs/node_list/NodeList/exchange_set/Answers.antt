@@ -5,16 +5,15 @@ use Rattle.rw_sets.specs.Accesses.{Accesses, access_at}
 use Rattle.kdg_graph.specs.Node.{Node}
 use Rattle.kdg_graph.specs.NodeStock.{NodeStock}
 use Rattle.kdg_graph.specs.Nodes.{HasNode, ids_of}
-use Rattle.kdg_graph.specs.Edges.{is_source}
 use Rattle.kdg_graph.specs.Exchange.{AreFiledWith, lacking}
 use Rattle.kdg_graph.specs.Fronts.{fronts_after}
 use Rattle.kdg_graph.specs.Locations.{HasRoom, rooms_of}
 use Rattle.kdg_graph.specs.Rewrite.{without}
 use Rattle.kdg_graph.specs.declared.location.Location.{Location}
-use Rattle.kdg_graph.specs.Selected.{AreSelected, refreshed}
+use Rattle.kdg_graph.specs.Selected.{AreSelected, is_unblocked, refreshed}
 use Rattle.kdg_graph.proofs.Exchanging.{filed_before}
 use Rattle.kdg_graph.proofs.Selecting.{but, found_node}
-use Rattle.kdg_graph.proofs.Settling.{found_changed, length-changed, select_but, settled_exchanged, without_changed}
+use Rattle.kdg_graph.proofs.Settling.{found_changed, ids-changed, length-changed, marks_kept, select_but, select_left, settled_exchanged, without_changed}
 use Rattle.kdg_graph.proofs.node_list.NodeList.exchange_set.Goals as goal
 
 pub exchange-requires-clause-there : goal.exchange-requires-clause-there
@@ -51,34 +50,21 @@ entry-node-requires c =
     let gone = found_node nodes c.args.id (subst (λ (stock : NodeStock). HasNode stock.nodes c.args.id) (sym c.self.view_is) c.requires.there) in
     subst IsSome (sym (found_changed c.args.id gone.0 c.args.set nodes c.set_set-before.new.self.nodes c.self.invariant.graph c.set_set-before.ensures.graph gone.1 c.set_set-before.ensures.nodes)) refl
 
-pub refresh-requires-clause-part : goal.refresh-requires-clause-part
-refresh-requires-clause-part c =
+pub refresh-requires-clause-some : goal.refresh-requires-clause-some
+refresh-requires-clause-some c =
     let nodes : List Node = c.self.inside.nodes.nodes in
     let now : List Node = c.set_set-before.new.self.nodes in
     let gone = found_node nodes c.args.id (subst (λ (stock : NodeStock). HasNode stock.nodes c.args.id) (sym c.self.view_is) c.requires.there) in
     let left = without_changed c.args.id gone.0 c.args.set nodes now c.self.invariant.graph c.set_set-before.ensures.graph gone.1 c.set_set-before.ensures.nodes in
-    let others = c.forget.ensures.ids (is_source nodes) c.self.invariant.sources_are in
-    record { test = but c.args.id (is_source nodes); selected = select_but now (is_source nodes) c.args.id c.forget.new.self.lane.ids.items (subst (λ (l : List Node). AreSelected l (is_source nodes) c.forget.new.self.lane.ids.items) (sym left) others) }
-
-pub refresh_lacking-requires-clause-part : goal.refresh_lacking-requires-clause-part
-refresh_lacking-requires-clause-part c =
-    let nodes : List Node = c.self.inside.nodes.nodes in
-    let now : List Node = c.set_set-before.new.self.nodes in
-    let gone = found_node nodes c.args.id (subst (λ (stock : NodeStock). HasNode stock.nodes c.args.id) (sym c.self.view_is) c.requires.there) in
-    let left = without_changed c.args.id gone.0 c.args.set nodes now c.self.invariant.graph c.set_set-before.ensures.graph gone.1 c.set_set-before.ensures.nodes in
-    let others = c.forget.ensures.ids (is_source nodes) c.self.invariant.sources_are in
-    let all = select_but now (is_source nodes) c.args.id c.forget.new.self.lane.ids.items (subst (λ (l : List Node). AreSelected l (is_source nodes) c.forget.new.self.lane.ids.items) (sym left) others) in
-    record { test = _; selected = c.refresh.ensures.ids (but c.args.id (is_source nodes)) all }
-
-pub refresh_lacking-requires-2-clause-part : goal.refresh_lacking-requires-2-clause-part
-refresh_lacking-requires-2-clause-part c =
-    let nodes : List Node = c.self.inside.nodes.nodes in
-    let now : List Node = c.set_set-before.new.self.nodes in
-    let gone = found_node nodes c.args.id (subst (λ (stock : NodeStock). HasNode stock.nodes c.args.id) (sym c.self.view_is) c.requires.there) in
-    let left = without_changed c.args.id gone.0 c.args.set nodes now c.self.invariant.graph c.set_set-before.ensures.graph gone.1 c.set_set-before.ensures.nodes in
-    let others = c.forget.ensures.ids (is_source nodes) c.self.invariant.sources_are in
-    let all = select_but now (is_source nodes) c.args.id c.forget.new.self.lane.ids.items (subst (λ (l : List Node). AreSelected l (is_source nodes) c.forget.new.self.lane.ids.items) (sym left) others) in
-    record { test = _; selected = c.refresh_lacking.ensures.ids _ (c.refresh.ensures.ids (but c.args.id (is_source nodes)) all) }
+    let others = select_left nodes (is_unblocked nodes) c.args.id c.forget.new.self.ids (c.forget.ensures.ids (is_unblocked nodes) c.self.invariant.unblocked_are) in
+    let changes = record { node = c.args.id; set = c.args.set } ∷ [] in
+    let long = ap length c.set_set-before.ensures.nodes ∙ length-changed changes nodes in
+    record {
+      test = but c.args.id (is_unblocked nodes);
+      selected = select_but now (is_unblocked nodes) c.args.id c.forget.new.self.ids (subst (λ (l : List Node). AreSelected l (is_unblocked nodes) c.forget.new.self.ids) (sym left) others);
+      room = omega (arith, long, c.forget.ensures.some.room);
+      marks = marks_kept nodes now c.forget.new.self.marks (ap ids_of c.set_set-before.ensures.nodes ∙ ids-changed changes nodes) c.forget.ensures.some.marks;
+    }
 
 pub invariant_of-self : goal.invariant_of-self
 invariant_of-self c =
@@ -86,25 +72,25 @@ invariant_of-self c =
     let now : List Node = c.set_set-before.new.self.nodes in
     let gone = found_node nodes c.args.id (subst (λ (stock : NodeStock). HasNode stock.nodes c.args.id) (sym c.self.view_is) c.requires.there) in
     let left = without_changed c.args.id gone.0 c.args.set nodes now c.self.invariant.graph c.set_set-before.ensures.graph gone.1 c.set_set-before.ensures.nodes in
-    let others = c.forget.ensures.ids (is_source nodes) c.self.invariant.sources_are in
-    let some = select_but now (is_source nodes) c.args.id c.forget.new.self.lane.ids.items (subst (λ (l : List Node). AreSelected l (is_source nodes) c.forget.new.self.lane.ids.items) (sym left) others) in
-    let first : Node → Bool = refreshed now (c.args.id ∷ []) (but c.args.id (is_source nodes)) in
+    let others = select_left nodes (is_unblocked nodes) c.args.id c.forget.new.self.ids (c.forget.ensures.ids (is_unblocked nodes) c.self.invariant.unblocked_are) in
+    let some = select_but now (is_unblocked nodes) c.args.id c.forget.new.self.ids (subst (λ (l : List Node). AreSelected l (is_unblocked nodes) c.forget.new.self.ids) (sym left) others) in
+    let first : Node → Bool = refreshed now (c.args.id ∷ []) (but c.args.id (is_unblocked nodes)) in
     let entry : Node = record { id = c.node.inside.id; task = c.node.inside.task; set = c.node.inside.set; running = c.node.inside.running } in
     let before : Accesses = c.set_set-before.result in
     let changed : Node = record gone.0 { set = c.args.set } in
     let second : Node → Bool = refreshed now (ids_of (fronts_after (lacking before entry.set) entry.task.key now)) first in
-    let after : AreSelected now second c.refresh_lacking.new.sources.lane.ids.items = c.refresh_lacking.ensures.ids first (c.refresh.ensures.ids (but c.args.id (is_source nodes)) some) in
-    let Settled : Accesses → Node → Type 0 = λ was n. AreSelected now (refreshed now (ids_of (fronts_after (lacking n.set was) n.task.key now)) (refreshed now (ids_of (fronts_after (lacking was n.set) n.task.key now)) first)) c.refresh_lacking-2.new.sources.lane.ids.items in
+    let after : AreSelected now second c.refresh_lacking.new.sources.ids = c.refresh_lacking.ensures.ids first (c.refresh.ensures.ids (but c.args.id (is_unblocked nodes)) some) in
+    let Settled : Accesses → Node → Type 0 = λ was n. AreSelected now (refreshed now (ids_of (fronts_after (lacking n.set was) n.task.key now)) (refreshed now (ids_of (fronts_after (lacking was n.set) n.task.key now)) first)) c.refresh_lacking-2.new.sources.ids in
     let all : Settled before entry = c.refresh_lacking-2.ensures.ids second after in
     let found : Some c.entry-node.result.now ≡ Some changed = sym c.entry-node.ensures ∙ found_changed c.args.id gone.0 c.args.set nodes now c.self.invariant.graph c.set_set-before.ensures.graph gone.1 c.set_set-before.ensures.nodes in
     let is_changed : c.entry-node.result.now ≡ changed = cc in
     let had : Some before ≡ Some gone.0.set = sym c.set_set-before.ensures.before ∙ ap (option_map (λ (n : Node). n.set)) gone.1 in
     let is_before : before ≡ gone.0.set = cc in
-    let long = ap length c.set_set-before.ensures.nodes ∙ length-changed (record { node = c.args.id; set = c.args.set } ∷ []) nodes in
     record {
       graph = c.set_set-before.ensures.graph;
       filed = c.exchange.ensures.filed;
-      sources_are = settled_exchanged c.args.id gone.0 c.args.set nodes now c.refresh_lacking-2.new.sources.lane.ids.items c.self.invariant.graph c.set_set-before.ensures.graph gone.1 c.set_set-before.ensures.nodes
+      unblocked_are = settled_exchanged c.args.id gone.0 c.args.set nodes now c.refresh_lacking-2.new.sources.ids c.self.invariant.graph c.set_set-before.ensures.graph gone.1 c.set_set-before.ensures.nodes
           (subst (Settled gone.0.set) (c.node.view_is ∙ is_changed) (subst (λ (was : Accesses). Settled was entry) is_before all));
-      room = omega (arith, long, c.self.invariant.room, c.forget.ensures.room, c.refresh.ensures.room, c.refresh_lacking.ensures.room, c.refresh_lacking-2.ensures.room);
+      room = c.refresh_lacking-2.ensures.some.room;
+      marks = c.refresh_lacking-2.ensures.some.marks;
     }

@@ -1,9 +1,9 @@
 use Rattle.std.proofs.Common.{◌≡◌, ◌∙◌, List, ap, length, subst, sym, arith}
 use Rattle.kdg_graph.specs.Node.{Node}
-use Rattle.kdg_graph.specs.Nodes.{started}
-use Rattle.kdg_graph.specs.Edges.{is_source, sources_of}
+use Rattle.kdg_graph.specs.Nodes.{ids_of, started}
 use Rattle.kdg_graph.specs.Locations.{AreFiled}
-use Rattle.kdg_graph.proofs.Settling.{filed_started, length-started, sources_started}
+use Rattle.kdg_graph.specs.Selected.{unblocked_of}
+use Rattle.kdg_graph.proofs.Settling.{filed_started, ids-started, length-started, marks_kept, unblocked_started}
 use Rattle.kdg_graph.proofs.node_list.NodeList.mark_running.Goals as goal
 
 pub invariant_of-self : goal.invariant_of-self
@@ -14,6 +14,7 @@ invariant_of-self c =
     record {
       graph = c.mark_running.ensures.graph;
       filed = subst (λ (l : List Node). AreFiled l c.self.inside.locations.locations.items) (sym is) (filed_started c.args.id nodes c.self.inside.locations.locations.items c.self.invariant.filed);
-      sources_are = sources_started c.args.id nodes _ (c.forget.ensures.ids (is_source nodes) c.self.invariant.sources_are) ∙ ap sources_of (sym is);
-      room = omega (arith, long, c.self.invariant.room, c.forget.ensures.room);
+      unblocked_are = c.self.invariant.unblocked_are ∙ sym (ap unblocked_of is ∙ unblocked_started c.args.id nodes);
+      room = omega (arith, long, c.self.invariant.room);
+      marks = marks_kept nodes c.mark_running.new.self.nodes c.self.inside.sources.marks (ap ids_of is ∙ ids-started c.args.id nodes) c.self.invariant.marks;
     }

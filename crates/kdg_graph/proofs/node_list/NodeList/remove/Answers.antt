@@ -4,12 +4,11 @@ use Rattle.std.proofs.lemmas.List.Edits.{length-remove}
 use Rattle.kdg_graph.specs.Node.{Node}
 use Rattle.kdg_graph.specs.NodeStock.{NodeStock}
 use Rattle.kdg_graph.specs.Nodes.{node_at, task_at}
-use Rattle.kdg_graph.specs.Edges.{is_source}
 use Rattle.kdg_graph.specs.Locations.{AreFiled}
 use Rattle.kdg_graph.specs.Rewrite.{without}
-use Rattle.kdg_graph.specs.Selected.{AreSelected}
+use Rattle.kdg_graph.specs.Selected.{AreSelected, HaveMarks, is_unblocked}
 use Rattle.kdg_graph.proofs.Places.{node_at-place, without-place}
-use Rattle.kdg_graph.proofs.Settling.{settled_without}
+use Rattle.kdg_graph.proofs.Settling.{marks_without, select_left, settled_without}
 use Rattle.kdg_graph.proofs.node_list.NodeList.remove.Goals as goal
 
 pub refresh_fronts-requires-clause-filed : goal.refresh_fronts-requires-clause-filed
@@ -18,11 +17,19 @@ refresh_fronts-requires-clause-filed c =
     let now = c.remove-node.ensures.nodes ∙ without-place c.args.id nodes c.place_of-place.result c.self.invariant.graph.own_ids c.place_of-place.ensures.place in
     subst (λ (l : List Node). AreFiled l c.leave.new.self.locations.items) (sym now) c.leave.ensures.filed
 
-pub refresh_fronts-requires-clause-part : goal.refresh_fronts-requires-clause-part
-refresh_fronts-requires-clause-part c =
+pub refresh_fronts-requires-clause-some : goal.refresh_fronts-requires-clause-some
+refresh_fronts-requires-clause-some c =
     let nodes : List Node = c.self.inside.nodes.nodes in
     let now = c.remove-node.ensures.nodes ∙ without-place c.args.id nodes c.place_of-place.result c.self.invariant.graph.own_ids c.place_of-place.ensures.place in
-    record { test = is_source nodes; selected = subst (λ (l : List Node). AreSelected l (is_source nodes) c.forget.new.self.lane.ids.items) (sym now) (c.forget.ensures.ids (is_source nodes) c.self.invariant.sources_are) }
+    let left = select_left nodes (is_unblocked nodes) c.args.id c.forget.new.self.ids (c.forget.ensures.ids (is_unblocked nodes) c.self.invariant.unblocked_are) in
+    let fewer = ap length c.remove-node.ensures.nodes in
+    let one = length-remove nodes c.place_of-place.result c.place_of-place.ensures.inside in
+    record {
+      test = is_unblocked nodes;
+      selected = subst (λ (l : List Node). AreSelected l (is_unblocked nodes) c.forget.new.self.ids) (sym now) left;
+      room = omega (arith, fewer, one, c.forget.ensures.some.room);
+      marks = subst (λ (l : List Node). HaveMarks l c.forget.new.self.marks) (sym now) (marks_without c.args.id nodes c.forget.new.self.marks c.forget.ensures.some.marks);
+    }
 
 pub invariant_of-self : goal.invariant_of-self
 invariant_of-self c =
@@ -31,14 +38,14 @@ invariant_of-self c =
     let is : node_at nodes c.args.id ≡ Some node =
     node_at-place c.args.id nodes c.place_of-place.result c.remove-node.result c.place_of-place.ensures.place ∙ ap (λ (n : Node). Some n) (sym c.remove-node.ensures.node ∙ sym c.node.view_is) in
     let now = c.remove-node.ensures.nodes ∙ without-place c.args.id nodes c.place_of-place.result c.self.invariant.graph.own_ids c.place_of-place.ensures.place in
-    let others = subst (λ (l : List Node). AreSelected l (is_source nodes) c.forget.new.self.lane.ids.items) (sym now) (c.forget.ensures.ids (is_source nodes) c.self.invariant.sources_are) in
-    let fewer = ap length c.remove-node.ensures.nodes in
-    let one = length-remove nodes c.place_of-place.result c.place_of-place.ensures.inside in
+    let left = select_left nodes (is_unblocked nodes) c.args.id c.forget.new.self.ids (c.forget.ensures.ids (is_unblocked nodes) c.self.invariant.unblocked_are) in
+    let others = subst (λ (l : List Node). AreSelected l (is_unblocked nodes) c.forget.new.self.ids) (sym now) left in
     record {
       graph = c.remove-node.ensures.graph;
       filed = subst (λ (l : List Node). AreFiled l c.leave.new.self.locations.items) (sym now) c.leave.ensures.filed;
-      sources_are = settled_without c.args.id node nodes c.remove-node.new.self.nodes c.refresh_fronts.new.self.lane.ids.items c.self.invariant.graph is now (c.refresh_fronts.ensures.ids (is_source nodes) others);
-      room = omega (arith, fewer, one, c.self.invariant.room, c.forget.ensures.room, c.refresh_fronts.ensures.room);
+      unblocked_are = settled_without c.args.id node nodes c.remove-node.new.self.nodes c.refresh_fronts.new.self.ids c.self.invariant.graph is now (c.refresh_fronts.ensures.ids (is_unblocked nodes) others);
+      room = c.refresh_fronts.ensures.some.room;
+      marks = c.refresh_fronts.ensures.some.marks;
     }
 
 pub returns-clause-task : goal.returns-clause-task
