@@ -1,4 +1,4 @@
-use Rattle.std.proofs.Common.{◌≡◌, ◌<◌, ◌∙◌, ℕ, Some, false, arith, ap, get_or, sym}
+use Rattle.std.proofs.Common.{◌<◌, ◌∙◌, ℕ, Some, arith, ap, get_or, sym}
 use Rattle.rw_sets.specs.declared.access.Access.{Access}
 use Rattle.rw_sets.specs.declared.access.Access.TheVariants.{Read}
 use Rattle.rw_sets.specs.Accesses.{Accesses}
