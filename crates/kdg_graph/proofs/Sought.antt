@@ -21,13 +21,15 @@ use Rattle.kdg_graph.proofs.Neighbours.{same_found}
 use Rattle.kdg_graph.proofs.Ordering.{found_at_point, no_key_past_all}
 use Rattle.kdg_graph.proofs.Pasts.{past_nothing, past_tied, past_untied}
 
--- ---- by key
+-- ---- the node with the key
 
 pub none_at_gap : (key : Key) (nodes : List Node) (place : ℕ) → IsAscending (tasks_of nodes) → IsGap key nodes place → node_with_key nodes key ≡ None
 none_at_gap key nodes place up gap = elim (slice_get_cases nodes place).1 [
   | inl here ↦ found_at_point key nodes place here.0 false up here.1 gap.rank.point (sym here.3) (ap is_eq (subst (λ (n : Node). key_cmp n.task.key key ≡ Greater) here.3 (gap.apart here.0 here.1)))
   | inr past ↦ no_key_past_all key nodes place past.0 gap.rank.point
 ]
+
+-- ---- what is later than the key
 
 pub past_gap : (key : Key) (some : List Node) (place : ℕ) → IsAscending (tasks_of some) → IsGap key some place → IsRankPast key some place
 past_gap key some place up gap = elim (slice_get_cases some place).1 [
@@ -40,7 +42,7 @@ past_found key some place up found =
     let d : Node = some_node some place found.inside in
     past_tied key some place d up found.rank found.inside (ap is_eq (found.tied d))
 
--- ---- the node itself
+-- ---- the id of a node
 
 -- two nodes at one key are one
 same_key : (nodes : List Node) (a b : Node) → IsAscending (tasks_of nodes) → Contains nodes a → Contains nodes b → key_cmp a.task.key b.task.key ≡ Equal → a ≡ b

@@ -1,7 +1,7 @@
 ghost use Rattle.std.specs.Prelude.{◌≡◌, ◌+◌, ◌^◌, ◌≤◌, ◌<◌, [], length, slice_index_or, MatchResult, OnOk};
 ghost use Rattle.std.specs.List.{insert, remove};
 ghost use Rattle.std.specs.VecDeque.{deque_capacity, deque_len};
-ghost use Rattle.kdg_graph.specs.Lanes.{IsBetween, IsEnded, IsLane, IsRank, IsSearched, cmp_at, cmp_in};
+ghost use Rattle.kdg_graph.specs.Lanes.{IsBetween, IsEnded, IsLane, IsRank, IsRankPast, IsSearched, cmp_at, cmp_in};
 ghost use Rattle.kdg_graph.specs.Locations.{is_first_before};
 ghost use Rattle.std.specs.Prelude.{List};
 ghost use Rattle.kdg_graph.specs.Node.{Node};
@@ -15,14 +15,18 @@ use std::cmp::Ordering;
 use std::collections::VecDeque;
 use task_order::Key;
 
+/// How many times as long as the last step of a search the next one is, until the key is passed.
+const GROWTH: usize = 8;
+
 /// Ids of nodes in the order of the nodes' keys, which stand in a slab.
 #[derive(Drop)]
 pub(crate) struct Lane {
     ids: VecDeque<NodeId>,
-    // behind the id that was last put in before others, and where one was last taken out; should
-    // these be other places by now, a search takes longer
+    // where searches begin: behind the id that was put in last, where one was last taken out, and
+    // where either was last; should these be other places by now, a search takes longer
     put_at: usize,
     taken_at: usize,
+    changed_at: usize,
 }
 
 impl Lane {
@@ -34,6 +38,7 @@ impl Lane {
             ids: VecDeque::new(alloc),
             put_at: 0,
             taken_at: 0,
+            changed_at: 0,
         }
     }
 
@@ -64,48 +69,35 @@ impl Lane {
         Ok(())
     }
 
-    /// How many of the nodes are earlier than the key, which mostly is a new one.
+    /// How many of the nodes are earlier than the key, for a node that is to be put in: a search that
+    /// begins where one was last put in.
     pub(crate) fn rank(&self, slots: &Slab<Entry>, key: &Key) -> usize
         ensures rank { (nodes : List Node) → IsLane slots.now nodes self.now.ids.items → IsRank key.now nodes result }
         ensures inside { result ≤ length self.now.ids.items }
     {
-        match self.search_for_new(slots, key) {
+        match self.search_near(slots, key, self.put_at) {
             Ok(place) | Err(place) => place,
         }
     }
 
-    /// The place of the node with the key, which mostly is there, or else how many are earlier.
+    /// The place of the node with the key, or else how many are earlier: a search that begins where a
+    /// node was last taken out.
     pub(crate) fn search(&self, slots: &Slab<Entry>, key: &Key) -> Result<usize, usize>
         ensures found { (nodes : List Node) → IsLane slots.now nodes self.now.ids.items → IsSearched key.now nodes result }
         ensures inside { MatchResult result (λ place. place < length self.now.ids.items) (λ place. place ≤ length self.now.ids.items) }
     {
-        self.search_for_member(slots, key)
+        self.search_near(slots, key, self.taken_at)
     }
 
-    /// The place of the node with the key, or else how many are earlier: a new node mostly comes
-    /// last, or near the place where one was last put in.
-    fn search_for_new(&self, slots: &Slab<Entry>, key: &Key) -> Result<usize, usize>
-        ensures { IsEnded slots.now key.now self.now.ids.items result }
+    /// How many of the nodes are not later than the key, mostly that of the node that was put in or
+    /// taken out last: a search that begins there.
+    pub(crate) fn rank_past(&self, slots: &Slab<Entry>, key: &Key) -> usize
+        ensures rank { (nodes : List Node) → IsLane slots.now nodes self.now.ids.items → IsRankPast key.now nodes result }
+        ensures inside { result ≤ length self.now.ids.items }
     {
-        let Some(last) = self.len().checked_sub(1) else {
-            return Err(0);
-        };
-        match self.compare_at(slots, last, key) {
-            Ordering::Less => Err(last + 1),
-            Ordering::Equal => Ok(last),
-            Ordering::Greater => self.search_near(slots, key, self.put_at),
-        }
-    }
-
-    /// The same: one that is there mostly is the first, or near the place where one was last taken
-    /// out.
-    fn search_for_member(&self, slots: &Slab<Entry>, key: &Key) -> Result<usize, usize>
-        ensures { IsEnded slots.now key.now self.now.ids.items result }
-    {
-        match self.compare_at(slots, 0, key) {
-            Ordering::Less => self.search_near(slots, key, self.taken_at.max(1)),
-            Ordering::Equal => Ok(0),
-            Ordering::Greater => Err(0),
+        match self.search_near(slots, key, self.changed_at) {
+            Ok(place) => place + 1,
+            Err(place) => place,
         }
     }
 
@@ -120,18 +112,20 @@ impl Lane {
         }
     }
 
-    /// The same, where the node at the start is earlier: by steps that double, and then by halving.
+    /// The same, where the node at the start is earlier: by steps that grow, and then by halving.
     fn search_up(&self, slots: &Slab<Entry>, key: &Key, start: usize) -> Result<usize, usize>
         requires { cmp_at slots.now key.now self.now.ids.items start ≡ Ordering.Less }
         ensures { IsEnded slots.now key.now self.now.ids.items result }
     {
         let mut low = start + 1;
         let mut probe = low;
+        let mut step: usize = 1;
         loop {
             match self.compare_at(slots, probe, key) {
                 Ordering::Less => {
                     low = probe + 1;
-                    probe = probe.saturating_add(low - start);
+                    step = step.saturating_mul(GROWTH);
+                    probe = probe.saturating_add(step);
                 }
                 Ordering::Equal => return Ok(probe),
                 Ordering::Greater => {
@@ -141,7 +135,7 @@ impl Lane {
         }
     }
 
-    /// The same, where no node at the start is earlier.
+    /// The same, where the node at the start is later, or none is there.
     fn search_down(&self, slots: &Slab<Entry>, key: &Key, start: usize) -> Result<usize, usize>
         requires inside { start ≤ length self.now.ids.items }
         requires later { cmp_at slots.now key.now self.now.ids.items start ≡ Ordering.Greater }
@@ -149,13 +143,15 @@ impl Lane {
     {
         let mut low = start;
         let mut high = start;
+        let mut step: usize = 1;
         while low > 0 {
             match self.compare_at(slots, low - 1, key) {
                 Ordering::Less => return self.search_between(slots, key, low, high),
                 Ordering::Equal => return Ok(low - 1),
                 Ordering::Greater => {
                     high = low - 1;
-                    low = high.saturating_sub(start - high);
+                    step = step.saturating_mul(GROWTH);
+                    low = low.saturating_sub(step);
                 }
             }
         }
@@ -210,9 +206,8 @@ impl Lane {
         ensures room { deque_capacity self.old.ids ≤ deque_capacity self.new.ids }
         ensures len { deque_len self.new.ids ≡ deque_len self.old.ids + 1 }
     {
-        if place < self.len() {
-            self.put_at = place + 1;
-        }
+        self.put_at = place + 1;
+        self.changed_at = place;
         if place <= self.taken_at {
             self.taken_at = self.taken_at.saturating_add(1);
         }
@@ -234,6 +229,7 @@ impl Lane {
             self.put_at -= 1;
         }
         self.taken_at = place;
+        self.changed_at = place;
         self.ids.remove(place).unwrap()
     }
 }

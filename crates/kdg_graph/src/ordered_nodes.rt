@@ -110,10 +110,7 @@ impl OrderedNodes {
         ensures graph { IsGraph self.now.nodes }
         ensures inside { result ≤ length lane.now.ids.items }
     {
-        match self.search_among(lane, key) {
-            Ok(place) => place + 1,
-            Err(place) => place,
-        }
+        lane.rank_past(&self.slots, key)
     }
 
     /// The place of the node with the key among some of the nodes, by their ids in key order, or else

@@ -1,4 +1,4 @@
-use Rattle.std.proofs.Common.{◌≡◌, ◌≤◌}
+use Rattle.std.proofs.Common.{◌≡◌, ◌<◌, ◌≤◌}
 use Rattle.std.specs.declared.cmp.Ordering.TheVariants.{Greater}
 use Rattle.kdg_graph.specs.Lanes.{cmp_at}
 use Rattle.kdg_graph.proofs.lane.Lane.search_down.Given as goal
@@ -6,6 +6,7 @@ use Rattle.kdg_graph.proofs.lane.Lane.search_down.Given as goal
 abbrev pub invariant-loop-low : goal.invariant-loop-low
 invariant-loop-low l = record {
   ordered : l.low ≤ l.high;
+  grows : 0 < l.step;
   inside : l.high ≤ l.start;
   later : cmp_at l.slots l.key l.self.ids.items l.high ≡ Greater;
 }

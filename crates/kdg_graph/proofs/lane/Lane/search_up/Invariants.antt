@@ -5,8 +5,8 @@ use Rattle.kdg_graph.proofs.lane.Lane.search_up.Given as goal
 
 abbrev pub invariant-loop-low : goal.invariant-loop-low
 invariant-loop-low l = record {
-  behind : l.start < l.low;
   ordered : l.low ≤ l.probe;
+  grows : 0 < l.step;
   inside : l.low ≤ length l.self.ids.items;
   earlier : (place : ℕ) → suc place ≡ l.low → cmp_at l.slots l.key l.self.ids.items place ≡ Less;
 }

@@ -1,9 +1,9 @@
-use Rattle.std.proofs.Common.{add-one}
-use Rattle.kdg_graph.proofs.Sought.{past_found, past_gap}
+use Rattle.std.proofs.Common.{subst, sym}
+use Rattle.kdg_graph.specs.Locations.{IsLaneAmong}
+use Rattle.kdg_graph.specs.NodeStock.{NodeShelf}
+use Rattle.kdg_graph.proofs.Among.{lane_of_among}
 use Rattle.kdg_graph.proofs.ordered_nodes.OrderedNodes.rank_past.Goals as goal
 
-pub returns-in-Ok-clause-rank : goal.returns-in-Ok-clause-rank
-returns-in-Ok-clause-rank c some among = rw add-one (past_found c.args.key.now some c.in-Ok.place among.ascending (c.in-Ok.ensures.found some among))
-
-pub returns-in-Err-clause-rank : goal.returns-in-Err-clause-rank
-returns-in-Err-clause-rank c some among = past_gap c.args.key.now some c.in-Err.place among.ascending (c.in-Err.ensures.found some among)
+pub returns-clause-rank : goal.returns-clause-rank
+returns-clause-rank c some among =
+    c.rank_past.ensures.rank some (lane_of_among c.self.inside.slots c.self.inside.order.ids.items c.args.lane.now.ids.items some c.self.invariant (subst (λ (shelf : NodeShelf). IsLaneAmong shelf.nodes some c.args.lane.now.ids.items) (sym c.self.view_is) among))
