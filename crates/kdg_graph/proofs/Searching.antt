@@ -1,10 +1,9 @@
 -- What a search among ids tells of the nodes that have them.
-use Rattle.std.proofs.Common.{◌≡◌, ℕ, zero, suc, ◌<◌, ◌≤◌, Bool, true, false, List, [], ◌∷◌, length, get_or, Option, Some, Ok, Err, Result, refl, sym, ◌∙◌, ap, subst, arith}
+use Rattle.std.proofs.Common.{◌≡◌, ℕ, zero, suc, ◌<◌, ◌≤◌, true, false, List, [], ◌∷◌, length, get_or, Ok, Err, Result, refl, sym, ◌∙◌, ap, subst, arith}
 use Rattle.std.proofs.lemmas.Bool.{false_from_ne_true, true≢false}
 use Rattle.std.proofs.lemmas.Option.{slice_get_past}
 use Rattle.std.specs.Prelude.{MatchResult}
-use Rattle.std.specs.List.{AllByRecursion}
-use Rattle.std.specs.Ordering.{is_eq, is_lt, ordering_reverse}
+use Rattle.std.specs.Ordering.{is_lt, ordering_reverse}
 use Rattle.std.specs.declared.cmp.Ordering.{Ordering}
 use Rattle.std.specs.declared.cmp.Ordering.TheVariants.{Less, Equal, Greater}
 use Rattle.slab.specs.Slab.{Slab, get}
@@ -83,8 +82,8 @@ before_tied key (node ∷ nodes) (suc before) d up inside tied = before_tied key
 found_tied : (key : Key) (nodes : List Node) (place : ℕ) → IsAscending (tasks_of nodes) → place < length nodes → ((d : Node) → key_cmp (get_or nodes place d).task.key key ≡ Equal) → IsFound key nodes place
 found_tied key nodes place up inside tied = record {
   rank = rank_around key nodes place up (omega (arith, inside))
-  (λ before is d. ap is_lt (before_tied key nodes before d up (omega (arith, inside, is)) (subst (λ n. key_cmp (get_or nodes n d).task.key key ≡ Equal) (sym is) (tied d))))
-  (λ _ d. ap is_lt (tied d));
+      (λ before is d. ap is_lt (before_tied key nodes before d up (omega (arith, inside, is)) (subst (λ n. key_cmp (get_or nodes n d).task.key key ≡ Equal) (sym is) (tied d))))
+      (λ _ d. ap is_lt (tied d));
   inside = inside;
   tied = tied;
 }
@@ -92,8 +91,8 @@ found_tied key nodes place up inside tied = record {
 pub gap_ended : (slots : Slab Node) (key : Key) (nodes : List Node) (ids : List NodeId) (place : ℕ) → IsLane slots nodes ids → IsBetween slots key ids place place → IsGap key nodes place
 gap_ended slots key nodes ids place lane between = record {
   rank = rank_around key nodes place lane.ascending (omega (arith, between.inside, as_many slots nodes ids lane))
-  (λ before is d. ap is_lt (compared_in slots key nodes ids before Less lane (omega (arith, is, between.inside, as_many slots nodes ids lane)) (between.earlier before is) d))
-  (λ inside d. ap is_lt (compared_in slots key nodes ids place Greater lane inside between.later d));
+      (λ before is d. ap is_lt (compared_in slots key nodes ids before Less lane (omega (arith, is, between.inside, as_many slots nodes ids lane)) (between.earlier before is) d))
+      (λ inside d. ap is_lt (compared_in slots key nodes ids place Greater lane inside between.later d));
   apart = λ d inside. compared_in slots key nodes ids place Greater lane inside between.later d;
 }
 

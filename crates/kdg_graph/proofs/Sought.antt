@@ -1,5 +1,5 @@
 -- What a search for a key tells of the nodes of a graph.
-use Rattle.std.proofs.Common.{◌≡◌, ◌≢◌, inl, inr, ℕ, suc, ◌<◌, ◌≤◌, true, false, List, [], ◌∷◌, length, get_or, Some, None, refl, sym, ◌∙◌, ap, subst, arith}
+use Rattle.std.proofs.Common.{◌≡◌, ◌≢◌, inl, inr, ℕ, suc, ◌<◌, false, List, [], ◌∷◌, length, get_or, Some, None, sym, ◌∙◌, ap, subst, arith}
 use Rattle.std.specs.Prelude.{Contains}
 use Rattle.std.specs.Cmp.{tied_itself}
 use Rattle.std.specs.Ordering.{is_eq, ordering_reverse}
@@ -49,17 +49,17 @@ same_key : (nodes : List Node) (a b : Node) → IsAscending (tasks_of nodes) →
 same_key [] a b up has_a has_b tied = absurd (none a has_a)
 same_key (node ∷ nodes) a b up has_a has_b tied = elim (cases node a nodes has_a) [
   | inl is_a ↦ elim (cases node b nodes has_b) [
-      | inl is_b ↦ sym is_a ∙ is_b
-      | inr later ↦
-          let less : key_cmp a.task.key b.task.key ≡ Less = subst (λ (n : Node). key_cmp n.task.key b.task.key ≡ Less) is_a (key_later node nodes b up.0 later) in
-          absurd (let wrong : Equal ≡ Less = sym tied ∙ less in cc)
-    ]
+    | inl is_b ↦ sym is_a ∙ is_b
+    | inr later ↦
+        let less : key_cmp a.task.key b.task.key ≡ Less = subst (λ (n : Node). key_cmp n.task.key b.task.key ≡ Less) is_a (key_later node nodes b up.0 later) in
+        absurd (let wrong : Equal ≡ Less = sym tied ∙ less in cc)
+  ]
   | inr later_a ↦ elim (cases node b nodes has_b) [
-      | inl is_b ↦
-          let less : key_cmp b.task.key a.task.key ≡ Less = subst (λ (n : Node). key_cmp n.task.key a.task.key ≡ Less) is_b (key_later node nodes a up.0 later_a) in
-          absurd (let wrong : Equal ≡ Greater = sym tied ∙ key_cmp_total.antisymm a.task.key b.task.key ∙ ap ordering_reverse less in cc)
-      | inr later_b ↦ same_key nodes a b up.1 later_a later_b tied
-    ]
+    | inl is_b ↦
+        let less : key_cmp b.task.key a.task.key ≡ Less = subst (λ (n : Node). key_cmp n.task.key a.task.key ≡ Less) is_b (key_later node nodes a up.0 later_a) in
+        absurd (let wrong : Equal ≡ Greater = sym tied ∙ key_cmp_total.antisymm a.task.key b.task.key ∙ ap ordering_reverse less in cc)
+    | inr later_b ↦ same_key nodes a b up.1 later_a later_b tied
+  ]
 ]
 
 contains_among : (nodes some : List Node) (ids : List NodeId) (place : ℕ) (d : Node) → IsLaneAmong nodes some ids → place < length some → Contains nodes (get_or some place d)
