@@ -32,7 +32,7 @@ struct Outcome<V: Held> {
 /// The outcome of a run whose text was drained so far.
 fn outcome_of<V: Held>(finals: Finals<V>, drained: Text) -> Result<Outcome<V>, NoRoom> {
     let mut text = drained;
-    text.push_all(finals.log.all()?.bytes())?;
+    text.push_all(finals.text.bytes())?;
     Ok(Outcome {
         store: finals.store,
         text,
@@ -166,7 +166,10 @@ fn end_outcome<A: App>(
     engine: Engine<'_, A>,
     drained: Text,
 ) -> Result<Option<Outcome<A::Val>>, OverCause> {
-    let Some(finals) = finals_of(engine) else {
+    let Ok(finals) = finals_of(engine) else {
+        return Err(OverCause::NoRoom);
+    };
+    let Some(finals) = finals else {
         return Ok(None);
     };
     match outcome_of(finals, drained) {

@@ -109,21 +109,21 @@ pub fn end_at_once<A: App>(engine: Engine<'_, A>) -> Result<(Answer, Text, Optio
     let mut engine = engine;
     let answer = answer_alone(&mut engine)?;
     let text = engine.drain()?;
-    Ok((answer, text, end_count(engine)))
+    Ok((answer, text, end_count(engine)?))
 }
 
 /// How many tasks have ended, where none is pending.
-fn end_count<A: App>(engine: Engine<'_, A>) -> Option<u64> {
-    match finals_of(engine) {
-        Some(finals) => Some(finals.count),
-        None => None,
+fn end_count<A: App>(engine: Engine<'_, A>) -> Result<Option<u64>, NoRoom> {
+    match finals_of(engine)? {
+        Some(finals) => Ok(Some(finals.count)),
+        None => Ok(None),
     }
 }
 
 /// What an engine comes to, where no task is pending.
-pub fn finals_of<A: App>(engine: Engine<'_, A>) -> Option<Finals<A::Val>> {
+pub fn finals_of<A: App>(engine: Engine<'_, A>) -> Result<Option<Finals<A::Val>>, NoRoom> {
     match engine.graph().least() {
-        Some(_) => None,
-        None => Some(engine.end()),
+        Some(_) => Ok(None),
+        None => Ok(Some(engine.end()?)),
     }
 }

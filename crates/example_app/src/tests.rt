@@ -63,7 +63,7 @@ fn contact_of(store: &Store<u64>, person: u32) -> Option<u64> {
 fn meetings_run_in_key_order(rt: HostRuntime) -> Result<(), Fail> {
     let finals = run(rt.alloc(), 5)?;
     assert_eq!(rt;
-        finals.log.all()?.bytes(),
+        finals.text.bytes(),
         b"1 4\n4 4\n4 3\n1 3\n3 1\n".as_slice()
     );
     assert_eq!(rt; finals.count, 5);

@@ -54,8 +54,7 @@ fn prints(
     let first = matrix.first_tasks()?;
     match serial(alloc, &matrix, cells, first, 1000) {
         Ok(finals) => {
-            let mut text = Text::new(alloc);
-            text.push_all(finals.log.all()?.bytes())?;
+            let mut text = finals.text;
             text.push_all(matrix.print_finals(&finals.store)?.bytes())?;
             assert_eq!(rt; text.bytes(), want.as_bytes());
         }

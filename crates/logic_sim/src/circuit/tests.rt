@@ -73,7 +73,7 @@ fn outcome(
 ) -> Result<(Text, Text, u64), Fail> {
     let circuit = circuit_of(rt, alloc, deck, until)?;
     let (finals, last_lines) = run(alloc, &circuit, 100)?;
-    Ok((finals.log.all()?, last_lines, finals.count))
+    Ok((finals.text, last_lines, finals.count))
 }
 
 #[test]

@@ -39,7 +39,7 @@ fn prints(rt: &impl Abort, alloc: Global, input: &[u8], want: &str) -> Result<()
     text.push_all(b"tasks ")?;
     push_u64(&mut text, finals.count)?;
     assert_eq!(rt; text.bytes(), want.as_bytes());
-    assert!(rt; finals.log.all()?.is_empty());
+    assert!(rt; finals.text.is_empty());
     Ok(())
 }
 
