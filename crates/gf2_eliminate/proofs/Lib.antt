@@ -1,4 +1,5 @@
 pub mod Sums
+pub mod MarkedSums
 pub mod Planning
 pub mod Held
 pub mod Effects

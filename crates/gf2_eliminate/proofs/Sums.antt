@@ -13,7 +13,7 @@ use Rattle.gf2_eliminate.specs.Elimination.{exactly_one}
 use Rattle.gf2_eliminate.specs.Plans.{sum_to}
 use Rattle.gf2_eliminate.specs.Membership.{in_has, has_in, list_is_listed}
 
-has_append : (xs ys : List ℕ) (n : ℕ) → has (xs ++ ys) n ≡ (has xs n || has ys n)
+pub has_append : (xs ys : List ℕ) (n : ℕ) → has (xs ++ ys) n ≡ (has xs n || has ys n)
 has_append [] ys n = refl
 has_append (x ∷ xs) ys n = ap (λ b. x == n || b) (has_append xs ys n) ∙ sym (or_assoc (x == n) (has xs n) (has ys n))
   where
@@ -29,7 +29,7 @@ ascending_front : (xs ys : List ℕ) → IsAscendingBy nat_cmp (xs ++ ys) → Is
 ascending_front [] ys up = tt
 ascending_front (x ∷ xs) ys up = (all_from_in (λ y. nat_cmp x y ≡ Less) xs (λ y there. all_in (λ z. nat_cmp x z ≡ Less) (xs ++ ys) y up.0 (in_left xs ys y there)), ascending_front xs ys up.1)
 
-front_before : (xs ys : List ℕ) (x y : ℕ) → IsAscendingBy nat_cmp (xs ++ ys) → IsIn xs x → IsIn ys y → x < y
+pub front_before : (xs ys : List ℕ) (x y : ℕ) → IsAscendingBy nat_cmp (xs ++ ys) → IsIn xs x → IsIn ys y → x < y
 front_before [] ys x y up there here = absurd there
 front_before (z ∷ zs) ys x y up (inl at) here = subst (λ w. w < y) at (less_from_cmp z y (all_in (λ w. nat_cmp z w ≡ Less) (zs ++ ys) y up.0 (in_right zs ys y here)))
 front_before (z ∷ zs) ys x y up (inr there) here = front_before zs ys x y up.1 there here

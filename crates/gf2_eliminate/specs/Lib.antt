@@ -2,6 +2,7 @@ pub mod Lines
 pub mod Elimination
 pub mod Plans
 pub mod Touched
+pub mod Marks
 pub mod Membership
 pub mod Lawful
 pub mod Start

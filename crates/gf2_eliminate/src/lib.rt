@@ -1,6 +1,7 @@
 //! Elimination over the field of two elements as an ordered application, whose sets move.
 #![tactic(auto)]
 
+mod addition;
 mod blocks;
 mod finals;
 mod laws;

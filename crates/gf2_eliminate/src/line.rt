@@ -1,11 +1,9 @@
-ghost use Rattle.std.specs.Prelude.{◌≡◌, ℕ, IfOk, OnOk};
-ghost use Rattle.gf2_eliminate.specs.Lines.{is_used, numbers_in, IsListTo};
-ghost use Rattle.gf2_eliminate.specs.Plans.{sum_to};
+ghost use Rattle.std.specs.Prelude.{◌≡◌, OnOk};
+ghost use Rattle.gf2_eliminate.specs.Lines.{is_used, numbers_in};
 ghost use Rattle.gf2_eliminate.specs.Start.{with_number};
 
 use cell_store::Held;
 use kdg_text::{NoRoom, NumList};
-use std::alloc::Global;
 
 /// A row or a column of a matrix of zeros and ones. Its list has the places of its ones, counted
 /// from 1, in ascending order.
@@ -67,25 +65,4 @@ impl Line2 {
             Line2::Col { rows } => rows.push(number),
         }
     }
-}
-
-/// The sum of two lines over two elements: what is in exactly one of the two.
-pub(crate) fn sum(alloc: Global, left: &[u32], right: &[u32]) -> Result<NumList, NoRoom>
-    ensures { (bound : ℕ) → IsListTo bound left.now → IsListTo bound right.now →
-        IfOk result (λ sum. sum ≡ sum_to bound left.now right.now) }
-{
-    let mut sum = vec![in alloc; 0; left.len() + right.len()]?;
-    let (mut i, mut j, mut count) = (0, 0, 0);
-    // Which of the two is less can't be foretold, so no branch asks it.
-    while i < left.len() && j < right.len() {
-        let (x, y) = (left[i], right[j]);
-        sum[count] = x.min(y);
-        i += usize::from(x <= y);
-        j += usize::from(y <= x);
-        count += usize::from(x != y);
-    }
-    sum.truncate(count);
-    sum.extend_from_slice(&left[i..])?;
-    sum.extend_from_slice(&right[j..])?;
-    Ok(NumList::from_vec(sum))
 }

@@ -6,7 +6,7 @@ ghost use Rattle.gf2_eliminate.specs.Lines.{numbers_in, is_used, IsListTo};
 ghost use Rattle.gf2_eliminate.specs.Plans.{line_in, sum_to, locations, locations_behind, pivot_among, planned_rows, planned_columns, planned, without, text_with, HasRow, HasColumn, AreListsTo, IsHeld, with_lines};
 
 use crate::Line2;
-use crate::line::sum;
+use crate::addition::sum;
 use cell_store::{Bundle, location_laws, value_laws};
 use kdg_text::{NoRoom, NumList, Text, push_u64};
 use std::alloc::Global;

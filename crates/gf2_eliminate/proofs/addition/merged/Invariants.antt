@@ -2,7 +2,7 @@ use Rattle.std.proofs.Common.{◌≡◌, ◌≤◌, ◌+◌, ◌-◌, length, dr
 use Rattle.std.specs.Ordering.{nat_cmp}
 use Rattle.mtx_reader.specs.Ascending.{IsAscendingBy}
 use Rattle.gf2_eliminate.proofs.Sums.{IsMerging}
-use Rattle.gf2_eliminate.proofs.line.sum.Given as goal
+use Rattle.gf2_eliminate.proofs.addition.merged.Given as goal
 
 abbrev pub invariant-loop-i : goal.invariant-loop-i
 invariant-loop-i l = record {

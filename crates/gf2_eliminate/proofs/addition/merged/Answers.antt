@@ -2,8 +2,8 @@ use Rattle.std.specs.Prelude.{◌≤◌, ◌+◌, ◌++◌, length, drop, take, 
 use Rattle.std.proofs.Common.{◌⊎◌, inl, inr, ap, ◌∙◌, get_or}
 use Rattle.std.proofs.lemmas.List.{length-set}
 use Rattle.gf2_eliminate.proofs.Sums.{step_by_tests, sum_at_end, rest_whole}
-use Rattle.gf2_eliminate.proofs.line.sum.Goals as goal
-use Rattle.gf2_eliminate.proofs.line.sum.Goals.{then-loop-i-test+else-j-right, else-loop-i-test}
+use Rattle.gf2_eliminate.proofs.addition.merged.Goals as goal
+use Rattle.gf2_eliminate.proofs.addition.merged.Goals.{then-loop-i-test+else-j-right, else-loop-i-test}
 
 pub loop-i-preserved : goal.loop-i-preserved
 loop-i-preserved c =
