@@ -4,6 +4,7 @@ pub mod Planning
 pub mod Held
 pub mod Effects
 pub mod Marking
+pub mod Finding
 pub mod Found
 pub mod Printing
 pub mod FirstCells

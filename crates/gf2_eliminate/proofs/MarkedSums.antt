@@ -1,21 +1,19 @@
 -- The sum of two ascending lists, by marks at the places of each.
-use Rattle.std.specs.Prelude.{◌≡◌, ℕ, zero, suc, ◌+◌, ◌-◌, ◌<◌, ◌≤◌, Bool, true, false, not, ◌||◌, ◌==◌, List, [], ◌∷◌, ◌++◌, length, filter, take, drop, slice_set, refl}
+use Rattle.std.specs.Prelude.{◌≡◌, ℕ, suc, ◌+◌, ◌-◌, ◌<◌, ◌≤◌, Bool, true, false, not, ◌||◌, ◌==◌, List, [], ◌∷◌, ◌++◌, length, filter, take, drop, slice_set, refl}
 use Rattle.std.specs.Int.{from_bool}
-use Rattle.std.specs.List.{AllByRecursion}
 use Rattle.std.specs.Ordering.{nat_cmp}
-use Rattle.std.specs.declared.cmp.Ordering.TheVariants.{Less}
 use Rattle.std.proofs.Common.{◌⊎◌, inl, inr, arith, sym, ap, ◌∙◌, subst, append-nil, add-zero, get_or}
-use Rattle.std.proofs.lemmas.List.{drop_more, get_or_past, get_or-set_other, get_or-set_same, take-append-drop, take-set, take_more, take_more_set}
+use Rattle.std.proofs.lemmas.List.{drop_more, get_or-set_other, get_or-set_same, take-append-drop, take-set, take_more_set}
 use Rattle.std.proofs.lemmas.List.Elements.{filter-append}
-use Rattle.std.proofs.lemmas.Bool.{cases_eq, cases_lt, eq-eqb, false_from_ne_true, ne_eqb, true≢false}
+use Rattle.std.proofs.lemmas.Bool.{cases_eq, eq-eqb, false_from_ne_true, ne_eqb}
 use Rattle.mtx_reader.specs.Ascending.{IsAscendingBy, IsIn, numbers_from, all_in, all_from_in, in_filter, from_filter, in_numbers, from_numbers, ascending_filter, ascending_numbers, less_from_cmp}
 use Rattle.gf2_eliminate.specs.Elimination.{exactly_one}
 use Rattle.gf2_eliminate.specs.Lines.{has, IsListTo}
 use Rattle.gf2_eliminate.specs.Marks.{marked, IsUpTo}
 use Rattle.gf2_eliminate.specs.Membership.{same_tests, in_has, has_in, list_is_listed}
 use Rattle.gf2_eliminate.specs.Plans.{sum_to}
-use Rattle.gf2_eliminate.proofs.Sums.{front_before, has_append}
-use Rattle.gf2_eliminate.proofs.Marking.{numbers_to}
+use Rattle.gf2_eliminate.proofs.Sums.{front_before}
+use Rattle.gf2_eliminate.proofs.Marking.{any_more, numbers_to}
 
 -- no number of an ascending list is more than its last one
 pub up_to_last : (xs : List ℕ) → IsAscendingBy nat_cmp xs → IsUpTo (get_or xs (length xs - 1) 0) xs
@@ -54,9 +52,7 @@ module _ (places : List ℕ) (i : ℕ) (below : i < length places) (up : IsAscen
       omega (arith, before))
 
   has_more : (k : ℕ) → has (take (i + 1) places) k ≡ (has (take i places) k || get_or places i 0 == k)
-  has_more k =
-      ap (λ ns. has ns k) (take_more places i 0 below) ∙ has_append (take i places) (get_or places i 0 ∷ []) k
-      ∙ ap (λ b. has (take i places) k || b) (or_none (get_or places i 0 == k))
+  has_more k = any_more (λ n. n == k) places i below
 
   kept : (k : ℕ) → (get_or places i 0 ≡ k → ⊥) → has (take (i + 1) places) k ≡ has (take i places) k
   kept k other = has_more k ∙ ap (λ b. has (take i places) k || b) (ne_eqb (get_or places i 0) k other) ∙ or_none (has (take i places) k)

@@ -1,12 +1,9 @@
--- Marks of columns, and the pairs of a set, one after another.
-use Rattle.std.specs.Prelude.{◌≡◌, ℕ, zero, suc, ◌+◌, ◌<◌, Bool, true, false, ◌||◌, List, [], ◌∷◌, ◌++◌, length, map, filter, take, refl}
+-- Numbers in turn, and what one of so many has, one more at a time.
+use Rattle.std.specs.Prelude.{◌≡◌, ℕ, zero, suc, ◌+◌, ◌<◌, Bool, true, false, ◌||◌, List, [], ◌∷◌, ◌++◌, length, take, refl}
 use Rattle.std.specs.List.{list_any}
-use Rattle.std.proofs.Common.{arith, sym, ap, ◌∙◌, append_assoc, append-nil, add-one, get_or}
-use Rattle.std.proofs.lemmas.List.{map-append, take_more}
-use Rattle.std.proofs.lemmas.List.Elements.{filter-append}
-use Rattle.rw_sets.specs.declared.access.Access.TheVariants.{Write}
+use Rattle.std.proofs.Common.{arith, sym, ap, ◌∙◌, add-one, get_or}
+use Rattle.std.proofs.lemmas.List.{take_more}
 use Rattle.mtx_reader.specs.Ascending.{numbers_from}
-use Rattle.gf2_eliminate.specs.Elimination.{writing}
 
 numbers_more : (first count : ℕ) → numbers_from first (suc count) ≡ numbers_from first count ++ (first + count) ∷ []
 numbers_more first zero = let same : first ≡ first + 0 = omega arith in ap (λ n. n ∷ []) same
@@ -16,23 +13,6 @@ numbers_more first (suc count) =
 
 pub numbers_to : (count : ℕ) → numbers_from 0 (count + 1) ≡ numbers_from 0 count ++ count ∷ []
 numbers_to count = let same : 0 + count ≡ count = omega arith in rw add-one (numbers_more 0 count ∙ ap (λ n. numbers_from 0 count ++ n ∷ []) same)
-
-module _ (front : List ℕ) (f : ℕ → ℕ) (test : ℕ → Bool) (j : ℕ) where
-  filtered : filter test (numbers_from 0 (j + 1)) ≡ filter test (numbers_from 0 j) ++ filter test (j ∷ [])
-  filtered = ap (filter test) (numbers_to j) ∙ filter-append test (numbers_from 0 j) (j ∷ [])
-
-  pub more_marked : test j ≡ true → writing (front ++ map f (filter test (numbers_from 0 (j + 1)))) ≡ writing (front ++ map f (filter test (numbers_from 0 j))) ++ (f j, Write) ∷ []
-  more_marked passes =
-      let kept : filter test (j ∷ []) ≡ j ∷ [] = rw passes refl in
-      ap (λ ns. writing (front ++ map f ns)) (filtered ∙ ap (λ ns. filter test (numbers_from 0 j) ++ ns) kept)
-      ∙ ap (λ ns. writing (front ++ ns)) (map-append f (filter test (numbers_from 0 j)) (j ∷ []))
-      ∙ ap writing (sym (append_assoc front (map f (filter test (numbers_from 0 j))) (f j ∷ [])))
-      ∙ map-append (λ loc. (loc, Write)) (front ++ map f (filter test (numbers_from 0 j))) (f j ∷ [])
-
-  pub more_unmarked : test j ≡ false → writing (front ++ map f (filter test (numbers_from 0 (j + 1)))) ≡ writing (front ++ map f (filter test (numbers_from 0 j)))
-  more_unmarked fails =
-      let dropped : filter test (j ∷ []) ≡ [] = rw fails refl in
-      ap (λ ns. writing (front ++ map f ns)) (filtered ∙ ap (λ ns. filter test (numbers_from 0 j) ++ ns) dropped ∙ append-nil (filter test (numbers_from 0 j)))
 
 or_none : (b : Bool) → (b || false) ≡ b
 or_none true = refl

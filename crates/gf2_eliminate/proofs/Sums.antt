@@ -13,7 +13,7 @@ use Rattle.gf2_eliminate.specs.Elimination.{exactly_one}
 use Rattle.gf2_eliminate.specs.Plans.{sum_to}
 use Rattle.gf2_eliminate.specs.Membership.{in_has, has_in, list_is_listed}
 
-pub has_append : (xs ys : List ℕ) (n : ℕ) → has (xs ++ ys) n ≡ (has xs n || has ys n)
+has_append : (xs ys : List ℕ) (n : ℕ) → has (xs ++ ys) n ≡ (has xs n || has ys n)
 has_append [] ys n = refl
 has_append (x ∷ xs) ys n = ap (λ b. x == n || b) (has_append xs ys n) ∙ sym (or_assoc (x == n) (has xs n) (has ys n))
   where

@@ -1,8 +1,10 @@
-ghost use Rattle.std.specs.Prelude.{◌≡◌, ℕ, suc, ◌+◌, ◌<◌, ◌^◌, ◌||◌, false, length, filter, slice_index_or, IfOk};
+ghost use Rattle.std.specs.Prelude.{◌≡◌, ℕ, suc, ◌+◌, ◌<◌, ◌^◌, ◌||◌, ◌↔◌, false, [], length, filter, slice_index_or, IfOk, OnOk};
+ghost use Rattle.rw_sets.specs.Accesses.{merged};
+ghost use Rattle.mtx_reader.specs.Ascending.{IsIn, numbers_from};
 ghost use Rattle.gf2_eliminate.specs.Elimination.{first_of, is_out, writing};
 ghost use Rattle.gf2_eliminate.specs.Lines.{has};
 ghost use Rattle.gf2_eliminate.specs.Plans.{locations};
-ghost use Rattle.gf2_eliminate.specs.Touched.{ones_at, touched_locs, AreMarks, AreRowsTo, HaveColumns};
+ghost use Rattle.gf2_eliminate.specs.Touched.{is_marked, ones_at, touched_locs, AreFound, AreRowsTo, HaveColumns};
 ghost use Rattle.cell_store.specs.Cells.{cell_at};
 
 use crate::Line2;
@@ -26,7 +28,8 @@ pub(crate) fn first_out(store: &Store<Line2>, rows: &[u32]) -> Option<u32>
     None
 }
 
-/// The set of a column in which these rows have a one, in a matrix of so many rows and columns.
+/// The pairs of the set of a column in which these rows have a one, in some order, in a matrix of
+/// so many rows and columns.
 pub(crate) fn touched(
     alloc: Global,
     size: (u32, u32),
@@ -38,41 +41,40 @@ pub(crate) fn touched(
     requires columns { HaveColumns store.now size.1 rows.now }
     requires column { column < size.1 }
     requires few { size.0 + size.1 < 2 ^ 32 }
-    ensures { IfOk result (λ pairs. pairs.items ≡ writing (touched_locs size.0 size.1 column rows.now store.now)) }
+    ensures { IfOk result (λ pairs. merged [] pairs.items ≡ merged [] (writing (touched_locs size.0 size.1 column rows.now store.now))) }
 {
-    let marks = marks(alloc, size.1, column, rows, store)?;
-    let mut pairs = Vec::new(alloc);
+    let others = found(alloc, size.1, column, rows, store)?;
+    let mut pairs = Vec::with_capacity(alloc, rows.len() + others.len())?;
     for row in rows {
         pairs.push((row - 1, Access::Write))?;
     }
-    for (other, is_marked) in marks.iter().enumerate() {
-        if *is_marked {
-            pairs.push((size.0 + other as u32, Access::Write))?;
-        }
+    for other in others.iter() {
+        pairs.push((size.0 + other, Access::Write))?;
     }
     Ok(pairs)
 }
 
-/// For each of so many columns, whether one of these rows has a one in it. The column itself is
-/// marked too.
-fn marks(
+/// The columns, of so many, in which one of these rows has a one, each once. The column itself is
+/// among them.
+fn found(
     alloc: Global,
     columns: u32,
     column: u32,
     rows: &[u32],
     store: &Store<Line2>,
-) -> Result<Vec<bool>, NoRoom>
+) -> Result<Vec<u32>, NoRoom>
     requires rows { AreRowsTo (length store.now) rows.now }
     requires columns { HaveColumns store.now columns rows.now }
     requires column { column < columns }
-    ensures { IfOk result (λ marks. AreMarks columns store.now column rows.now marks.items) }
+    ensures { IfOk result (λ found. (k : ℕ) → IsIn found.items k ↔ IsIn (filter (is_marked store.now column rows.now) (numbers_from 0 columns)) k) }
 {
     let mut marks = vec![in alloc; false; columns as usize]?;
     marks[column as usize] = true;
+    let mut found = vec![in alloc; column]?;
     for row in rows {
-        mark(&mut marks, ones_at(store, row - 1));
+        find(&mut marks, &mut found, ones_at(store, row - 1))?;
     }
-    Ok(marks)
+    Ok(found)
 }
 
 /// The ones of the line at a location, where there is none if the cell is out.
@@ -86,12 +88,19 @@ fn ones_at(store: &Store<Line2>, loc: u32) -> &[u32]
     }
 }
 
-/// Marks the columns of these numbers.
-fn mark(marks: &mut [bool], numbers: &[u32])
+/// Marks the columns of these numbers, and adds those that weren't marked to the ones that were
+/// found.
+fn find(marks: &mut [bool], found: &mut Vec<u32>, numbers: &[u32]) -> Result<(), NoRoom>
     requires { AreRowsTo (length marks.old) numbers.now }
-    ensures { (k : ℕ) → k < length marks.old → slice_index_or marks.new k false ≡ (slice_index_or marks.old k false || has numbers.now (suc k)) }
+    ensures marks { OnOk result ((k : ℕ) → k < length marks.old → slice_index_or marks.new k false ≡ (slice_index_or marks.old k false || has numbers.now (suc k))) }
+    ensures found { AreFound marks.old found.old.items → OnOk result (AreFound marks.new found.new.items) }
 {
     for number in numbers {
-        marks[*number as usize - 1] = true;
+        let at = number - 1;
+        if !marks[at as usize] {
+            marks[at as usize] = true;
+            found.push(at)?;
+        }
     }
+    Ok(())
 }

@@ -1,4 +1,4 @@
-use Rattle.std.specs.Prelude.{◌≡◌, false}
+use Rattle.std.specs.Prelude.{false}
 use Rattle.std.proofs.Common.{arith, get_or, ap, ◌∙◌}
 use Rattle.gf2_eliminate.proofs.MarkedSums.{turned_more, turned_past}
 use Rattle.gf2_eliminate.proofs.addition.toggle.Goals as goal

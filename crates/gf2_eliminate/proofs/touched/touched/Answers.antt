@@ -1,24 +1,39 @@
-use Rattle.std.specs.Prelude.{◌≡◌, ◌+◌, ◌++◌, ◌<◌, [], ◌∷◌, List, Bool, false, length}
-use Rattle.std.proofs.Common.{arith, sym, ap, ◌∙◌, get_or}
-use Rattle.rw_sets.specs.Accesses.{Accesses}
+use Rattle.std.specs.Prelude.{◌+◌, ◌++◌, ◌<◌, ℕ, [], ◌∷◌, filter, map}
+use Rattle.std.proofs.Common.{arith, sym, ap, ◌∙◌, append-nil, get_or}
+use Rattle.std.proofs.lemmas.List.{take_all}
+use Rattle.rw_sets.specs.Accesses.{Accesses, merged}
 use Rattle.rw_sets.specs.declared.access.Access.TheVariants.{Write}
+use Rattle.mtx_reader.specs.Ascending.{numbers_from}
+use Rattle.gf2_eliminate.specs.Elimination.{writing}
 use Rattle.gf2_eliminate.specs.Plans.{locations}
-use Rattle.gf2_eliminate.specs.Touched.{is_marked}
-use Rattle.gf2_eliminate.proofs.Marking.{more_marked, more_unmarked}
+use Rattle.gf2_eliminate.specs.Touched.{is_marked, touched_locs}
+use Rattle.gf2_eliminate.proofs.Finding.{behind_same, found_below, pairs_more, same_set}
 use Rattle.gf2_eliminate.proofs.touched.touched.Goals as goal
-use Rattle.gf2_eliminate.proofs.touched.touched.Goals.{then-is_marked+in_ok-push-2, else-is_marked}
+
+pub loop-other-init : goal.loop-other-init
+loop-other-init c =
+    c.loop-row.invariant ∙ ap (λ rows. writing (locations rows)) (take_all c.loop-row.row-index c.args.rows.now (omega arith)) ∙ ap writing (sym (append-nil (locations c.args.rows.now)))
+
+pub overflow_add-size : goal.overflow_add-size
+overflow_add-size c =
+    let i = c.loop-other.other-index in
+    let others = c.deref-other-items.result.now in
+    let below : get_or others i 0 < c.args.size.1 = found_below c.args.size.1 (is_marked c.args.store.now c.args.column c.args.rows.now) others (rw c.deref-other-items.ensures.value c.in_ok-others.ensures) i c.loop-other-test.true in
+    omega (arith, below, c.requires.few)
 
 pub loop-other-preserved : goal.loop-other-preserved
 loop-other-preserved c =
-    let other = c.loop-other.other in
-    let test = is_marked c.args.store.now c.args.column c.args.rows.now in
-    let count = ap length c.deref-is_marked-items.ensures.value in
-    let below : other < c.args.size.1 = omega (arith, count, c.in_ok-marks.ensures.count, c.loop-other-test.true) in
-    let mark-is : get_or c.deref-is_marked-items.result.now other false ≡ test other = ap (λ (marks : List Bool). get_or marks other false) c.deref-is_marked-items.ensures.value ∙ c.in_ok-marks.ensures.each other below in
-    elim c.if-is_marked.branch [
-      | then-is_marked+in_ok-push-2 w ↦
-          rw w.pairs-is
-          (w.in_ok-push-2.ensures.items ∙ ap (λ (pairs : Accesses). pairs ++ (c.args.size.0 + other, Write) ∷ []) c.loop-other.invariant
-          ∙ sym (more_marked (locations c.args.rows.now) (λ o. c.args.size.0 + o) test other (sym mark-is ∙ w.if-is_marked.true)))
-      | else-is_marked w ↦ rw w.pairs-is (c.loop-other.invariant ∙ sym (more_unmarked (locations c.args.rows.now) (λ o. c.args.size.0 + o) test other (sym mark-is ∙ w.if-is_marked.false)))
-    ]
+    let i = c.loop-other.other-index in
+    let others = c.deref-other-items.result.now in
+    c.in_ok-push-2.ensures.items ∙ ap (λ (pairs : Accesses). pairs ++ (c.args.size.0 + get_or others i 0, Write) ∷ []) c.loop-other.invariant
+    ∙ sym (pairs_more (locations c.args.rows.now) (λ other. c.args.size.0 + other) others i c.loop-other-test.true)
+
+pub returns : goal.returns
+returns c =
+    let rows = c.args.rows.now in
+    let found = c.in_ok-others.others.items in
+    let marked = filter (is_marked c.args.store.now c.args.column rows) (numbers_from 0 c.args.size.1) in
+    let behind = λ (other : ℕ). c.args.size.0 + other in
+    ap (merged []) (c.loop-other.invariant ∙ ap (λ others. writing (locations rows ++ map behind others)) (take_all c.loop-other.other-index c.deref-other-items.result.now (omega arith) ∙ c.deref-other-items.ensures.value))
+    ∙ same_set (locations rows ++ map behind found) (touched_locs c.args.size.0 c.args.size.1 c.args.column rows c.args.store.now)
+    (behind_same (locations rows) behind found marked (λ k. (c.in_ok-others.ensures k).0)) (behind_same (locations rows) behind marked found (λ k. (c.in_ok-others.ensures k).1))

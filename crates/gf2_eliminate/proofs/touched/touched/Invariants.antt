@@ -1,12 +1,10 @@
-use Rattle.std.specs.Prelude.{◌≡◌, ◌+◌, ◌++◌, map, filter, take}
-use Rattle.mtx_reader.specs.Ascending.{numbers_from}
+use Rattle.std.specs.Prelude.{◌≡◌, ◌+◌, ◌++◌, map, take}
 use Rattle.gf2_eliminate.specs.Elimination.{writing}
 use Rattle.gf2_eliminate.specs.Plans.{locations}
-use Rattle.gf2_eliminate.specs.Touched.{is_marked}
 use Rattle.gf2_eliminate.proofs.touched.touched.Given as goal
 
 abbrev pub invariant-loop-row : goal.invariant-loop-row
 invariant-loop-row l = l.pairs.items ≡ writing (locations (take l.row-index l.rows))
 
 abbrev pub invariant-loop-other : goal.invariant-loop-other
-invariant-loop-other l = l.pairs.items ≡ writing (locations l.rows ++ map (λ other. l.size.0 + other) (filter (is_marked l.store l.column l.rows) (numbers_from 0 l.other)))
+invariant-loop-other l = l.pairs.items ≡ writing (locations l.rows ++ map (λ other. l.size.0 + other) (take l.other-index l.other-items))

@@ -54,7 +54,7 @@ returns-in_ok-pairs-in-None-clause-answer g c =
     let within = subst (λ (p : Pattern). at < p.cols) (sym c.self.view_is) c.requires.fit.1.at in
     let first-is : first_of (filter (λ loc. is_out (cell_at store loc)) (locations (numbers_in c.in-At.line.now))) ≡ None =
     ap (λ ns. first_of (filter (λ loc. is_out (cell_at store loc)) (locations ns))) (sym c.ones.ensures) ∙ sym c.in-None.ensures in
-    let set-is = c.from_pairs.ensures ∙ ap (merged []) (c.in_ok-pairs-in-None.ensures ∙ ap (λ ns. writing (touched_locs pattern.rows pattern.cols at ns store)) c.ones-in-None.ensures)
+    let set-is = c.from_pairs.ensures ∙ c.in_ok-pairs-in-None.ensures ∙ ap (λ ns. merged [] (writing (touched_locs pattern.rows pattern.cols at ns store))) c.ones-in-None.ensures
     ∙ set_found pattern.rows pattern.cols at store c.requires.cells.0 fit within c.requires.cells.2 c.in-At.line.now (sym c.in-At.ensures) first-is in
     subst (λ (p : Pattern). answer.Known c.from_pairs.result ≡ walk_from p.rows p.cols (cell_at store (p.rows + at)) at store) c.self.view_is
     (ap answer.Known set-is ∙ sym (ap (λ cell. walk_from pattern.rows pattern.cols cell at store) (sym c.in-At.ensures) ∙ ap (λ first. unless_out pattern.rows pattern.cols first at store) first-is))
