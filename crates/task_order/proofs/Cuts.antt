@@ -1,11 +1,9 @@
 -- What a list of tasks is where its blocks change.
-use Rattle.std.proofs.Common.{◌≡◌, ℕ, zero, suc, ◌+◌, ◌<◌, ◌≤◌, ◌⊎◌, inl, inr, true, false, List, [], ◌∷◌, ◌++◌, length, take, drop, set, refl, sym, ◌∙◌, ap, subst, arith, append_assoc, append-nil, length-append, length-take, length-drop, length-set, add-one}
+use Rattle.std.proofs.Common.{◌≡◌, ℕ, zero, suc, ◌+◌, ◌<◌, ◌≤◌, ◌⊎◌, inl, inr, true, false, List, [], ◌∷◌, ◌++◌, length, take, drop, set, refl, sym, ◌∙◌, ap, arith, append_assoc, append-nil, length-append, length-take, length-set, add-one}
 use Rattle.std.proofs.lemmas.List.Elements.{filter-append}
 use Rattle.std.proofs.lemmas.List.Sums.{length-filter, count_by-le-length}
 use Rattle.std.specs.Ordering.{is_lt}
-use Rattle.std.specs.Prelude.{OnOk, slice_get}
-use Rattle.std.specs.declared.result.Result.{Result}
-use Rattle.std.specs.declared.result.Result.TheVariants.{Ok, Err}
+use Rattle.std.specs.Prelude.{slice_get}
 use Rattle.std.specs.List.{AllByRecursion, insert, remove}
 use Rattle.std.specs.declared.cmp.Ordering.TheVariants.{Less}
 use Rattle.task_order.specs.declared.key.Key.{Key}
@@ -110,7 +108,7 @@ put_in-block task blocks at place found inside =
     ∙ sym (regroup (tasks_in (take at blocks)) (take place block) (task ∷ drop place block) (tasks_in (drop (suc at) blocks)))
     ∙ sym (put_in-at task blocks at place found)
 
-take_more : (blocks : List (List Task)) (at : ℕ) → at < length blocks → tasks_in (take (suc at) blocks) ≡ tasks_in (take at blocks) ++ block_at blocks at
+pub take_more : (blocks : List (List Task)) (at : ℕ) → at < length blocks → tasks_in (take (suc at) blocks) ≡ tasks_in (take at blocks) ++ block_at blocks at
 take_more [] at inside = absurd (omega (arith, inside))
 take_more (block ∷ blocks) zero inside = append-nil block
 take_more (block ∷ blocks) (suc at) inside = ap (λ l. block ++ l) (take_more blocks at (omega (arith, inside))) ∙ sym (append_assoc block (tasks_in (take at blocks)) (block_at blocks at))
@@ -126,21 +124,6 @@ drop-all [] zero is = refl
 drop-all [] (suc n) is = refl
 drop-all (x ∷ xs) zero is = absurd (omega (arith, is))
 drop-all (x ∷ xs) (suc n) is = drop-all xs n (omega (arith, is))
-
--- into a new block behind its own
-pub put_in-behind_block : (task : Task) (blocks : List (List Task)) (at place : ℕ) → IsPlace task.key blocks at place → at < length blocks → place ≡ length (block_at blocks at)
-    → tasks_in (insert blocks (suc at) (task ∷ [])) ≡ put_in task (tasks_in blocks)
-put_in-behind_block task blocks at place found inside end =
-    let block = block_at blocks at in
-    let rest = tasks_in (drop (suc at) blocks) in
-    tasks_in-append (take (suc at) blocks) ((task ∷ []) ∷ drop (suc at) blocks)
-    ∙ ap (λ l. l ++ task ∷ rest) (take_more blocks at inside ∙ ap (λ l. tasks_in (take at blocks) ++ l) (sym (take-all block place end)))
-    ∙ ap (λ l. (tasks_in (take at blocks) ++ take place block) ++ task ∷ (l ++ rest)) (sym (drop-all block place end))
-    ∙ sym (put_in-at task blocks at place found)
-
--- into the first block of all
-pub put_in-first_block : (task : Task) (blocks : List (List Task)) → blocks ≡ [] → tasks_in (insert blocks 0 (task ∷ [])) ≡ put_in task (tasks_in blocks)
-put_in-first_block task blocks none = subst (λ bs. tasks_in (insert bs 0 (task ∷ [])) ≡ put_in task (tasks_in bs)) (sym none) refl
 
 -- ---- tasks before a key
 
@@ -183,23 +166,6 @@ all_filled (block ∷ []) zero (inl short) inside filled = (filled, tt)
 all_filled (block ∷ []) (suc at) (inl short) inside filled = absurd (omega (arith, inside))
 all_filled (block ∷ next ∷ blocks) at (inl short) inside filled = absurd (omega (arith, short))
 
-pub gapless-insert : (blocks : List (List Task)) (at : ℕ) (task : Task) → AllByRecursion IsFilled blocks → IsGapless (insert blocks at (task ∷ []))
-gapless-insert blocks at task all = inr (All-append IsFilled (take at blocks) ((task ∷ []) ∷ drop at blocks) (All-take IsFilled at blocks all) (omega arith, All-drop IsFilled at blocks all))
-
-pub gapless-first : (blocks : List (List Task)) (task : Task) → blocks ≡ [] → IsGapless (insert blocks 0 (task ∷ []))
-gapless-first blocks task none = subst (λ bs. IsGapless (insert bs 0 (task ∷ []))) (sym none) (inl (omega arith))
-
-pub gapless-set : (blocks : List (List Task)) (at : ℕ) (block : List Task) → IsGapless blocks → IsFilled block → IsGapless (set blocks at block)
-gapless-set blocks at block (inl short) filled = inl (omega (arith, length-set blocks at block, short))
-gapless-set blocks at block (inr all) filled = inr (All-set IsFilled blocks at block filled all)
-
-pub gapless-split : (blocks : List (List Task)) (at place : ℕ) → AllByRecursion IsFilled blocks → 0 < place → place < length (block_at blocks at)
-    → IsGapless (take at blocks ++ take place (block_at blocks at) ∷ drop place (block_at blocks at) ∷ drop (at + 1) blocks)
-gapless-split blocks at place all above below =
-    rw add-one
-    (inr (All-append IsFilled (take at blocks) (take place (block_at blocks at) ∷ drop place (block_at blocks at) ∷ drop (suc at) blocks) (All-take IsFilled at blocks all)
-    (omega (arith, length-take place (block_at blocks at), above, below), (omega (arith, length-drop place (block_at blocks at), below), All-drop IsFilled (suc at) blocks all))))
-
 others_stay : (blocks : List (List Task)) (at : ℕ) (block : List Task) → AllByRecursion IsFilled blocks → AllByRecursion IsFilled (remove (set blocks at block) at)
 others_stay [] zero block all = tt
 others_stay [] (suc at) block all = tt
@@ -223,10 +189,6 @@ gapless-kept blocks at inside filled (inr all) = inr (all_from_others blocks at 
 pub gapless-removed : (blocks : List (List Task)) (at : ℕ) → 1 < length blocks → (length blocks ≤ 1) ⊎ AllByRecursion IsFilled (remove blocks at) → IsGapless (remove blocks at)
 gapless-removed blocks at many (inl short) = absurd (omega (arith, many, short))
 gapless-removed blocks at many (inr all) = inr all
-
-pub on_ok : {A E : Type 0} (P Q : Type 0) (answer : Result A E) → (P → Q) → OnOk answer P → OnOk answer Q
-on_ok P Q (Ok x) then is = then is
-on_ok P Q (Err e) then is = tt
 
 -- ---- what the calls leave
 

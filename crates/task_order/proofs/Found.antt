@@ -47,7 +47,7 @@ differ_from_later key tasks = All-weaker (λ task. key_cmp key task.key ≡ Less
 differ_from_all_earlier : (key : Key) (tasks : List Task) → AllByRecursion (λ task. key_cmp task.key key ≡ Less) tasks → IsNewKey key tasks
 differ_from_all_earlier key tasks = All-weaker (λ task. key_cmp task.key key ≡ Less) (λ task. task.key ≢ key) (λ task earlier. differ_from_earlier task.key key earlier) tasks
 
-late_and_other : (key : Key) (task : Task) → is_earlier key task ≡ false → task.key ≢ key → key_cmp key task.key ≡ Less
+pub late_and_other : (key : Key) (task : Task) → is_earlier key task ≡ false → task.key ≢ key → key_cmp key task.key ≡ Less
 late_and_other key task late differ =
     ⊎_elim (λ earlier. absurd (true≢false (sym (ap is_lt earlier) ∙ late))) (λ later. later) (earlier_connected task.key key differ)
 

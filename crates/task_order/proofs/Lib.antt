@@ -14,3 +14,4 @@ pub mod Found
 pub mod Ends
 pub mod Priorities
 pub mod Near
+pub mod Rooms

@@ -1,6 +1,6 @@
 -- A list of tasks that is cut into blocks.
 use Rattle.std.specs.Prelude.{◌≡◌, ◌≢◌, ℕ, suc, ◌+◌, ◌<◌, ◌≤◌, ◌^◌, ◌⊎◌, Bool, false, nat_le, List, [], ◌∷◌, ◌++◌, length, take, drop, slice_get, slice_index_or, Some}
-use Rattle.std.specs.List.{AllByRecursion}
+use Rattle.std.specs.List.{AllByRecursion, remove}
 use Rattle.std.specs.declared.cmp.Ordering.TheVariants.{Less}
 use Rattle.std.specs.Ordering.{is_le}
 use Rattle.task_order.specs.declared.key.Key.{Key}
@@ -36,6 +36,12 @@ IsEndOfPriority prio tasks place = (place ≤ length tasks) × ((d : Task) → p
 abbrev pub full_length : ℕ
 full_length = 64
 
+-- a block with its first priority, few enough tasks and room for as many as there may be
+pub record IsBlock (prio : ℕ) (tasks : List Task) (capacity : ℕ) : Type 0 where
+  pub first : IsFirstPriority prio tasks
+  pub few : length tasks ≤ full_length
+  pub room : full_length ≤ capacity
+
 abbrev pub IsFilled : List Task → Type 0
 IsFilled block = 0 < length block
 
@@ -55,17 +61,23 @@ pub record IsPlace (key : Key) (blocks : List (List Task)) (at place : ℕ) : Ty
   pub not_earlier : AllByRecursion (λ task. is_earlier key task ≡ false) (drop place (block_at blocks at))
   pub later : AllByRecursion (λ task. key_cmp key task.key ≡ Less) (tasks_in (drop (suc at) blocks))
 
--- the place lies before a task of a full block
-pub record IsInFull (blocks : List (List Task)) (at place : ℕ) : Type 0 where
+-- there is a block at the place that isn't full
+pub record HasRoom (blocks : List (List Task)) (at : ℕ) : Type 0 where
   pub inside : at < length blocks
-  pub before : place < length (block_at blocks at)
-  pub full : full_length ≤ length (block_at blocks at)
+  pub room : length (block_at blocks at) < full_length
 
--- the place is the end of a full block
-pub record IsBehindFull (blocks : List (List Task)) (at place : ℕ) : Type 0 where
-  pub inside : at < length blocks
-  pub behind : place ≡ length (block_at blocks at)
-  pub full : full_length ≤ length (block_at blocks at)
+-- a block at the place, if there is one, is full
+abbrev pub IsFull : List (List Task) → ℕ → Type 0
+IsFull blocks at = at < length blocks → full_length ≤ length (block_at blocks at)
+
+-- all blocks but one have a task, or there are no others
+abbrev pub AreOthersFilled : List (List Task) → ℕ → Type 0
+AreOthersFilled blocks at = (length blocks ≤ 1) ⊎ AllByRecursion IsFilled (remove blocks at)
+
+-- the block at the place isn't full, and no other is empty
+pub record IsFree (blocks : List (List Task)) (at : ℕ) : Type 0 where
+  pub room : HasRoom blocks at
+  pub others : AreOthersFilled blocks at
 
 -- the task with the key is at the place
 pub record IsFound (key : Key) (blocks : List (List Task)) (at place : ℕ) : Type 0 where

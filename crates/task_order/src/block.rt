@@ -1,4 +1,4 @@
-ghost use Rattle.std.specs.Prelude.{◌≡◌, ◌<◌, ◌≤◌, ◌-◌, ◌^◌, Some, [], ◌∷◌, ◌++◌, length, take, drop, slice_get, IfOk, IfErr, IfSome, IfNone, OnOk, OnErr, IsTrue, ◌↔◌};
+ghost use Rattle.std.specs.Prelude.{◌≡◌, ◌+◌, ◌<◌, ◌≤◌, ◌-◌, ◌^◌, Some, [], ◌∷◌, ◌++◌, length, take, drop, slice_get, IfOk, IfSome, IfNone, OnOk, OnErr, IsTrue, ◌↔◌};
 ghost use Rattle.std.specs.List.{insert, remove};
 ghost use Rattle.std.specs.Map.Iter.{deref};
 ghost use Rattle.std.specs.Option.{option_map};
@@ -35,13 +35,14 @@ pub(crate) struct Block {
 impl Model for Block {
     ghost use Rattle.std.specs.Prelude.{List};
     ghost use Rattle.task_order.specs.declared.task.Task.{Task};
-    ghost use Rattle.task_order.specs.Blocks.{IsFirstPriority};
+    ghost use Rattle.std.specs.VecDeque.{deque_capacity};
+    ghost use Rattle.task_order.specs.Blocks.{IsBlock};
 
     ghost Value = { List Task };
 
     ghost view = { λ block. block.tasks.items };
 
-    ghost invariant = { λ block. IsFirstPriority block.first_prio block.tasks.items };
+    ghost invariant = { λ block. IsBlock block.first_prio block.tasks.items (deque_capacity block.tasks) };
 }
 
 /// The first task's priority, if there is one.
@@ -54,11 +55,12 @@ fn prio_of_first(tasks: &VecDeque<Task>) -> u64
     }
 }
 
-/// Puts a task at a place, which usually is the end, where there is memory for it.
+/// Puts a task at a place, which usually is the end, where there is room for it.
 fn put_at(tasks: &mut VecDeque<Task>, place: usize, task: Task)
     requires place { place ≤ length tasks.old.items }
     requires room { deque_len tasks.old < deque_capacity tasks.old }
-    ensures { tasks.new.items ≡ insert tasks.old.items place task }
+    ensures tasks { tasks.new.items ≡ insert tasks.old.items place task }
+    ensures capacity { deque_capacity tasks.old ≤ deque_capacity tasks.new }
 {
     if place == tasks.len() {
         tasks.push_back_reserved(task);
@@ -70,25 +72,40 @@ fn put_at(tasks: &mut VecDeque<Task>, place: usize, task: Task)
     }
 }
 
-impl Block {
-    /// A block with one task. Where memory runs out, the task comes back.
-    pub(crate) fn of(alloc: Global, task: Task) -> Result<Block, Task>
-        ensures ok { IfOk result (λ block. block ≡ task ∷ []) }
-        ensures returned { IfErr result (λ back. back ≡ task) }
-    {
-        let Ok(mut tasks) = VecDeque::with_capacity(alloc, FULL) else {
-            return Err(task);
+/// Moves the tasks from a place on to another queue, which is empty and has room for them.
+fn move_end(tasks: &mut VecDeque<Task>, place: usize, end: &mut VecDeque<Task>)
+    requires place { place ≤ length tasks.old.items }
+    requires empty { end.old.items ≡ [] }
+    requires room { deque_len tasks.old ≤ place + deque_capacity end.old }
+    ensures front { tasks.new.items ≡ take place tasks.old.items }
+    ensures end { end.new.items ≡ drop place tasks.old.items }
+    ensures front_capacity { deque_capacity tasks.new ≡ deque_capacity tasks.old }
+    ensures end_capacity { deque_capacity end.new ≡ deque_capacity end.old }
+{
+    while tasks.len() > place {
+        let Some(task) = tasks.pop_back() else {
+            unreachable!()
         };
-        let first_prio = task.key.prio;
-        match tasks.push_back(task) {
-            Ok(()) => Ok(Block { tasks, first_prio }),
-            Err(failed) => Err(failed.value),
-        }
+        end.push_front_reserved(task);
+    }
+}
+
+impl Block {
+    /// An empty block.
+    pub(crate) fn empty(alloc: Global) -> Result<Block, NoRoom>
+        ensures { IfOk result (λ block. block ≡ []) }
+    {
+        let tasks = VecDeque::with_capacity(alloc, FULL)?;
+        Ok(Block {
+            tasks,
+            first_prio: 0,
+        })
     }
 
     /// How many tasks there are.
     pub(crate) fn len(&self) -> usize
-        ensures { result ≡ length self.now }
+        ensures len { result ≡ length self.now }
+        ensures few { result ≤ full_length }
     {
         self.tasks.len()
     }
@@ -214,21 +231,16 @@ impl Block {
         }
     }
 
-    /// Puts a task at a place. Where memory runs out, the task comes back.
-    pub(crate) fn insert(&mut self, place: usize, task: Task) -> Result<(), Task>
-        requires { place ≤ length self.old }
-        ensures ok { OnOk result (self.new ≡ insert self.old place task) }
-        ensures returned { IfErr result (λ back. back ≡ task) }
-        ensures unchanged { OnErr result (self.new ≡ self.old) }
+    /// Puts a task at a place of a block that isn't full.
+    pub(crate) fn put(&mut self, place: usize, task: Task)
+        requires place { place ≤ length self.old }
+        requires room { length self.old < full_length }
+        ensures { self.new ≡ insert self.old place task }
     {
-        if self.tasks.reserve(1).is_err() {
-            return Err(task);
-        }
         if place == 0 {
             self.first_prio = task.key.prio;
         }
         put_at(&mut self.tasks, place, task);
-        Ok(())
     }
 
     /// Takes the task at a place out.
@@ -261,7 +273,8 @@ impl Block {
         ensures rest { IfOk result (λ rest. rest ≡ drop place self.old) }
         ensures unchanged { OnErr result (self.new ≡ self.old) }
     {
-        let tasks = self.tasks.split_off(place)?;
+        let mut tasks = VecDeque::with_capacity(*self.tasks.allocator(), FULL)?;
+        move_end(&mut self.tasks, place, &mut tasks);
         let first_prio = prio_of_first(&tasks);
         Ok(Block { tasks, first_prio })
     }

@@ -1,11 +1,11 @@
 ghost use Rattle.std.specs.Prelude.{◌≡◌, ◌+◌, ◌<◌, ◌≤◌, ◌⊎◌, ◌^◌, suc, true, false, [], ◌∷◌, ◌++◌, length, take, drop, slice_get, IfOk, IfErr, Some, IfSome, IfNone, OnOk, OnErr, slice_set};
-ghost use Rattle.std.specs.Bool.{OnTrue};
+ghost use Rattle.std.specs.Bool.{OnTrue, OnFalse};
 ghost use Rattle.std.specs.List.{AllByRecursion, insert, remove};
 ghost use Rattle.std.specs.List.Sorted.{IsPartitionPoint};
 ghost use Rattle.std.specs.Iterator.{at_most};
 ghost use Rattle.std.specs.Map.Iter.{deref, TakesFirst};
 ghost use Rattle.std.specs.Option.{option_map};
-ghost use Rattle.task_order.specs.Blocks.{tasks_in, starts_by, starts_within, block_at, IsFilled, IsGapless, IsPlace, IsFound, IsElsewhere, IsInFull, IsBehindFull};
+ghost use Rattle.task_order.specs.Blocks.{tasks_in, starts_by, starts_within, block_at, full_length, IsFilled, IsGapless, IsPlace, IsFound, IsElsewhere, HasRoom, IsFull, IsFree, AreOthersFilled};
 ghost use Rattle.task_order.specs.TaskList.{IsAscending, IsNewKey, put_in, tasks_before, without};
 
 use crate::block::Block;
@@ -174,91 +174,69 @@ impl Blocks {
         self.blocks.partition_point(|block| block.starts_by(key))
     }
 
-    /// Whether a place lies in a full block.
-    fn is_in_full(&self, at: usize, place: usize) -> bool
-        ensures { OnTrue result (IsInFull self.now at place) }
+    /// Whether there is a block at a place that isn't full.
+    fn has_room(&self, at: usize) -> bool
+        ensures room { OnTrue result (HasRoom self.now at) }
+        ensures full { OnFalse result (IsFull self.now at) }
     {
         match self.blocks.get(at) {
-            Some(block) => block.is_full() && place < block.len(),
+            Some(block) => !block.is_full(),
             None => false,
         }
     }
 
-    /// Whether a place is the end of a full block.
-    fn is_behind_full(&self, at: usize, place: usize) -> bool
-        ensures { OnTrue result (IsBehindFull self.now at place) }
-    {
-        match self.blocks.get(at) {
-            Some(block) => block.is_full() && place == block.len(),
-            None => false,
-        }
-    }
-
-    /// Where a key belongs, once a full block that it would come into is cut in two.
-    fn make_place(&mut self, key: &Key) -> Result<(usize, usize), NoRoom>
+    /// Where a task with a new key comes into a block that isn't full. A full one is cut in two for
+    /// it, or has a new one put behind it.
+    pub(crate) fn make_place(&mut self, key: &Key) -> Result<(usize, usize), NoRoom>
         requires ascending { IsAscending (tasks_in self.old) }
         requires gapless { IsGapless self.old }
+        requires new { IsNewKey key.now (tasks_in self.old) }
         ensures place { IfOk result (λ found. IsPlace key.now self.new found.0 found.1) }
-        ensures tasks { tasks_in self.new ≡ tasks_in self.old }
-        ensures gapless { IsGapless self.new }
+        ensures free { IfOk result (λ found. IsFree self.new found.0) }
+        ensures tasks { OnOk result (tasks_in self.new ≡ tasks_in self.old) }
+        ensures unchanged { OnErr result (self.new ≡ self.old) }
     {
         let (at, place) = self.place_of(key);
-        if !self.is_in_full(at, place) {
+        if self.has_room(at) {
             return Ok((at, place));
         }
-        self.split(at, place.max(HALF))?;
-        Ok(self.place_of(key))
-    }
-
-    /// Puts a task into a block.
-    fn insert_into(&mut self, at: usize, place: usize, task: Task) -> Result<(), Task>
-        requires at { at < length self.old }
-        requires place { place ≤ length (block_at self.old at) }
-        ensures ok { OnOk result (self.new ≡ slice_set self.old at (insert (block_at self.old at) place task)) }
-        ensures returned { IfErr result (λ back. back ≡ task) }
-        ensures unchanged { OnErr result (self.new ≡ self.old) }
-    {
-        self.recent = (at, place.saturating_add(1));
-        self.blocks[at].insert(place, task)
-    }
-
-    /// Puts a task at its place, in a new block where it comes behind a full one.
-    fn insert_at(&mut self, at: usize, place: usize, task: Task) -> Result<(), Task>
-        requires gapless { IsGapless self.old }
-        requires place { IsPlace task.key self.old at place }
-        ensures ok { OnOk result (tasks_in self.new ≡ put_in task (tasks_in self.old)) }
-        ensures returned { IfErr result (λ back. back ≡ task) }
-        ensures unchanged { OnErr result (self.new ≡ self.old) }
-        ensures gapless { IsGapless self.new }
-    {
         if self.blocks.is_empty() {
-            self.insert_block(0, task)
-        } else if self.is_behind_full(at, place) {
-            self.insert_block(at + 1, task)
-        } else {
-            self.insert_into(at, place, task)
+            self.insert_block(0)?;
+            return Ok((0, 0));
         }
+        if place == self.block_len(at) {
+            self.insert_block(at + 1)?;
+            return Ok((at + 1, 0));
+        }
+        self.split(at, place.max(HALF))?;
+        Ok((at, place))
     }
 
-    /// Puts a task where its key belongs.
-    pub(crate) fn insert(&mut self, task: Task) -> Result<(), Task>
-        requires ascending { IsAscending (tasks_in self.old) }
-        requires gapless { IsGapless self.old }
-        ensures ok { OnOk result (tasks_in self.new ≡ put_in task (tasks_in self.old)) }
-        ensures returned { IfErr result (λ back. back ≡ task) }
-        ensures unchanged { OnErr result (tasks_in self.new ≡ tasks_in self.old) }
+    /// Puts a task where its key belongs, into a block that isn't full.
+    pub(crate) fn put(&mut self, at: usize, place: usize, task: Task)
+        requires free { IsFree self.old at }
+        requires place { IsPlace task.key self.old at place }
+        ensures tasks { tasks_in self.new ≡ put_in task (tasks_in self.old) }
         ensures gapless { IsGapless self.new }
     {
-        match self.make_place(&task.key) {
-            Ok((at, place)) => self.insert_at(at, place, task),
-            Err(_) => Err(task),
-        }
+        self.put_into(at, place, task);
+    }
+
+    /// Puts a task into a block that isn't full.
+    fn put_into(&mut self, at: usize, place: usize, task: Task)
+        requires room { HasRoom self.old at }
+        requires place { place ≤ length (block_at self.old at) }
+        ensures { self.new ≡ slice_set self.old at (insert (block_at self.old at) place task) }
+    {
+        self.recent = (at, place + 1);
+        self.blocks[at].put(place, task);
     }
 
     /// How many tasks a block has.
     fn block_len(&self, at: usize) -> usize
         requires { at < length self.now }
-        ensures { result ≡ length (block_at self.now at) }
+        ensures len { result ≡ length (block_at self.now at) }
+        ensures few { result ≤ full_length }
     {
         self.blocks[at].len()
     }
@@ -291,7 +269,7 @@ impl Blocks {
     /// Drops a block that is empty, unless it is the only one.
     fn drop_empty(&mut self, at: usize)
         requires at { at < length self.old }
-        requires others { (length self.old ≤ 1) ⊎ AllByRecursion IsFilled (remove self.old at) }
+        requires others { AreOthersFilled self.old at }
         ensures tasks { tasks_in self.new ≡ tasks_in self.old }
         ensures gapless { IsGapless self.new }
     {
@@ -417,25 +395,21 @@ impl Blocks {
         self.blocks.get(at)?.get(place)
     }
 
-    /// Makes a new block for a task.
-    fn insert_block(&mut self, at: usize, task: Task) -> Result<(), Task>
+    /// Makes a new block, which is empty.
+    #[cold]
+    #[inline(never)]
+    fn insert_block(&mut self, at: usize) -> Result<(), NoRoom>
         requires { at ≤ length self.old }
-        ensures ok { OnOk result (self.new ≡ insert self.old at (task ∷ [])) }
-        ensures returned { IfErr result (λ back. back ≡ task) }
+        ensures ok { OnOk result (self.new ≡ insert self.old at []) }
         ensures unchanged { OnErr result (self.new ≡ self.old) }
     {
-        self.recent = (at, 1);
-        let block = Block::of(*self.blocks.allocator(), task)?;
-        match self.blocks.insert(at, block) {
-            Ok(()) => Ok(()),
-            Err(mut failed) => match failed.value.take_first() {
-                Some(task) => Err(task),
-                None => unreachable!(),
-            },
-        }
+        let block = Block::empty(*self.blocks.allocator())?;
+        self.blocks.insert(at, block).map_err(|_| NoRoom)
     }
 
     /// Cuts a block in two.
+    #[cold]
+    #[inline(never)]
     fn split(&mut self, at: usize, place: usize) -> Result<(), NoRoom>
         requires at { at < length self.old }
         requires place { place ≤ length (block_at self.old at) }

@@ -114,7 +114,10 @@ impl TaskList {
         if self.len >= MOST {
             return Err(task);
         }
-        self.blocks.insert(task)?;
+        let Ok((at, place)) = self.blocks.make_place(&task.key) else {
+            return Err(task);
+        };
+        self.blocks.put(at, place, task);
         self.len += 1;
         Ok(())
     }

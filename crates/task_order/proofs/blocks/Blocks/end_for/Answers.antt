@@ -10,6 +10,6 @@ returns-then-is_lt c =
     place_at_end c.args.key.now c.args.self.now c.in_ok-at.at c.in_ok-checked_sub.field-0 c.block_len-len.result c.in_ok-last.last.now c.requires
     (omega (arith, c.in_ok-at.ensures, c.count.ensures))
     (sym c.get.ensures ∙ ap (option_map deref) c.in_ok-last.was)
-    (omega (arith, c.in_ok-checked_sub.ensures, c.block_len-len.ensures))
-    c.block_len-len.ensures
+    (omega (arith, c.in_ok-checked_sub.ensures, c.block_len-len.ensures.len))
+    c.block_len-len.ensures.len
     (sym c.compare.ensures.order ∙ Less_from_test c.compare.result (sym c.if-is_lt.ensures))

@@ -10,13 +10,13 @@ pub overflow_add-rank : goal.overflow_add-rank
 overflow_add-rank c =
     let blocks = c.args.self.now in
     let below = below_place blocks c.place_of-at.result.0 c.loop-i.i c.place_of-at.ensures.there c.loop-i-test.true in
-    omega (arith, count_within c.args.key.now blocks c.place_of-at.result.0 c.place_of-at.result.1 (c.loop-i.i + 1) c.place_of-at.ensures (omega (arith, c.loop-i-test.true)), count_more blocks c.loop-i.i below, c.loop-i.invariant, c.block_len-rank.ensures, c.requires.small)
+    omega (arith, count_within c.args.key.now blocks c.place_of-at.result.0 c.place_of-at.result.1 (c.loop-i.i + 1) c.place_of-at.ensures (omega (arith, c.loop-i-test.true)), count_more blocks c.loop-i.i below, c.loop-i.invariant, c.block_len-rank.ensures.len, c.requires.small)
 
 pub loop-i-preserved : goal.loop-i-preserved
 loop-i-preserved c =
     let blocks = c.args.self.now in
     let below = below_place blocks c.place_of-at.result.0 c.loop-i.i c.place_of-at.ensures.there c.loop-i-test.true in
-    omega (arith, count_more blocks c.loop-i.i below, c.loop-i.invariant, c.block_len-rank.ensures)
+    omega (arith, count_more blocks c.loop-i.i below, c.loop-i.invariant, c.block_len-rank.ensures.len)
 
 pub returns : goal.returns
 returns c =
