@@ -67,6 +67,7 @@ impl ChildList {
 
     /// Adds a child at the end. Where memory runs out, the child comes back and the list is as it
     /// was.
+    #[inline]
     pub fn push(&mut self, child: Child) -> Result<(), Child>
         requires { length self.old < 2 ^ 32 - 1 }
         ensures ok { OnOk result (self.new ≡ self.old ++ child ∷ []) }
@@ -77,6 +78,17 @@ impl ChildList {
             self.children = Children::One(child);
             return Ok(());
         }
+        self.push_further(child)
+    }
+
+    /// The same, also where there are children. This is apart, since most tasks have at most one, and
+    /// what it moves takes place.
+    fn push_further(&mut self, child: Child) -> Result<(), Child>
+        requires { length self.old < 2 ^ 32 - 1 }
+        ensures ok { OnOk result (self.new ≡ self.old ++ child ∷ []) }
+        ensures returned { IfErr result (λ back. back ≡ child) }
+        ensures unchanged { OnErr result (self.new ≡ self.old) }
+    {
         let (children, refused) = match mem::replace(&mut self.children, Children::None) {
             Children::None => (Children::One(child), None),
             Children::One(first) => pair(self.alloc, first, child),

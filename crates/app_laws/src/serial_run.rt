@@ -1,4 +1,4 @@
-ghost use Rattle.std.specs.Prelude.{◌≡◌, ◌<◌, ◌≤◌, ◌^◌, [], length, map, IfOk, IfErr, OnOk};
+ghost use Rattle.std.specs.Prelude.{◌≡◌, ◌<◌, ◌≤◌, ◌^◌, ◌++◌, [], length, map, IfOk, IfErr, OnOk};
 ghost use Rattle.std.specs.List.{AllByRecursion};
 ghost use Rattle.task_order.specs.TaskList.{IsNewKey, put_in, put_all};
 ghost use Rattle.cell_store.specs.Values.{homes, values_of};
@@ -106,10 +106,20 @@ fn counted_run<A: App, L: Ledger>(
         let made = children.items();
         created = within(created + made.len() as u64, budget)?;
         put_children(&mut pending, &task.key, made)?;
-        text.push_all(written.bytes())?;
+        append(&mut text, &written)?;
         count += 1;
     }
     Ok(Finals { store, text, count })
+}
+
+/// Appends what a task wrote, which mostly is nothing.
+fn append(text: &mut Text, written: &Text) -> Result<(), NoRoom>
+    ensures { OnOk result (text.new ≡ text.old ++ written.now) }
+{
+    if written.is_empty() {
+        return Ok(());
+    }
+    text.push_all(written.bytes())
 }
 
 /// What the crates below promise of keys and lists of tasks, as one.
@@ -216,6 +226,7 @@ fn put_children(pending: &mut TaskList, parent: &Key, children: &[Child]) -> Res
 }
 
 /// Puts a task with a new key among the pending ones.
+#[inline(always)]
 fn put(pending: &mut TaskList, key: Key, body: Body) -> Result<(), NoRoom>
     requires new { IsNewKey key pending.old }
     ensures put { OnOk result (pending.new ≡ put_in (record { key = key; body = body }) pending.old) }

@@ -99,7 +99,6 @@ loop-task-preserved g c =
     let outcome = app.act c.in-Some.task (values_of c.loop-task.store) in
     let values : values_of c.act.new.store ≡ outcome.cells = ap values_of c.in_ok-children.ensures.store ∙ c.value_laws.ensures.values.values_of_homes outcome.cells in
     let children = c.items-made.ensures.all ∙ c.in_ok-children.ensures.children in
-    let written = c.bytes.ensures ∙ c.in_ok-children.ensures.text in
     record {
       reached = reached_next c.loop-task.invariant.reached c.in-Some.task c.take_first.new.self _ _ _ c.in-Some.ensures.first
           values
@@ -108,8 +107,8 @@ loop-task-preserved g c =
           (rw c.in_ok-created-2.ensures.ok.0 c.in_ok-created-2.ensures.ok.1);
       home = c.in_ok-children.ensures.store ∙ ap homes (sym values);
       text =
-          c.in_ok-push_all.ensures.ok
-          ∙ (λ i. c.loop-task.invariant.text i ++ written i)
+          c.in_ok-append.ensures
+          ∙ (λ i. c.loop-task.invariant.text i ++ c.in_ok-children.ensures.text i)
           ∙ sym (text_next c.loop-task.invariant.reached c.in-Some.task c.take_first.new.self c.in-Some.ensures.first);
     }
 
