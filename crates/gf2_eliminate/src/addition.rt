@@ -10,7 +10,7 @@ use kdg_text::{NoRoom, NumList};
 use std::alloc::Global;
 
 /// Two lists that have fewer numbers than one in so many places are merged.
-const SPARSE: usize = 4;
+const SPARSE: usize = 2;
 
 /// The sum of two lines over two elements: what is in exactly one of the two.
 pub(crate) fn sum(alloc: Global, left: &[u32], right: &[u32]) -> Result<NumList, NoRoom>
