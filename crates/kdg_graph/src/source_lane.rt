@@ -1,4 +1,4 @@
-ghost use Rattle.std.specs.Prelude.{◌≡◌, ◌∷◌, ◌≤◌, ◌<◌, ◌==◌, [], Bool, true, OnOk};
+ghost use Rattle.std.specs.Prelude.{◌≡◌, ◌∷◌, ◌≤◌, ◌==◌, [], Bool, true, OnOk};
 ghost use Rattle.std.specs.List.{list_any};
 ghost use Rattle.kdg_graph.specs.Node.{Node};
 ghost use Rattle.kdg_graph.specs.Nodes.{HasNode, IsGraph, ids_of};

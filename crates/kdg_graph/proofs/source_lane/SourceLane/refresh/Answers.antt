@@ -1,4 +1,4 @@
-use Rattle.std.proofs.Common.{◌≡◌, ◌∙◌, List, Bool, ap, sym, true, false}
+use Rattle.std.proofs.Common.{◌≡◌, ◌∙◌, List, ap, sym, true, false}
 use Rattle.std.specs.Prelude.{not}
 use Rattle.kdg_graph.specs.Node.{Node}
 use Rattle.kdg_graph.specs.Nodes.{ids_of, node_at}
