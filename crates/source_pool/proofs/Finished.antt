@@ -1,6 +1,7 @@
--- What is known where the last of the performed jobs is taken, and where its end is refused.
-use Rattle.std.proofs.Common.{◌≡◌, List, [], ◌∷◌, ◌++◌, Option, Some, None, length, reverse, ap, refl, ◌∙◌, arith}
-use Rattle.std.proofs.lemmas.List.{reverse-append}
+-- What is known where the next of the performed jobs is taken, and where its end is refused.
+use Rattle.std.proofs.Common.{◌≡◌, ◌<◌, ◌≤◌, ◌+◌, ℕ, suc, List, [], ◌∷◌, ◌++◌, Option, Some, None, length, get_or, drop, drop-cons, length-drop, ap, refl, sym, ◌∙◌, arith}
+use Rattle.std.specs.Prelude.{slice_set}
+use Rattle.std.specs.Option.{option_to_list}
 use Rattle.cell_store.specs.Values.{values_of}
 use Rattle.app_laws.specs.Applications.{Application}
 use Rattle.commuting.specs.States.{State}
@@ -14,18 +15,27 @@ use Rattle.source_pool.specs.Course.{IsEnding}
 use Rattle.source_pool.specs.Faults.{fault_of}
 use Rattle.source_pool.specs.Laws.{MayEnd, TooManyNeverEnd}
 use Rattle.source_pool.specs.Runs.{IsRunFault}
-
--- the last one is the first one from behind
-pub last_first : {X : Type 0} (items rest : List X) (last : X) → items ≡ rest ++ last ∷ [] → reverse items ≡ last ∷ reverse rest
-last_first items rest last is = ap reverse is ∙ reverse-append rest (last ∷ [])
-
-pub none_where_not : {X : Type 0} (found : Option X) → ((x : X) → found ≡ Some x → ⊥) → found ≡ None
-none_where_not None never = refl
-none_where_not (Some x) never = absurd (never x refl)
+use Rattle.source_pool.specs.Turns.{slot_at, taken_in_turn}
 
 pub none_left : {X : Type 0} (items : List X) → length items ≡ 0 → items ≡ []
 none_left [] none = refl
 none_left (x ∷ items) none = absurd (omega (arith, none))
+
+-- what is taken at the next place
+pub taken_next : {X : Type 0} (slots now : List (Option X)) (turns : List ℕ) (k : ℕ) (taken : Option X) → k < length turns → taken ≡ slot_at slots (get_or turns k 0) → now ≡ slice_set slots (get_or turns k 0) None
+    → taken_in_turn slots (drop k turns) ≡ option_to_list taken ++ taken_in_turn now (drop (k + 1) turns)
+taken_next slots now turns k taken inside given left =
+    let next : suc k ≡ k + 1 = omega arith in
+    ap (taken_in_turn slots) (drop-cons turns k 0 inside ∙ ap (λ n. get_or turns k 0 ∷ drop n turns) next)
+    ∙ (λ i. option_to_list (sym given i) ++ taken_in_turn (sym left i) (drop (k + 1) turns))
+
+-- nothing is taken after the last place
+pub taken_none : {X : Type 0} (slots : List (Option X)) (turns : List ℕ) (k : ℕ) → length turns ≤ k → taken_in_turn slots (drop k turns) ≡ []
+taken_none slots turns k past = ap (taken_in_turn slots) (none_left (drop k turns) (omega (arith, length-drop k turns)))
+
+pub none_where_not : {X : Type 0} (found : Option X) → ((x : X) → found ≡ Some x → ⊥) → found ≡ None
+none_where_not None never = refl
+none_where_not (Some x) never = absurd (never x refl)
 
 module _ {V : Type 0} (app : Application V) where
   pub is_done : (now : Progress V) (done : Done V) → MayEnd app now done → IsDone app now done

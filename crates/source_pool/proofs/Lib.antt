@@ -1,13 +1,15 @@
 pub mod Dealing
 pub mod Drawing
 pub mod Drawn
+pub mod EarliestFirst
 pub mod Ending
 pub mod EngineAtRest
 pub mod Finished
+pub mod HandsPlayed
 pub mod Jobs
-pub mod LatestFirst
 pub mod Lists
 pub mod Parts
 pub mod Played
 pub mod RoundNumbers
+pub mod Taken
 pub mod Turns

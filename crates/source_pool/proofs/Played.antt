@@ -1,8 +1,6 @@
 -- What the parts of a round come to: its jobs are some, and so are the performed ones.
-use Rattle.std.proofs.Common.{◌≡◌, ◌≢◌, ◌<◌, inl, inr, List, [], ◌∷◌, ◌++◌, length, reverse, refl, sym, ap, subst, ◌∙◌, arith}
+use Rattle.std.proofs.Common.{◌≡◌, ◌≢◌, ◌<◌, List, [], ◌∷◌, length, refl, ap, ◌∙◌, arith}
 use Rattle.std.specs.Prelude.{Contains}
-use Rattle.std.proofs.lemmas.List.{reverse-append, reverse-reverse}
-use Rattle.std.proofs.lemmas.List.Elements.{Contains-append_left, Contains-push}
 use Rattle.app_laws.specs.Applications.{Application}
 use Rattle.commuting.specs.States.{State}
 use Rattle.kdg_graph.specs.Node.{Node}
@@ -11,35 +9,13 @@ use Rattle.graph_update.specs.declared.job.Done.{Done}
 use Rattle.graph_update.specs.declared.job.Job.{Job}
 use Rattle.graph_update.specs.Progress.{Progress}
 use Rattle.source_pool.specs.Course.{AreAllDone, IsAtRest}
-use Rattle.source_pool.proofs.Lists.{cases, here, none}
-
--- ---- lists from behind
-
-pub from_behind : {X : Type 0} (xs : List X) (x : X) → Contains xs x → Contains (reverse xs) x
-from_behind [] x has = absurd (none x has)
-from_behind {X} (y ∷ xs) x has =
-    subst (λ items. Contains items x) (sym (reverse-append (y ∷ []) xs))
-    (elim (cases y x xs has) [
-      | inl same ↦ subst (λ (last : X). Contains (reverse xs ++ last ∷ []) x) (sym same) (Contains-push (reverse xs) x)
-      | inr later ↦ Contains-append_left (reverse xs) (y ∷ []) x (from_behind xs x later)
-    ])
-
-pub as_before : {X : Type 0} (xs : List X) (x : X) → Contains (reverse xs) x → Contains xs x
-as_before xs x has = subst (λ items. Contains items x) (reverse-reverse xs) (from_behind (reverse xs) x has)
+use Rattle.source_pool.proofs.Lists.{here, none}
 
 some_of : {X : Type 0} (xs : List X) (x : X) → Contains xs x → 0 < length xs
 some_of [] x has = absurd (none x has)
 some_of (y ∷ xs) x has = omega arith
 
--- ---- jobs
-
 module _ {V : Type 0} (app : Application V) where
-  pub all_done_reversed : (jobs : List (Job V)) (dones : List (Done V)) → AreAllDone app jobs dones → AreAllDone app jobs (reverse dones)
-  all_done_reversed jobs dones all = record {
-    each = λ job has. let done = all.each job has in (done.0, from_behind dones done.0 done.1, done.2);
-    no_other = λ done has. all.no_other done (as_before dones done has);
-  }
-
   pub some_done : (jobs : List (Job V)) (dones : List (Done V)) → jobs ≢ [] → AreAllDone app jobs dones → 0 < length dones
   some_done [] dones some all = absurd (some refl)
   some_done (job ∷ jobs) dones some all = let done = all.each job (here job jobs) in some_of dones done.0 done.1

@@ -4,3 +4,4 @@ pub mod Faults
 pub mod Laws
 pub mod Performing
 pub mod Runs
+pub mod Turns

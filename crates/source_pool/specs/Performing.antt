@@ -2,14 +2,11 @@
 use Rattle.std.specs.Prelude.{◌≡◌, ◌+◌, ◌%◌, ◌==◌, ◌++◌, if◌then◌else◌, ℕ, List, [], ◌∷◌, length, slice_get, Option, Some, None, Result, Ok, Err, IsPermutation, Vec}
 use Rattle.std.specs.List.{AllByRecursion, flat_map}
 use Rattle.std.specs.Option.{option_map}
-use Rattle.std.specs.List.Sorted.{IsSortedBy}
-use Rattle.std.specs.Ordering.{is_lt}
-use Rattle.task_order.specs.Key.{key_cmp}
 use Rattle.app_laws.specs.Applications.{Application}
 use Rattle.graph_update.specs.declared.job.Done.{Done}
 use Rattle.graph_update.specs.declared.job.Job.{Job}
 use Rattle.graph_update.specs.Engine.{MayRun}
-use Rattle.source_pool.specs.declared.performing.Hand.{Hand}
+use Rattle.source_pool.specs.declared.hands.Hand.{Hand}
 use Rattle.source_pool.specs.Course.{IsJobDone}
 
 -- of items numbered from a first number on, those whose number leaves the worker's when it is divided by the count of workers
@@ -35,20 +32,22 @@ module _ {V : Type 0} where
     pub shares : (number : ℕ) (hand : Hand V) → slice_get hands number ≡ Some hand → hand.jobs.items ≡ share workers number 0 jobs
     pub all : IsPermutation jobs (dealt_jobs hands)
 
-  -- no key is earlier than one after it
-  abbrev pub IsLatestFirst : List (Done V) → Type 0
-  IsLatestFirst dones = IsSortedBy (λ one other. is_lt (key_cmp other.task.key one.task.key)) dones
-
   module _ (app : Application V) where
     -- each job of the hand may run
     abbrev pub MayPlay : Hand V → Type 0
     MayPlay hand = AllByRecursion (MayRun app) hand.jobs.items
 
-    -- each job is performed, in order
-    abbrev pub AreDoneInTurn : List (Job V) → List (Done V) → Type 0
+    -- each job is performed, in order, and the slots have what was done
+    abbrev pub AreDoneInTurn : List (Job V) → List (Option (Done V)) → Type 0
     AreDoneInTurn [] [] = Unit {0}
-    AreDoneInTurn (job ∷ jobs) (done ∷ dones) = IsJobDone app job done × AreDoneInTurn jobs dones
-    AreDoneInTurn jobs dones = ⊥
+    AreDoneInTurn (job ∷ jobs) (Some done ∷ slots) = IsJobDone app job done × AreDoneInTurn jobs slots
+    AreDoneInTurn jobs slots = ⊥
+
+    -- each job is performed, in some order
+    pub record AreDoneInSomeTurn (jobs : List (Job V)) (slots : List (Option (Done V))) : Type 0 where
+      pub turn : List (Job V)
+      pub same : IsPermutation jobs turn
+      pub done : AreDoneInTurn turn slots
 
 -- the parts as one list, where none is wanting
 abbrev pub joined_parts : {X Z E : Type 0} → List (Result (Vec X Z) E) → Option (List X)

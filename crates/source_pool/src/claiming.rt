@@ -1,6 +1,6 @@
 //! How the jobs of a round are drawn.
 
-ghost use Rattle.std.specs.Prelude.{◌≡◌, [], IfOk, OnOk};
+ghost use Rattle.std.specs.Prelude.{◌≡◌, [], OnOk};
 ghost use Rattle.std.specs.List.{AllByRecursion};
 ghost use Rattle.cell_store.specs.Values.{values_of};
 ghost use Rattle.graph_update.specs.Engine.{MayRun};
@@ -12,7 +12,7 @@ use app_laws::App;
 use graph_update::{Claim, Engine, Job};
 use kdg_text::NoRoom;
 use outer_edge::Gate;
-use std::alloc::Global;
+use std::collections::VecDeque;
 
 /// What a gate chooses for worker 0, turn by turn.
 #[derive(Drop)]
@@ -45,24 +45,25 @@ impl<'g, G: Gate> Picks<'g, G> {
     }
 }
 
-/// Claims until a claim gives no job, and gives the jobs, which are those of all clear tasks.
+/// Claims until a claim gives no job. The list then has the jobs, which are those of all clear tasks;
+/// what was in it is dropped.
 pub(crate) fn draw<A: App, G: Gate>(
-    alloc: Global,
     engine: &mut Engine<'_, A>,
     picks: &mut Picks<'_, G>,
-) -> Result<Vec<Job<A::Val>>, NoRoom>
+    jobs: &mut VecDeque<Job<A::Val>>,
+) -> Result<(), NoRoom>
     ghost from: { RunPoint A.Val }
     requires rest { IsAtRest (A.meaning engine.old.app) from.start (values_of from.start.cells) from.state engine.old.progress }
     ensures app { engine.new.app ≡ engine.old.app }
-    ensures drawing { IfOk result (λ jobs. IsDrawing (A.meaning engine.old.app) from.start (values_of from.start.cells) from.state engine.new.progress jobs.items) }
+    ensures drawing { OnOk result (IsDrawing (A.meaning engine.old.app) from.start (values_of from.start.cells) from.state engine.new.progress jobs.new.items) }
     ensures none_clear { OnOk result (clear_nodes (A.meaning engine.old.app) engine.new.progress.nodes ≡ []) }
-    ensures may_run { IfOk result (λ jobs. AllByRecursion (MayRun (A.meaning engine.old.app)) jobs.items) }
+    ensures may_run { OnOk result (AllByRecursion (MayRun (A.meaning engine.old.app)) jobs.new.items) }
     ensures ended { OnOk result (engine.new.progress.ended ≡ engine.old.progress.ended) }
 {
     drawing_laws::<A>();
-    let mut jobs = Vec::new(alloc);
+    jobs.clear();
     while let Claim::Job(job) = engine.claim(picks.next())? {
-        jobs.push(job)?;
+        jobs.push_back(job)?;
     }
-    Ok(jobs)
+    Ok(())
 }

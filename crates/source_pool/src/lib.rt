@@ -3,8 +3,10 @@
 
 mod claiming;
 mod finishing;
+mod hands;
 mod laws;
 mod performing;
+mod round_lists;
 mod rounds;
 
 pub use laws::{drawing_laws, ending_laws, idle_laws, rounds_laws};

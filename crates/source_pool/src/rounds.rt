@@ -9,6 +9,7 @@ use crate::claiming::{Picks, draw};
 use crate::finishing::end_all;
 use crate::laws::{drawing_laws, idle_laws, rounds_laws};
 use crate::performing::perform_jobs;
+use crate::round_lists::RoundLists;
 use app_laws::{App, Finals};
 use cell_store::Held;
 use graph_update::{Engine, FinishFault};
@@ -111,22 +112,32 @@ fn counted_rounds<'a, R: Threads + Sync, A: App + Sync, G: Gate + Sync, L: Ledge
     rounds_laws::<A>();
     let mut steps = Steps::<L>::new(blank);
     let mut picks = Picks::new(gate, seed);
+    let mut lists = RoundLists::new(alloc);
     let mut rounds = 0u64;
     while engine.graph().least().is_some() {
-        play_round(rt, alloc, &mut engine, &mut picks, workers, &mut steps)?;
+        play_round(
+            rt,
+            alloc,
+            &mut engine,
+            &mut picks,
+            workers,
+            &mut lists,
+            &mut steps,
+        )?;
         rounds += 1;
     }
     Ok((engine.end()?, rounds))
 }
 
 /// Plays one round of an execution in which nothing runs: draws the jobs of all clear tasks, has
-/// them performed, and ends them in the order of their keys.
+/// them performed, and ends them in the order of their keys. Whatever is in the lists is dropped.
 fn play_round<R: Threads + Sync, A: App + Sync, G: Gate + Sync, L: Ledger>(
     rt: &R,
     alloc: Global,
     engine: &mut Engine<'_, A>,
     picks: &mut Picks<'_, G>,
     workers: u32,
+    lists: &mut RoundLists<A::Val>,
     steps: &mut Steps<L>,
 ) -> Result<(), RunFault>
     ghost from: { RunPoint A.Val }
@@ -139,7 +150,7 @@ fn play_round<R: Threads + Sync, A: App + Sync, G: Gate + Sync, L: Ledger>(
     ensures fault { IfErr result (IsRunFault (A.meaning engine.old.app) from.start) }
 {
     drawing_laws::<A>();
-    let jobs = draw(alloc, engine, picks)?;
-    let dones = perform_jobs(rt, alloc, engine.app(), picks.gate(), workers, jobs)?;
-    end_all(engine, dones, steps)
+    draw(engine, picks, &mut lists.jobs)?;
+    perform_jobs(rt, alloc, engine.app(), picks.gate(), workers, lists)?;
+    end_all(engine, &mut lists.dones, &lists.turns, steps)
 }

@@ -10,37 +10,37 @@ use Rattle.source_pool.proofs.Drawn.{drawn_out}
 use Rattle.source_pool.proofs.Lists.{all_turned}
 use Rattle.source_pool.proofs.claiming.draw.Goals as goal
 
-pub loop-jobs-smaller : goal.loop-jobs-smaller
-loop-jobs-smaller g c =
-    let answer = subst (IsClaimAnswer (g.A.App.meaning c.loop-jobs.engine.app) c.loop-jobs.engine.progress c.next.result c.claim.new.self.progress) c.in-Job.is c.in_ok-job.ensures.answer in
-    let claimed = subst (λ (app : g.row.A.Denot). IsClaimed (g.A.App.meaning app) c.loop-jobs.engine.progress c.next.result c.claim.new.self.progress c.in-Job.job) c.loop-jobs.invariant.app answer.1 in
-    omega (arith, c.drawing_laws.ensures.starts_one c.args.engine.now.app c.loop-jobs.engine.progress c.claim.new.self.progress c.next.result c.in-Job.job c.loop-jobs.invariant.drawing.come.sound.keys_and_counts.graph claimed)
+pub loop-job-smaller : goal.loop-job-smaller
+loop-job-smaller g c =
+    let answer = subst (IsClaimAnswer (g.A.App.meaning c.loop-job.engine.app) c.loop-job.engine.progress c.next.result c.claim.new.self.progress) c.in-Job.is c.in_ok-job.ensures.answer in
+    let claimed = subst (λ (app : g.row.A.Denot). IsClaimed (g.A.App.meaning app) c.loop-job.engine.progress c.next.result c.claim.new.self.progress c.in-Job.job) c.loop-job.invariant.app answer.1 in
+    omega (arith, c.drawing_laws.ensures.starts_one c.args.engine.now.app c.loop-job.engine.progress c.claim.new.self.progress c.next.result c.in-Job.job c.loop-job.invariant.drawing.come.sound.keys_and_counts.graph claimed)
 
-pub loop-jobs-preserved : goal.loop-jobs-preserved
-loop-jobs-preserved g c =
+pub loop-job-preserved : goal.loop-job-preserved
+loop-job-preserved g c =
     let app = g.A.App.meaning c.args.engine.now.app in
-    let answer = subst (IsClaimAnswer (g.A.App.meaning c.loop-jobs.engine.app) c.loop-jobs.engine.progress c.next.result c.claim.new.self.progress) c.in-Job.is c.in_ok-job.ensures.answer in
-    let claimed = subst (λ (app : g.row.A.Denot). IsClaimed (g.A.App.meaning app) c.loop-jobs.engine.progress c.next.result c.claim.new.self.progress c.in-Job.job) c.loop-jobs.invariant.app answer.1 in
-    let to_run = subst (IsToRun (g.A.App.meaning c.loop-jobs.engine.app)) c.in-Job.is c.in_ok-job.ensures.may_run in
-    let may_run = subst (λ (app : g.row.A.Denot). MayRun (g.A.App.meaning app) c.in-Job.job) c.loop-jobs.invariant.app to_run in
+    let answer = subst (IsClaimAnswer (g.A.App.meaning c.loop-job.engine.app) c.loop-job.engine.progress c.next.result c.claim.new.self.progress) c.in-Job.is c.in_ok-job.ensures.answer in
+    let claimed = subst (λ (app : g.row.A.Denot). IsClaimed (g.A.App.meaning app) c.loop-job.engine.progress c.next.result c.claim.new.self.progress c.in-Job.job) c.loop-job.invariant.app answer.1 in
+    let to_run = subst (IsToRun (g.A.App.meaning c.loop-job.engine.app)) c.in-Job.is c.in_ok-job.ensures.may_run in
+    let may_run = subst (λ (app : g.row.A.Denot). MayRun (g.A.App.meaning app) c.in-Job.job) c.loop-job.invariant.app to_run in
     record {
-      app = c.claim.ensures.app ∙ c.loop-jobs.invariant.app;
-      drawing = subst (IsDrawing app g.from.start (values_of g.from.start.cells) g.from.state c.claim.new.self.progress) (sym c.in_ok-push.ensures.items)
-          (c.drawing_laws.ensures.goes_on c.args.engine.now.app g.from.start c.loop-jobs.engine.progress c.claim.new.self.progress (values_of g.from.start.cells) g.from.state c.loop-jobs.jobs.items c.next.result c.in-Job.job
-          c.loop-jobs.invariant.drawing claimed);
-      may_run = subst (AllByRecursion (MayRun app)) (sym c.in_ok-push.ensures.items) (all_turned (MayRun app) c.in-Job.job c.loop-jobs.jobs.items may_run c.loop-jobs.invariant.may_run);
-      ended = ap (λ (p : Progress g.row.A-Val.Denot). p.ended) claimed.after ∙ c.loop-jobs.invariant.ended;
+      app = c.claim.ensures.app ∙ c.loop-job.invariant.app;
+      drawing = subst (IsDrawing app g.from.start (values_of g.from.start.cells) g.from.state c.claim.new.self.progress) (sym c.in_ok-push_back.ensures.items)
+          (c.drawing_laws.ensures.goes_on c.args.engine.now.app g.from.start c.loop-job.engine.progress c.claim.new.self.progress (values_of g.from.start.cells) g.from.state c.loop-job.jobs.items c.next.result c.in-Job.job
+          c.loop-job.invariant.drawing claimed);
+      may_run = subst (AllByRecursion (MayRun app)) (sym c.in_ok-push_back.ensures.items) (all_turned (MayRun app) c.in-Job.job c.loop-job.jobs.items may_run c.loop-job.invariant.may_run);
+      ended = ap (λ (p : Progress g.row.A-Val.Denot). p.ended) claimed.after ∙ c.loop-job.invariant.ended;
     }
 
 pub returns : goal.returns
 returns g c =
     let app = g.A.App.meaning c.args.engine.now.app in
-    let answer = subst (λ (app : g.row.A.Denot). IsClaimAnswer (g.A.App.meaning app) c.loop-jobs.engine.progress c.next.result c.claim.new.self.progress c.in_ok-job.field-0) c.loop-jobs.invariant.app c.in_ok-job.ensures.answer in
-    let out = drawn_out app c.loop-jobs.engine.progress c.claim.new.self.progress c.next.result c.in_ok-job.field-0 answer c.in_default.not-Job c.loop-jobs.invariant.drawing.come.over in
+    let answer = subst (λ (app : g.row.A.Denot). IsClaimAnswer (g.A.App.meaning app) c.loop-job.engine.progress c.next.result c.claim.new.self.progress c.in_ok-job.field-0) c.loop-job.invariant.app c.in_ok-job.ensures.answer in
+    let out = drawn_out app c.loop-job.engine.progress c.claim.new.self.progress c.next.result c.in_ok-job.field-0 answer c.in_default.not-Job c.loop-job.invariant.drawing.come.over in
     record {
-      app = c.claim.ensures.app ∙ c.loop-jobs.invariant.app;
-      drawing = subst (λ now. IsDrawing app g.from.start (values_of g.from.start.cells) g.from.state now c.loop-jobs.jobs.items) (sym out.same) c.loop-jobs.invariant.drawing;
+      app = c.claim.ensures.app ∙ c.loop-job.invariant.app;
+      drawing = subst (λ now. IsDrawing app g.from.start (values_of g.from.start.cells) g.from.state now c.loop-job.jobs.items) (sym out.same) c.loop-job.invariant.drawing;
       none_clear = ap (λ (p : Progress g.row.A-Val.Denot). clear_nodes app p.nodes) out.same ∙ out.none_clear;
-      may_run = c.loop-jobs.invariant.may_run;
-      ended = ap (λ (p : Progress g.row.A-Val.Denot). p.ended) out.same ∙ c.loop-jobs.invariant.ended;
+      may_run = c.loop-job.invariant.may_run;
+      ended = ap (λ (p : Progress g.row.A-Val.Denot). p.ended) out.same ∙ c.loop-job.invariant.ended;
     }

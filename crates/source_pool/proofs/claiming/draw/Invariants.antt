@@ -5,13 +5,13 @@ use Rattle.graph_update.specs.Engine.{MayRun}
 use Rattle.source_pool.specs.Course.{IsDrawing, idle_count}
 use Rattle.source_pool.proofs.claiming.draw.Given as goal
 
-abbrev pub invariant-loop-jobs : goal.invariant-loop-jobs
-invariant-loop-jobs g l = record {
+abbrev pub invariant-loop-job : goal.invariant-loop-job
+invariant-loop-job g l = record {
   app : l.engine.app ≡ l.fn.engine.app;
   drawing : IsDrawing (g.A.App.meaning l.fn.engine.app) g.from.start (values_of g.from.start.cells) g.from.state l.engine.progress l.jobs.items;
   may_run : AllByRecursion (MayRun (g.A.App.meaning l.fn.engine.app)) l.jobs.items;
   ended : l.engine.progress.ended ≡ l.fn.engine.progress.ended;
 }
 
-abbrev pub decreases-loop-jobs : goal.decreases-loop-jobs
-decreases-loop-jobs g l = idle_count l.engine.progress.nodes
+abbrev pub decreases-loop-job : goal.decreases-loop-job
+decreases-loop-job g l = idle_count l.engine.progress.nodes

@@ -1,10 +1,11 @@
 use Rattle.std.proofs.Common.{ℕ, suc, sym, ap, subst, ◌∙◌, add-one, arith}
+use Rattle.std.proofs.lemmas.Result.{err_from_is_err_and}
 use Rattle.cell_store.specs.Values.{values_of}
 use Rattle.output_log.specs.Entries.{joined_texts}
 use Rattle.commuting.specs.Rounds.{after_round}
 use Rattle.kdg_graph.specs.Nodes.{least_of, tasks_of}
 use Rattle.source_pool.specs.Course.{IsAtRest, LeadsByRounds}
-use Rattle.source_pool.specs.Runs.{state_at_rest}
+use Rattle.source_pool.specs.Runs.{IsRunFault, state_at_rest}
 use Rattle.source_pool.proofs.EngineAtRest.{no_node, rest_at, some_node, state_is}
 use Rattle.source_pool.proofs.Played.{some_pending}
 use Rattle.source_pool.proofs.rounds.counted_rounds.Goals as goal
@@ -18,6 +19,16 @@ play_round-requires g c κs within =
       within.0,
       (within.1.0, (within.1.1.0, (within.1.1.1.0, (within.1.1.1.1, (bounds.0, (bounds.1.0, (bounds.1.1.0, (bounds.1.1.1.0, (workers, (rest, some)))))))))),
     )
+
+pub returns-in_err-play_round-clause-fault : goal.returns-in_err-play_round-clause-fault
+returns-in_err-play_round-clause-fault g c =
+    let fault = subst (λ (app : g.row.A.Denot). IsRunFault (g.A.App.meaning app) g.start c.in_err-play_round.field-0.0) c.loop-picks.invariant.app c.in_err-play_round.ensures.fault in
+    let e = err_from_is_err_and c.from_residual.result c.from_residual.ensures.1 in
+    rw (e.1, e.2) fault
+
+pub end-requires-after_bounds : goal.end-requires-after_bounds
+end-requires-after_bounds g c κs within =
+    no_node c.loop-picks.engine.progress.nodes c.least.result (c.least.ensures.least ∙ ap least_of c.graph.ensures.nodes) (sym c.is_some.ensures ∙ c.loop-picks-test.false)
 
 pub loop-picks-preserved : goal.loop-picks-preserved
 loop-picks-preserved g c =

@@ -2,14 +2,14 @@ use Rattle.std.proofs.Common.{◌≡◌, ◌∷◌, ◌∙◌, Ok, ap, sym, leng
 use Rattle.std.specs.Vec.Iter.{into_iter_items}
 use Rattle.source_pool.specs.Performing.{joined_parts}
 use Rattle.source_pool.proofs.Parts.{joined_first, joined_last, joined_more, nothing_left}
-use Rattle.source_pool.proofs.performing.join_parts.Goals as goal
+use Rattle.source_pool.proofs.hands.join_parts.Goals as goal
 
 pub loop-part-init : goal.loop-part-init
 loop-part-init g c =
     let all = c.into_iter-part-iterator.ensures.into_iter_gives in
     record {
       len = all.1 ∙ c.args.parts.ok.0 ∙ sym (ap length all.0);
-      joined = ap joined_parts (sym all.0) ∙ joined_first c.new-dones.result.items (joined_parts (into_iter_items c.into_iter-part-iterator.result)) c.new-dones.ensures.items;
+      joined = ap joined_parts (sym all.0) ∙ joined_first c.clear.new.self.items (joined_parts (into_iter_items c.into_iter-part-iterator.result)) c.clear.ensures.items;
     }
 
 pub loop-part-preserved : goal.loop-part-preserved

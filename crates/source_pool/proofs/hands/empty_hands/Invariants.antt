@@ -1,5 +1,5 @@
 use Rattle.source_pool.specs.Performing.{AreEmptyHands}
-use Rattle.source_pool.proofs.performing.empty_hands.Given as goal
+use Rattle.source_pool.proofs.hands.empty_hands.Given as goal
 
 -- a hand for each worker so far
 abbrev pub invariant-loop-worker : goal.invariant-loop-worker

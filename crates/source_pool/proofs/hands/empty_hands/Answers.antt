@@ -1,8 +1,8 @@
 use Rattle.std.proofs.Common.{◌≡◌, [], ◌∷◌, ◌++◌, ◌+◌, sym, subst, refl}
-use Rattle.source_pool.specs.declared.performing.Hand.{Hand}
+use Rattle.source_pool.specs.declared.hands.Hand.{Hand}
 use Rattle.source_pool.specs.Performing.{AreEmptyHands}
 use Rattle.source_pool.proofs.Dealing.{one_hand_more}
-use Rattle.source_pool.proofs.performing.empty_hands.Goals as goal
+use Rattle.source_pool.proofs.hands.empty_hands.Goals as goal
 
 pub loop-worker-preserved : goal.loop-worker-preserved
 loop-worker-preserved g c =

@@ -1,0 +1,50 @@
+use Rattle.std.proofs.Common.{◌≡◌, ◌<◌, ◌%◌, ◌+◌, ◌∷◌, ◌∙◌, ℕ, List, Some, ap, refl, sym, subst, length, arith, rules, slice_set}
+use Rattle.std.specs.Prelude.{MatchOption, Option, slice_get}
+use Rattle.std.specs.VecDeque.{deque_len}
+use Rattle.std.proofs.lemmas.Option.{slice_get_read}
+use Rattle.graph_update.specs.declared.job.Job.{Job}
+use Rattle.source_pool.specs.declared.hands.Hand.{Hand}
+use Rattle.source_pool.proofs.Dealing.{AreDealtBefore, all_dealt, none_dealt, one_dealt}
+use Rattle.source_pool.proofs.Finished.{none_left, none_where_not}
+use Rattle.source_pool.proofs.hands.deal.Goals as goal
+
+pub loop-job-init : goal.loop-job-init
+loop-job-init g c = record {
+  dealt = none_dealt (length c.args.hands.now.items) c.args.jobs.now.items c.args.jobs.now.items c.args.hands.now.items c.requires.empty refl;
+  few = omega arith;
+}
+
+pub loop-job-preserved : goal.loop-job-preserved
+loop-job-preserved g c =
+    let at = c.loop-job in
+    let workers : ℕ = length c.args.hands.now.items in
+    let number : ℕ = at.number in
+    let job : Job g.row.V.Denot = c.in-Some.job in
+    let rest : List (Job g.row.V.Denot) = c.pop_front.new.self.items in
+    let hands : List (Hand g.row.V.Denot) = at.hands.items in
+    let hand : Hand g.row.V.Denot = c.index_mut.result.now in
+    let next : Hand g.row.V.Denot = record { worker = hand.worker; jobs = c.push_back.new.self } in
+    let steps : at.jobs.items ≡ job ∷ rest = c.in-Some.ensures.items in
+    let so_far : AreDealtBefore workers c.args.jobs.now.items number (job ∷ rest) hands =
+    subst (λ (left : List (Job g.row.V.Denot)). AreDealtBefore workers c.args.jobs.now.items number left hands) steps at.invariant.dealt in
+    let count : c.len.result ≡ workers = c.len.ensures ∙ at.hands.ok.0 ∙ so_far.count in
+    let place : number % c.len.result ≡ number % workers = (λ i. number % count i) in
+    let some : 0 < workers = c.requires.some in
+    let inside : number % workers < workers = search rules in
+    let there : slice_get hands (number % workers) ≡ Some hand =
+    subst (λ k. slice_get hands k ≡ Some hand) place (slice_get_read hands workers (number % c.len.result) hand (sym so_far.count) (subst (λ k. k < workers) (sym place) inside) c.index_mut.ensures.value) in
+    let few = at.invariant.few in
+    let short = ap length steps in
+    record {
+      dealt = one_dealt workers c.args.jobs.now.items number job rest hands hand next (slice_set hands (number % c.len.result) next)
+          so_far there refl c.in_ok-push_back.ensures.items (ap (λ k. slice_set hands k next) place);
+      few = omega arith;
+    }
+
+pub returns : goal.returns
+returns g c =
+    let at = c.loop-job in
+    let none = none_where_not c.pop_front.result c.in_default.not-Some in
+    let popped = subst (λ (popped : Option (Job g.row.V.Denot)). MatchOption popped ((deque_len at.jobs ≡ 0) × (deque_len c.pop_front.new.self ≡ 0)) (λ _. deque_len c.pop_front.new.self + 1 ≡ deque_len at.jobs)) none c.pop_front.ensures.cases in
+    let empty : length at.jobs.items ≡ 0 = omega (arith, popped.0) in
+    all_dealt (length c.args.hands.now.items) c.args.jobs.now.items at.number at.jobs.items at.hands.items at.invariant.dealt (none_left at.jobs.items empty)

@@ -1,0 +1,15 @@
+use Rattle.std.proofs.Common.{length}
+use Rattle.std.specs.List.{AllByRecursion}
+use Rattle.graph_update.specs.Engine.{MayRun}
+use Rattle.source_pool.proofs.Turns.{AreDoneBefore}
+use Rattle.source_pool.proofs.performing.perform_in_turn.Given as goal
+
+-- whoever performs what is left performs all
+abbrev pub invariant-loop-job : goal.invariant-loop-job
+invariant-loop-job g l = record {
+  may : AllByRecursion (MayRun (g.A.App.meaning l.app)) l.jobs.items;
+  done : AreDoneBefore (g.A.App.meaning l.app) l.fn.jobs.items l.jobs.items l.dones.items;
+}
+
+abbrev pub decreases-loop-job : goal.decreases-loop-job
+decreases-loop-job g l = length l.jobs.items

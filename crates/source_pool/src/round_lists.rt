@@ -1,0 +1,32 @@
+//! The lists of a round.
+
+ghost use Rattle.std.specs.Prelude.{◌≡◌, []};
+
+use cell_store::Held;
+use graph_update::{Done, Job};
+use std::alloc::Global;
+use std::collections::VecDeque;
+
+/// The lists of a round. Each round fills them anew, in the room that earlier rounds took.
+#[derive(Drop)]
+pub(crate) struct RoundLists<V: Held> {
+    /// What is drawn and not yet performed, the first one drawn first.
+    pub(crate) jobs: VecDeque<Job<V>>,
+    /// What is performed, with `None` in the place of each that has ended.
+    pub(crate) dones: Vec<Option<Done<V>>>,
+    /// The places of all that is performed, in the order of the keys.
+    pub(crate) turns: Vec<usize>,
+}
+
+impl<V: Held> RoundLists<V> {
+    /// Lists without room.
+    pub(crate) fn new(alloc: Global) -> RoundLists<V>
+        ensures { result.jobs.items ≡ [] }
+    {
+        RoundLists {
+            jobs: VecDeque::new(alloc),
+            dones: Vec::new(alloc),
+            turns: Vec::new(alloc),
+        }
+    }
+}
