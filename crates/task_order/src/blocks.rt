@@ -242,6 +242,8 @@ impl Blocks {
     }
 
     /// Drops a block.
+    #[cold]
+    #[inline(never)]
     fn remove_block(&mut self, at: usize)
         requires { at < length self.old }
         ensures { self.new ≡ remove self.old at }
