@@ -25,8 +25,3 @@ pub use laters::Laters;
 pub use laws::{later_laws, node_laws, put_laws, rewrite_laws, source_laws};
 pub use node_id::NodeId;
 pub use sources::Sources;
-
-#[cfg(test)]
-mod plain;
-#[cfg(test)]
-mod tests;

@@ -1,4 +1,4 @@
-use crate::{Graph, NodeId};
+use kdg_graph::{Graph, NodeId};
 use kdg_text::NoRoom;
 use std::alloc::Global;
 use task_order::Key;

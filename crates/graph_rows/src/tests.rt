@@ -2,8 +2,8 @@ ghost use Rattle.std.specs.Prelude.{IfOk};
 ghost use Rattle.kdg_graph.specs.Nodes.{HasNode};
 
 use crate::plain::{plain_laters, plain_sources};
-use crate::{Fresh, Graph, NodeId, SetChange};
 use Access::{Read, Write};
+use kdg_graph::{Fresh, Graph, NodeId, SetChange};
 use kdg_text::NoRoom;
 use rw_sets::{Access, RwSet};
 use std::alloc::Global;
