@@ -1,17 +1,17 @@
 -- The first cells, as they are made place by place.
-use Rattle.std.specs.Prelude.{Result, Ok, Err, IfOk, ◌≡◌, ◌≢◌, ℕ, zero, suc, ◌+◌, ◌-◌, ◌<◌, ◌≤◌, Bool, true, false, ◌==◌, nat_lt, if◌then◌else◌, List, [], ◌∷◌, ◌++◌, length, map, filter, slice_set, refl}
+use Rattle.std.specs.Prelude.{Result, Ok, Err, IfOk, ◌≡◌, ◌≢◌, ℕ, zero, suc, ◌+◌, ◌-◌, ◌<◌, ◌≤◌, Bool, true, false, ◌==◌, nat_lt, if◌then◌else◌, List, [], ◌∷◌, ◌++◌, length, map, filter, take, drop, slice_set, refl}
 use Rattle.std.specs.List.{AllByRecursion}
 use Rattle.std.specs.Ordering.{nat_cmp, ordering_then}
 use Rattle.std.specs.declared.cmp.Ordering.{Ordering}
 use Rattle.std.specs.declared.cmp.Ordering.TheVariants.{Less, Equal, Greater}
 use Rattle.std.proofs.Common.{◌⊎◌, inl, inr, arith, sym, ap, ◌∙◌, subst, length-set, append-nil, get_or}
 use Rattle.std.proofs.lemmas.Bool.{and_parts, and_from, cases_lt, cases_eq, eqb-true, eq-eqb, ne_eqb, lt-ltb, le-ltb}
-use Rattle.std.proofs.lemmas.List.{get_or-set_same, get_or-set_other, map-append}
+use Rattle.std.proofs.lemmas.List.{get_or-set_same, get_or-set_other, map-append, take_more, take-append-drop}
 use Rattle.std.proofs.lemmas.List.Elements.{filter-append}
 use Rattle.task_order.specs.declared.start.Start.{Start}
 use Rattle.app_laws.specs.Applications.{AreFitStarts}
 use Rattle.mtx_reader.specs.declared.pattern.Pattern.{Pattern}
-use Rattle.mtx_reader.specs.Ascending.{IsAscendingBy, IsIn, numbers_from, all_in, all_from_in, in_map, from_map, in_filter, from_filter, from_numbers, less_from_cmp}
+use Rattle.mtx_reader.specs.Ascending.{IsAscendingBy, IsIn, numbers_from, all_in, all_from_in, in_left, in_right, in_map, from_map, in_filter, from_filter, from_numbers, less_from_cmp}
 use Rattle.mtx_reader.specs.Patterns.{IsPattern}
 use Rattle.mtx_reader.specs.Places.{Place, is_same, place_cmp, is_among, IsWithin}
 use Rattle.gf2_eliminate.specs.declared.line.Line2.{Line2}
@@ -187,6 +187,53 @@ ascending_rows (place ∷ places) column up = by_test (place.1 == column) refl (
     by_test : (b : Bool) → (place.1 == column) ≡ b → IsAscendingBy nat_cmp (rows_in places column) → IsAscendingBy nat_cmp (map (λ (p : Place). p.0) (if b then place ∷ filter (λ (p : Place). p.1 == column) places else filter (λ (p : Place). p.1 == column) places))
     by_test true is rest = (all_from_in (λ n. nat_cmp place.0 n ≡ Less) (rows_in places column) (behind (eqb-true place.1 column is)), rest)
     by_test false is rest = rest
+
+ascending_front : {X : Type 0} (cmp : X → X → Ordering) (xs ys : List X) → IsAscendingBy cmp (xs ++ ys) → IsAscendingBy cmp xs
+ascending_front cmp [] ys up = tt
+ascending_front cmp (x ∷ xs) ys up = (all_from_in (λ y. cmp x y ≡ Less) xs (λ y there. all_in (λ z. cmp x z ≡ Less) (xs ++ ys) y up.0 (in_left xs ys y there)), ascending_front cmp xs ys up.1)
+
+-- what stands before the last number of an ascending list
+before_last : (xs : List ℕ) (x : ℕ) → IsAscendingBy nat_cmp (xs ++ x ∷ []) → AllByRecursion (λ y. y < x) xs
+before_last [] x up = tt
+before_last (y ∷ ys) x up = (less_from_cmp y x (all_in (λ z. nat_cmp y z ≡ Less) (ys ++ x ∷ []) x up.0 (in_right ys (x ∷ []) x (inl refl))), before_last ys x up.1)
+
+pub ascending_to : (places : List Place) (i : ℕ) (d : Place) → i < length places → IsAscendingBy place_cmp places → IsAscendingBy place_cmp (take i places ++ get_or places i d ∷ [])
+ascending_to places i d below up =
+    subst (IsAscendingBy place_cmp) (take_more places i d below) (ascending_front place_cmp (take (i + 1) places) (drop (i + 1) places) (subst (IsAscendingBy place_cmp) (sym (take-append-drop (i + 1) places)) up))
+
+-- a place behind all others is behind those of its row and of its column
+module _ (rows columns : ℕ) (places : List Place) (row column : ℕ) (up : IsAscendingBy place_cmp (places ++ (row, column) ∷ [])) (within : IsWithin rows columns (row, column)) (lines : List Line2)
+    (so-far : lines ≡ lines_so_far rows columns places) where
+  columns-before : AllByRecursion (λ other. other < column) (columns_in places row)
+  columns-before =
+      let here : columns_in ((row, column) ∷ []) row ≡ column ∷ [] = ap (λ b. map (λ (p : Place). p.1) (if b then (row, column) ∷ [] else [])) (eq-eqb row row refl) in
+      before_last (columns_in places row) column
+      (subst (IsAscendingBy nat_cmp) (columns_push places (row, column) row ∙ ap (λ ns. columns_in places row ++ ns) here) (ascending_columns (places ++ (row, column) ∷ []) row up))
+
+  rows-before : AllByRecursion (λ other. other < row) (rows_in places column)
+  rows-before =
+      let here : rows_in ((row, column) ∷ []) column ≡ row ∷ [] = ap (λ b. map (λ (p : Place). p.0) (if b then (row, column) ∷ [] else [])) (eq-eqb column column refl) in
+      before_last (rows_in places column) row
+      (subst (IsAscendingBy nat_cmp) (rows_push places (row, column) column ∙ ap (λ ns. rows_in places column ++ ns) here) (ascending_rows (places ++ (row, column) ∷ []) column up))
+
+  line-is : (loc : ℕ) → loc < rows + columns → line_at lines loc ≡ line_so_far rows places loc
+  line-is loc below = ap (λ ls. line_at ls loc) so-far ∙ line_numbers (line_so_far rows places) (rows + columns) loc below
+
+  pub row_behind : AllByRecursion (λ other. other < column) (numbers_in (line_at lines (row - 1)))
+  row_behind =
+      let below : row - 1 < rows = omega (arith, within.row.0, within.row.1) in
+      let same : suc (row - 1) ≡ row = omega (arith, within.row.0) in
+      subst (λ line. AllByRecursion (λ other. other < column) (numbers_in line)) (sym (line-is (row - 1) (omega arith) ∙ so_far_row rows columns places (row - 1) below))
+      (subst (λ r. AllByRecursion (λ other. other < column) (columns_in places r)) (sym same) columns-before)
+
+  pub column_behind : (middle : List Line2) (line : Line2) → middle ≡ slice_set lines (row - 1) line → AllByRecursion (λ other. other < row) (numbers_in (line_at middle (rows + (column - 1))))
+  column_behind middle line first =
+      let same : suc ((rows + (column - 1)) - rows) ≡ column = omega (arith, within.column.0) in
+      let untouched : line_at middle (rows + (column - 1)) ≡ line_at lines (rows + (column - 1)) =
+      ap (λ ls. line_at ls (rows + (column - 1))) first ∙ get_or-set_other lines (row - 1) (rows + (column - 1)) line no_line (λ at. omega (arith, at, within.row.0, within.row.1)) in
+      subst (λ l. AllByRecursion (λ other. other < row) (numbers_in l))
+      (sym (untouched ∙ line-is (rows + (column - 1)) (omega (arith, within.column.0, within.column.1)) ∙ so_far_column rows columns places (rows + (column - 1)) (omega arith)))
+      (subst (λ c. AllByRecursion (λ other. other < row) (rows_in places c)) (sym same) rows-before)
 
 has_columns : (places : List Place) (row n : ℕ) → has (columns_in places row) n ≡ is_among places (row, n)
 has_columns places row n = same_tests (has (columns_in places row) n) (is_among places (row, n))

@@ -1,5 +1,5 @@
-pub mod Sums
-pub mod MarkedSums
+pub mod Words
+pub mod Listing
 pub mod Planning
 pub mod Held
 pub mod Effects

@@ -22,7 +22,7 @@ pub or_assoc : (a b c : Bool) → ((a || b) || c) ≡ (a || (b || c))
 or_assoc true b c = refl
 or_assoc false b c = refl
 
-any_append : (test : ℕ → Bool) (ns : List ℕ) (n : ℕ) → list_any test (ns ++ n ∷ []) ≡ (list_any test ns || test n)
+pub any_append : (test : ℕ → Bool) (ns : List ℕ) (n : ℕ) → list_any test (ns ++ n ∷ []) ≡ (list_any test ns || test n)
 any_append test [] n = or_none (test n)
 any_append test (m ∷ ns) n = ap (λ b. test m || b) (any_append test ns n) ∙ sym (or_assoc (test m) (list_any test ns) (test n))
 

@@ -2,7 +2,7 @@ pub mod Lines
 pub mod Elimination
 pub mod Plans
 pub mod Touched
-pub mod Marks
+pub mod Ones
 pub mod Membership
 pub mod Lawful
 pub mod Start

@@ -1,9 +1,9 @@
 -- The locations that the task of a column names, as they are found from the column's rows.
-use Rattle.std.specs.Prelude.{◌≡◌, ℕ, suc, ◌+◌, ◌-◌, ◌≤◌, ◌<◌, Bool, true, false, ◌||◌, ◌↔◌, ◌==◌, List, ◌++◌, length, map, filter, slice_index_or}
+use Rattle.std.specs.Prelude.{ℕ, suc, ◌+◌, ◌-◌, ◌≤◌, Bool, ◌||◌, ◌==◌, List, ◌++◌, map, filter}
 use Rattle.std.specs.List.{AllByRecursion, list_any}
 use Rattle.cell_store.specs.declared.cell.Cell.{Cell}
 use Rattle.cell_store.specs.Cells.{cell_at}
-use Rattle.mtx_reader.specs.Ascending.{IsIn, numbers_from}
+use Rattle.mtx_reader.specs.Ascending.{numbers_from}
 use Rattle.gf2_eliminate.specs.declared.line.Line2.{Line2}
 use Rattle.gf2_eliminate.specs.Lines.{numbers_in, has}
 use Rattle.gf2_eliminate.specs.Elimination.{shown}
@@ -27,12 +27,3 @@ AreRowsTo rows numbers = AllByRecursion (λ row. (1 ≤ row) × (row ≤ rows)) 
 -- the ones of each of these rows are in so many columns
 abbrev pub HaveColumns : List (Cell Line2) → ℕ → List ℕ → Type 0
 HaveColumns cells columns rows = AllByRecursion (λ row. AllByRecursion (λ number. (1 ≤ number) × (number ≤ columns)) (ones_at cells (row - 1))) rows
-
--- a mark for each column
-pub record AreMarks (columns : ℕ) (cells : List (Cell Line2)) (column : ℕ) (rows : List ℕ) (marks : List Bool) : Type 0 where
-  pub count : length marks ≡ columns
-  pub each : (k : ℕ) → k < columns → slice_index_or marks k false ≡ is_marked cells column rows k
-
--- the places that are marked, in some order
-abbrev pub AreFound : List Bool → List ℕ → Type 0
-AreFound marks found = (k : ℕ) → IsIn found k ↔ (slice_index_or marks k false ≡ true)

@@ -1,12 +1,12 @@
 //! Elimination over the field of two elements as an ordered application, whose sets move.
 #![tactic(auto)]
 
-mod addition;
 mod blocks;
 mod finals;
 mod laws;
 mod line;
 mod matrix;
+mod ones;
 mod start;
 mod step;
 mod touched;
@@ -15,6 +15,7 @@ pub use blocks::block_pattern;
 pub use laws::elimination_laws;
 pub use line::Line2;
 pub use matrix::Matrix;
+pub use ones::OneSet;
 
 #[cfg(test)]
 mod tests;

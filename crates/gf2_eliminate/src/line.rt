@@ -1,25 +1,27 @@
-ghost use Rattle.std.specs.Prelude.{◌≡◌, OnOk};
+ghost use Rattle.std.specs.Prelude.{◌≡◌, ◌<◌, OnOk};
+ghost use Rattle.std.specs.List.{AllByRecursion};
 ghost use Rattle.gf2_eliminate.specs.Lines.{is_used, numbers_in};
 ghost use Rattle.gf2_eliminate.specs.Start.{with_number};
 
+use crate::OneSet;
 use cell_store::Held;
-use kdg_text::{NoRoom, NumList};
+use kdg_text::NoRoom;
 
-/// A row or a column of a matrix of zeros and ones. Its list has the places of its ones, counted
-/// from 1, in ascending order.
+/// A row or a column of a matrix of zeros and ones, as the set of the places of its ones, which are
+/// counted from 1.
 #[derive(Drop)]
 pub enum Line2 {
     /// A row.
     Row {
         /// The columns in which it has a one.
-        cols: NumList,
+        cols: OneSet,
         /// Whether it was the pivot of a column.
         used: bool,
     },
     /// A column.
     Col {
         /// The rows in which it has a one.
-        rows: NumList,
+        rows: OneSet,
     },
 }
 
@@ -37,12 +39,12 @@ impl Held for Line2 {
 
 impl Line2 {
     /// The places of its ones.
-    pub(crate) fn ones(&self) -> &[u32]
+    pub(crate) fn ones(&self) -> &OneSet
         ensures { result.now ≡ numbers_in self.now }
     {
         match self {
-            Line2::Row { cols, .. } => cols.items(),
-            Line2::Col { rows } => rows.items(),
+            Line2::Row { cols, .. } => cols,
+            Line2::Col { rows } => rows,
         }
     }
 
@@ -56,8 +58,9 @@ impl Line2 {
         }
     }
 
-    /// Adds a number at the end of its list.
+    /// Puts a one behind all others.
     pub(crate) fn push(&mut self, number: u32) -> Result<(), NoRoom>
+        requires { AllByRecursion (λ other. other < number) (numbers_in self.old) }
         ensures { OnOk result (self.new ≡ with_number self.old number) }
     {
         match self {

@@ -106,10 +106,11 @@ impl App for Matrix {
             Seen::At(line) => line,
             Seen::Out => return Ok(SetAnswer::Out(at)),
         };
-        match first_out(store, line.ones()) {
+        let rows = line.ones().places(self.alloc)?;
+        match first_out(store, &rows) {
             Some(loc) => Ok(SetAnswer::Out(loc)),
             None => {
-                let pairs = touched(self.alloc, size, body.at, line.ones(), store)?;
+                let pairs = touched(self.alloc, size, body.at, &rows, store)?;
                 Ok(SetAnswer::Known(RwSet::from_pairs(pairs)))
             }
         }

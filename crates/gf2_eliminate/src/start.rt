@@ -1,11 +1,12 @@
 ghost use Rattle.std.specs.Prelude.{◌≡◌, ◌+◌, ◌<◌, ◌^◌, map, length, slice_set, IfOk, OnOk};
+ghost use Rattle.std.specs.List.{AllByRecursion};
 ghost use Rattle.mtx_reader.specs.Ascending.{numbers_from};
 ghost use Rattle.mtx_reader.specs.Patterns.{IsPattern};
-ghost use Rattle.gf2_eliminate.specs.Lines.{line_at};
+ghost use Rattle.gf2_eliminate.specs.Lines.{line_at, numbers_in};
 ghost use Rattle.gf2_eliminate.specs.Start.{empty_line, start_cells, start_task, with_number};
 
-use crate::Line2;
-use kdg_text::{NoRoom, NumList};
+use crate::{Line2, OneSet};
+use kdg_text::NoRoom;
 use mtx_reader::Pattern;
 use std::alloc::Global;
 use task_order::{Body, Start, StartList};
@@ -60,19 +61,20 @@ fn empty_line(alloc: Global, rows: u32, loc: u32) -> Line2
 {
     if loc < rows {
         Line2::Row {
-            cols: NumList::new(alloc),
+            cols: OneSet::new(alloc),
             used: false,
         }
     } else {
         Line2::Col {
-            rows: NumList::new(alloc),
+            rows: OneSet::new(alloc),
         }
     }
 }
 
-/// Adds a number to the line of a location.
+/// Adds a number behind those of the line of a location.
 fn put_one(lines: &mut Vec<Line2>, loc: u32, number: u32) -> Result<(), NoRoom>
-    requires { loc < length lines.old.items }
+    requires there { loc < length lines.old.items }
+    requires behind { AllByRecursion (λ other. other < number) (numbers_in (line_at lines.old.items loc)) }
     ensures { OnOk result (lines.new.items ≡ slice_set lines.old.items loc (with_number (line_at lines.old.items loc) number)) }
 {
     lines[loc as usize].push(number)

@@ -5,10 +5,9 @@ ghost use Rattle.gf2_eliminate.specs.Elimination.{free_line, pivot_line};
 ghost use Rattle.gf2_eliminate.specs.Lines.{numbers_in, is_used, IsListTo};
 ghost use Rattle.gf2_eliminate.specs.Plans.{line_in, sum_to, locations, locations_behind, pivot_among, planned_rows, planned_columns, planned, without, text_with, HasRow, HasColumn, AreListsTo, IsHeld, with_lines};
 
-use crate::Line2;
-use crate::addition::sum;
+use crate::{Line2, OneSet};
 use cell_store::{Bundle, location_laws, value_laws};
-use kdg_text::{NoRoom, NumList, Text, push_u64};
+use kdg_text::{NoRoom, Text, push_u64};
 use std::alloc::Global;
 
 /// What a task is about to write: new lines with their locations, and its text.
@@ -32,18 +31,20 @@ pub(crate) fn plan(
 {
     location_laws::<Line2>();
     value_laws::<Line2>();
-    let holders = bundle.get(rows + column).ones();
+    let ones = bundle.get(rows + column).ones();
+    let holders = ones.places(alloc)?;
     let mut lines = Vec::new(alloc);
-    match pivot_among(bundle, holders) {
+    match pivot_among(bundle, &holders) {
         None => {
             let text = free_line(alloc, column)?;
             Ok(Change { lines, text })
         }
         Some(pivot) => {
             let added = bundle.get(pivot).ones();
-            plan_rows(alloc, &mut lines, bundle, holders, (pivot, added))?;
-            let others = without(alloc, holders, pivot)?;
-            plan_columns(alloc, &mut lines, bundle, rows, (added, others.items()))?;
+            plan_rows(&mut lines, bundle, &holders, (pivot, added))?;
+            let columns = added.places(alloc)?;
+            let others = ones.without(pivot + 1)?;
+            plan_columns(&mut lines, bundle, rows, (&columns, &others))?;
             let text = pivot_line(alloc, column, pivot)?;
             Ok(Change { lines, text })
         }
@@ -66,11 +67,10 @@ fn pivot_among(bundle: &Bundle<Line2>, holders: &[u32]) -> Option<u32>
 
 /// Plans these rows, where the pivot is added to the others, and is used.
 fn plan_rows(
-    alloc: Global,
     lines: &mut Vec<(u32, Line2)>,
     bundle: &Bundle<Line2>,
     holders: &[u32],
-    pivot: (u32, &[u32]),
+    pivot: (u32, &OneSet),
 ) -> Result<(), NoRoom>
     requires { AllByRecursion (HasRow bundle.now) holders.now }
     ensures { (columns : ℕ) → pivot.entry.1.now ≡ numbers_in (line_in bundle.now pivot.entry.0) → AreListsTo columns bundle.now (locations holders.now) → IsListTo columns pivot.entry.1.now →
@@ -79,21 +79,21 @@ fn plan_rows(
     let (at, added) = pivot;
     for row in holders {
         let loc = row - 1;
-        let line = row_after(alloc, bundle.get(loc), loc == at, added)?;
+        let line = row_after(bundle.get(loc), loc == at, added)?;
         lines.push((loc, line))?;
     }
     Ok(())
 }
 
 /// A row once the pivot was added to it, or is used where it is the pivot.
-fn row_after(alloc: Global, line: &Line2, is_pivot: bool, added: &[u32]) -> Result<Line2, NoRoom>
+fn row_after(line: &Line2, is_pivot: bool, added: &OneSet) -> Result<Line2, NoRoom>
     ensures { (columns : ℕ) → IsListTo columns (numbers_in line.now) → IsListTo columns added.now →
         IfOk result (λ after. after ≡ Line2.Row (if is_pivot then numbers_in line.now else sum_to columns (numbers_in line.now) added.now) (is_used line.now || is_pivot)) }
 {
     let cols = if is_pivot {
-        copied(alloc, line.ones())?
+        line.ones().copy()?
     } else {
-        sum(alloc, line.ones(), added)?
+        line.ones().sum(added)?
     };
     Ok(Line2::Row {
         cols,
@@ -101,31 +101,12 @@ fn row_after(alloc: Global, line: &Line2, is_pivot: bool, added: &[u32]) -> Resu
     })
 }
 
-/// A list of the same numbers.
-fn copied(alloc: Global, numbers: &[u32]) -> Result<NumList, NoRoom>
-    ensures { IfOk result (λ list. list ≡ numbers.now) }
-{
-    let mut list = Vec::new(alloc);
-    list.extend_from_slice(numbers)?;
-    Ok(NumList::from_vec(list))
-}
-
-/// The rows other than the pivot.
-fn without(alloc: Global, holders: &[u32], pivot: u32) -> Result<NumList, NoRoom>
-    requires { pivot + 1 < 2 ^ 32 }
-    ensures { IfOk result (λ others. others ≡ without pivot holders.now) }
-{
-    let others = holders.iter().copied().filter(|row| *row != pivot + 1);
-    Ok(NumList::from_vec(others.collect(alloc)?))
-}
-
 /// Plans the columns of the pivot, which was added to the other rows.
 fn plan_columns(
-    alloc: Global,
     lines: &mut Vec<(u32, Line2)>,
     bundle: &Bundle<Line2>,
     rows: u32,
-    added: (&[u32], &[u32]),
+    added: (&[u32], &OneSet),
 ) -> Result<(), NoRoom>
     requires { AllByRecursion (HasColumn rows bundle.now) added.0.now }
     ensures { AreListsTo rows bundle.now (locations_behind rows added.entry.0.now) → IsListTo rows added.entry.1.now →
@@ -134,7 +115,7 @@ fn plan_columns(
     let (columns, others) = added;
     for number in columns {
         let loc = rows + (number - 1);
-        let changed = sum(alloc, bundle.get(loc).ones(), others)?;
+        let changed = bundle.get(loc).ones().sum(others)?;
         lines.push((loc, Line2::Col { rows: changed }))?;
     }
     Ok(())

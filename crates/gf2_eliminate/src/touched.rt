@@ -1,13 +1,13 @@
-ghost use Rattle.std.specs.Prelude.{◌≡◌, ℕ, suc, ◌+◌, ◌<◌, ◌^◌, ◌||◌, ◌↔◌, false, [], length, filter, slice_index_or, IfOk, OnOk};
-ghost use Rattle.rw_sets.specs.Accesses.{merged};
-ghost use Rattle.mtx_reader.specs.Ascending.{IsIn, numbers_from};
-ghost use Rattle.gf2_eliminate.specs.Elimination.{first_of, is_out, writing};
-ghost use Rattle.gf2_eliminate.specs.Lines.{has};
-ghost use Rattle.gf2_eliminate.specs.Plans.{locations};
-ghost use Rattle.gf2_eliminate.specs.Touched.{is_marked, ones_at, touched_locs, AreFound, AreRowsTo, HaveColumns};
+ghost use Rattle.std.specs.Prelude.{◌≡◌, ℕ, ◌+◌, ◌<◌, ◌^◌, ◌||◌, length, filter, IfOk, OnOk};
+ghost use Rattle.std.specs.Ordering.{nat_cmp};
 ghost use Rattle.cell_store.specs.Cells.{cell_at};
+ghost use Rattle.mtx_reader.specs.Ascending.{IsAscendingBy};
+ghost use Rattle.gf2_eliminate.specs.Elimination.{first_of, is_out, writing};
+ghost use Rattle.gf2_eliminate.specs.Lines.{has, listed};
+ghost use Rattle.gf2_eliminate.specs.Plans.{locations};
+ghost use Rattle.gf2_eliminate.specs.Touched.{is_marked, ones_at, touched_locs, AreRowsTo, HaveColumns};
 
-use crate::Line2;
+use crate::{Line2, OneSet};
 use cell_store::{Seen, Store};
 use kdg_text::NoRoom;
 use rw_sets::Access;
@@ -28,8 +28,8 @@ pub(crate) fn first_out(store: &Store<Line2>, rows: &[u32]) -> Option<u32>
     None
 }
 
-/// The pairs of the set of a column in which these rows have a one, in some order, in a matrix of
-/// so many rows and columns.
+/// The pairs of the set of a column in which these rows have a one, in a matrix of so many rows and
+/// columns.
 pub(crate) fn touched(
     alloc: Global,
     size: (u32, u32),
@@ -41,66 +41,42 @@ pub(crate) fn touched(
     requires columns { HaveColumns store.now size.1 rows.now }
     requires column { column < size.1 }
     requires few { size.0 + size.1 < 2 ^ 32 }
-    ensures { IfOk result (λ pairs. merged [] pairs.items ≡ merged [] (writing (touched_locs size.0 size.1 column rows.now store.now))) }
+    ensures { IfOk result (λ pairs. pairs.items ≡ writing (touched_locs size.0 size.1 column rows.now store.now)) }
 {
-    let others = found(alloc, size.1, column, rows, store)?;
+    let others = found(alloc, column, rows, store)?.places(alloc)?;
     let mut pairs = Vec::with_capacity(alloc, rows.len() + others.len())?;
     for row in rows {
         pairs.push((row - 1, Access::Write))?;
     }
     for other in others.iter() {
-        pairs.push((size.0 + other, Access::Write))?;
+        pairs.push((size.0 + (other - 1), Access::Write))?;
     }
     Ok(pairs)
 }
 
-/// The columns, of so many, in which one of these rows has a one, each once. The column itself is
-/// among them.
-fn found(
-    alloc: Global,
-    columns: u32,
-    column: u32,
-    rows: &[u32],
-    store: &Store<Line2>,
-) -> Result<Vec<u32>, NoRoom>
+/// The columns in which one of these rows has a one, and the column itself, each counted from 1.
+fn found(alloc: Global, column: u32, rows: &[u32], store: &Store<Line2>) -> Result<OneSet, NoRoom>
     requires rows { AreRowsTo (length store.now) rows.now }
-    requires columns { HaveColumns store.now columns rows.now }
-    requires column { column < columns }
-    ensures { IfOk result (λ found. (k : ℕ) → IsIn found.items k ↔ IsIn (filter (is_marked store.now column rows.now) (numbers_from 0 columns)) k) }
+    requires column { column + 1 < 2 ^ 32 }
+    ensures { (columns : ℕ) → column < columns → HaveColumns store.now columns rows.now →
+        IfOk result (λ found. found ≡ listed columns (is_marked store.now column rows.now)) }
 {
-    let mut marks = vec![in alloc; false; columns as usize]?;
-    marks[column as usize] = true;
-    let mut found = vec![in alloc; column]?;
+    let mut found = OneSet::new(alloc);
+    found.push(column + 1)?;
     for row in rows {
-        find(&mut marks, &mut found, ones_at(store, row - 1))?;
+        include_line(&mut found, store, row - 1)?;
     }
     Ok(found)
 }
 
-/// The ones of the line at a location, where there is none if the cell is out.
-fn ones_at(store: &Store<Line2>, loc: u32) -> &[u32]
+/// Adds the ones of the line at a location, where there is none if the cell is out.
+fn include_line(found: &mut OneSet, store: &Store<Line2>, loc: u32) -> Result<(), NoRoom>
     requires { loc < length store.now }
-    ensures { result.now ≡ ones_at store.now loc }
+    ensures both { OnOk result ((n : ℕ) → has found.new n ≡ (has found.old n || has (ones_at store.now loc) n)) }
+    ensures ascending { IsAscendingBy nat_cmp found.old → IsAscendingBy nat_cmp found.new }
 {
     match store.peek(loc) {
-        Seen::At(line) => line.ones(),
-        Seen::Out => &[],
+        Seen::At(line) => found.include(line.ones()),
+        Seen::Out => Ok(()),
     }
-}
-
-/// Marks the columns of these numbers, and adds those that weren't marked to the ones that were
-/// found.
-fn find(marks: &mut [bool], found: &mut Vec<u32>, numbers: &[u32]) -> Result<(), NoRoom>
-    requires { AreRowsTo (length marks.old) numbers.now }
-    ensures marks { OnOk result ((k : ℕ) → k < length marks.old → slice_index_or marks.new k false ≡ (slice_index_or marks.old k false || has numbers.now (suc k))) }
-    ensures found { AreFound marks.old found.old.items → OnOk result (AreFound marks.new found.new.items) }
-{
-    for number in numbers {
-        let at = number - 1;
-        if !marks[at as usize] {
-            marks[at as usize] = true;
-            found.push(at)?;
-        }
-    }
-    Ok(())
 }

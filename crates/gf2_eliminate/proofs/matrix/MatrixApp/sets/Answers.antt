@@ -16,7 +16,7 @@ first_out-requires g c =
     let pattern = c.self.inside.pattern in
     let fit = subst (λ (p : Pattern). AreLines p.rows p.cols c.requires.cells.0) (sym c.self.view_is) c.requires.cells.1 in
     let within = subst (λ (p : Pattern). c.args.body.now.at < p.cols) (sym c.self.view_is) c.requires.fit.1.at in
-    subst (AreRowsTo (length c.args.store.now)) (sym c.ones.ensures)
+    subst (AreRowsTo (length c.args.store.now)) (sym (c.deref.ensures.value ∙ c.in_ok-rows.ensures ∙ c.ones.ensures))
     (rows_within pattern.rows pattern.cols c.args.body.now.at c.args.store.now c.requires.cells.0 fit within c.requires.cells.2 c.in-At.line.now (sym c.in-At.ensures))
 
 pub touched-requires-clause-rows : goal.touched-requires-clause-rows
@@ -24,7 +24,7 @@ touched-requires-clause-rows g c =
     let pattern = c.self.inside.pattern in
     let fit = subst (λ (p : Pattern). AreLines p.rows p.cols c.requires.cells.0) (sym c.self.view_is) c.requires.cells.1 in
     let within = subst (λ (p : Pattern). c.args.body.now.at < p.cols) (sym c.self.view_is) c.requires.fit.1.at in
-    subst (AreRowsTo (length c.args.store.now)) (sym c.ones-in-None.ensures)
+    subst (AreRowsTo (length c.args.store.now)) (sym (c.deref-in-None.ensures.value ∙ c.in_ok-rows.ensures ∙ c.ones.ensures))
     (rows_within pattern.rows pattern.cols c.args.body.now.at c.args.store.now c.requires.cells.0 fit within c.requires.cells.2 c.in-At.line.now (sym c.in-At.ensures))
 
 pub touched-requires-clause-columns : goal.touched-requires-clause-columns
@@ -32,7 +32,7 @@ touched-requires-clause-columns g c =
     let pattern = c.self.inside.pattern in
     let fit = subst (λ (p : Pattern). AreLines p.rows p.cols c.requires.cells.0) (sym c.self.view_is) c.requires.cells.1 in
     let within = subst (λ (p : Pattern). c.args.body.now.at < p.cols) (sym c.self.view_is) c.requires.fit.1.at in
-    subst (HaveColumns c.args.store.now pattern.cols) (sym c.ones-in-None.ensures)
+    subst (HaveColumns c.args.store.now pattern.cols) (sym (c.deref-in-None.ensures.value ∙ c.in_ok-rows.ensures ∙ c.ones.ensures))
     (columns_within pattern.rows pattern.cols c.args.body.now.at c.args.store.now c.requires.cells.0 fit within c.requires.cells.2 c.in-At.line.now (sym c.in-At.ensures))
 
 pub returns-in-Some-clause-answer : goal.returns-in-Some-clause-answer
@@ -41,20 +41,20 @@ returns-in-Some-clause-answer g c =
     let at = c.args.body.now.at in
     let store = c.args.store.now in
     let first-is : first_of (filter (λ loc. is_out (cell_at store loc)) (locations (numbers_in c.in-At.line.now))) ≡ Some c.in-Some.loc =
-    ap (λ ns. first_of (filter (λ loc. is_out (cell_at store loc)) (locations ns))) (sym c.ones.ensures) ∙ sym c.in-Some.ensures in
+    ap (λ ns. first_of (filter (λ loc. is_out (cell_at store loc)) (locations ns))) (sym (c.deref.ensures.value ∙ c.in_ok-rows.ensures ∙ c.ones.ensures)) ∙ sym c.in-Some.ensures in
     subst (λ (p : Pattern). answer.Out c.in-Some.loc ≡ walk_from p.rows p.cols (cell_at store (p.rows + at)) at store) c.self.view_is
     (sym (ap (λ cell. walk_from pattern.rows pattern.cols cell at store) (sym c.in-At.ensures) ∙ ap (λ first. unless_out pattern.rows pattern.cols first at store) first-is))
 
-pub returns-in_ok-pairs-in-None-clause-answer : goal.returns-in_ok-pairs-in-None-clause-answer
-returns-in_ok-pairs-in-None-clause-answer g c =
+pub returns-clause-answer : goal.returns-clause-answer
+returns-clause-answer g c =
     let pattern = c.self.inside.pattern in
     let at = c.args.body.now.at in
     let store = c.args.store.now in
     let fit = subst (λ (p : Pattern). AreLines p.rows p.cols c.requires.cells.0) (sym c.self.view_is) c.requires.cells.1 in
     let within = subst (λ (p : Pattern). at < p.cols) (sym c.self.view_is) c.requires.fit.1.at in
     let first-is : first_of (filter (λ loc. is_out (cell_at store loc)) (locations (numbers_in c.in-At.line.now))) ≡ None =
-    ap (λ ns. first_of (filter (λ loc. is_out (cell_at store loc)) (locations ns))) (sym c.ones.ensures) ∙ sym c.in-None.ensures in
-    let set-is = c.from_pairs.ensures ∙ c.in_ok-pairs-in-None.ensures ∙ ap (λ ns. merged [] (writing (touched_locs pattern.rows pattern.cols at ns store))) c.ones-in-None.ensures
+    ap (λ ns. first_of (filter (λ loc. is_out (cell_at store loc)) (locations ns))) (sym (c.deref.ensures.value ∙ c.in_ok-rows.ensures ∙ c.ones.ensures)) ∙ sym c.in-None.ensures in
+    let set-is = c.from_pairs.ensures ∙ ap (merged []) c.in_ok-pairs-in-None.ensures ∙ ap (λ ns. merged [] (writing (touched_locs pattern.rows pattern.cols at ns store))) (c.deref-in-None.ensures.value ∙ c.in_ok-rows.ensures ∙ c.ones.ensures)
     ∙ set_found pattern.rows pattern.cols at store c.requires.cells.0 fit within c.requires.cells.2 c.in-At.line.now (sym c.in-At.ensures) first-is in
     subst (λ (p : Pattern). answer.Known c.from_pairs.result ≡ walk_from p.rows p.cols (cell_at store (p.rows + at)) at store) c.self.view_is
     (ap answer.Known set-is ∙ sym (ap (λ cell. walk_from pattern.rows pattern.cols cell at store) (sym c.in-At.ensures) ∙ ap (λ first. unless_out pattern.rows pattern.cols first at store) first-is))

@@ -1,0 +1,156 @@
+ghost use Rattle.std.specs.Prelude.{◌≡◌, ℕ, ◌+◌, ◌≤◌, ◌<◌, ◌^◌, [], ◌∷◌, ◌++◌, not, ◌==◌, length, map, filter, slice_index, max, bit_or, bit_xor, IfOk, OnOk, OnErr};
+ghost use Rattle.std.specs.List.{AllByRecursion};
+ghost use Rattle.gf2_eliminate.specs.Ones.{bits_of};
+
+use kdg_text::NoRoom;
+use std::alloc::Global;
+use std::marker::Model;
+
+/// The places of a line at which it has a one. A place has a bit, and a word those of 64 places.
+#[derive(Drop)]
+pub struct OneSet {
+    words: Vec<u64>,
+}
+
+impl Model for OneSet {
+    ghost use Rattle.std.specs.Prelude.{List, ℕ, ◌≤◌, ◌^◌, length};
+    ghost use Rattle.gf2_eliminate.specs.Ones.{places_of};
+
+    ghost Value = { List ℕ };
+
+    ghost view = { λ s. places_of s.words.items };
+
+    ghost invariant = { λ s. length s.words.items ≤ 2 ^ 26 };
+}
+
+impl OneSet {
+    ghost use Rattle.std.specs.Prelude.{◌||◌};
+    ghost use Rattle.std.specs.Ordering.{nat_cmp};
+    ghost use Rattle.mtx_reader.specs.Ascending.{IsAscendingBy};
+    ghost use Rattle.gf2_eliminate.specs.Lines.{has, IsListTo};
+    ghost use Rattle.gf2_eliminate.specs.Plans.{sum_to};
+
+    /// No place, which takes no memory.
+    pub(crate) fn new(alloc: Global) -> OneSet
+        ensures { result ≡ [] }
+    {
+        OneSet {
+            words: Vec::new(alloc),
+        }
+    }
+
+    /// A set of the same places.
+    pub(crate) fn copy(&self) -> Result<OneSet, NoRoom>
+        ensures { IfOk result (λ copy. copy ≡ self.now) }
+    {
+        Ok(OneSet {
+            words: self.words.clone()?,
+        })
+    }
+
+    /// Adds a place behind all others.
+    pub(crate) fn push(&mut self, place: u32) -> Result<(), NoRoom>
+        requires { AllByRecursion (λ other. other < place) self.old }
+        ensures { OnOk result (self.new ≡ self.old ++ place ∷ []) }
+    {
+        let (at, bit) = ((place / u64::BITS) as usize, place % u64::BITS);
+        lengthen(&mut self.words, at + 1)?;
+        self.words[at] |= 1 << bit;
+        Ok(())
+    }
+
+    /// Adds the places of another set.
+    pub(crate) fn include(&mut self, other: &OneSet) -> Result<(), NoRoom>
+        ensures both { OnOk result ((n : ℕ) → has self.new n ≡ (has self.old n || has other.now n)) }
+        ensures ascending { IsAscendingBy nat_cmp self.new }
+    {
+        lengthen(&mut self.words, other.words.len())?;
+        set_bits(&mut self.words, &other.words);
+        Ok(())
+    }
+
+    /// The sum over two elements: the places that are in exactly one of the two sets.
+    pub(crate) fn sum(&self, other: &OneSet) -> Result<OneSet, NoRoom>
+        ensures { (bound : ℕ) → IsListTo bound self.now → IsListTo bound other.now →
+            IfOk result (λ sum. sum ≡ sum_to bound self.now other.now) }
+    {
+        if self.words.len() < other.words.len() {
+            let mut words = other.words.clone()?;
+            turn_bits(&mut words, &self.words);
+            Ok(OneSet { words })
+        } else {
+            let mut words = self.words.clone()?;
+            turn_bits(&mut words, &other.words);
+            Ok(OneSet { words })
+        }
+    }
+
+    /// The places but for one.
+    pub(crate) fn without(&self, place: u32) -> Result<OneSet, NoRoom>
+        ensures { IfOk result (λ others. others ≡ filter (λ other. not (other == place)) self.now) }
+    {
+        let mut words = self.words.clone()?;
+        let (at, bit) = ((place / u64::BITS) as usize, place % u64::BITS);
+        if at < words.len() {
+            words[at] &= !(1 << bit);
+        }
+        Ok(OneSet { words })
+    }
+
+    /// The places, in ascending order.
+    pub(crate) fn places(&self, alloc: Global) -> Result<Vec<u32>, NoRoom>
+        ensures { IfOk result (λ places. places.items ≡ self.now) }
+    {
+        let mut places = Vec::new(alloc);
+        for (at, word) in self.words.iter().enumerate() {
+            push_bits(&mut places, at as u32 * u64::BITS, *word)?;
+        }
+        Ok(places)
+    }
+}
+
+/// Makes them at least so many words, by words without a bit.
+fn lengthen(words: &mut Vec<u64>, len: usize) -> Result<(), NoRoom>
+    ensures long { OnOk result (len ≤ length words.new.items) }
+    ensures few { length words.new.items ≤ max (length words.old.items) len }
+    ensures same { (k : ℕ) → slice_index words.new.items k ≡ slice_index words.old.items k }
+{
+    if words.len() < len {
+        words.resize(len, 0)?;
+    }
+    Ok(())
+}
+
+/// Sets the bits that are set in the others, of which there are no more.
+fn set_bits(words: &mut [u64], others: &[u64])
+    requires { length others.now ≤ length words.old }
+    ensures { (k : ℕ) → slice_index words.new k ≡ bit_or (slice_index words.old k) (slice_index others.now k) }
+{
+    for at in 0..others.len() {
+        words[at] |= others[at];
+    }
+}
+
+/// Turns the bits that are set in the others, of which there are no more.
+fn turn_bits(words: &mut [u64], others: &[u64])
+    requires { length others.now ≤ length words.old }
+    ensures { (k : ℕ) → slice_index words.new k ≡ bit_xor (slice_index words.old k) (slice_index others.now k) }
+{
+    for at in 0..others.len() {
+        words[at] ^= others[at];
+    }
+}
+
+/// Adds the bits that are set in a word, as numbers from a first one on.
+fn push_bits(numbers: &mut Vec<u32>, first: u32, word: u64) -> Result<(), NoRoom>
+    requires { first + 64 ≤ 2 ^ 32 }
+    ensures { OnOk result (numbers.new.items ≡ numbers.old.items ++ map (λ bit. first + bit) (bits_of word)) }
+{
+    let mut left = word;
+    while left != 0 {
+        let bit = left.trailing_zeros();
+        numbers.push(first + bit)?;
+        left &= !(1 << bit);
+    }
+    Ok(())
+}
