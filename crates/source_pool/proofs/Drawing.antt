@@ -15,6 +15,7 @@ use Rattle.cell_store.specs.declared.cell.Cell.{Cell}
 use Rattle.cell_store.specs.declared.cell.Cell.TheVariants.{Home, Out}
 use Rattle.cell_store.specs.Cells.{AreHome, cell_at}
 use Rattle.cell_store.specs.Home.{IsHome}
+use Rattle.output_log.specs.Entries.{joined_by_key}
 use Rattle.kdg_graph.specs.declared.node_id.NodeId.{NodeId}
 use Rattle.kdg_graph.specs.Edges.{is_blocked}
 use Rattle.kdg_graph.specs.Node.{Node}
@@ -34,6 +35,7 @@ use Rattle.source_pool.specs.Course.{AreAllDone, IsJobDone, idle_count, IsDrawin
 use Rattle.source_pool.specs.Laws.{ClaimsGoOn, ClaimsStartOne, DrawingsBegin, DrawnJobsAreTheRound, DrawnJobsDiffer, RoundsHaveJobs, StartsAreAtRest}
 use Rattle.source_pool.proofs.Jobs.{job_is_clear, node_of, sound_turned}
 use Rattle.source_pool.proofs.Lists.{Some-injective, all_at, all_from, cases, from_filter, from_map, here, in_filter, in_map, none, none_any, passing, same_tasks, there}
+use Rattle.source_pool.proofs.Logged.{logged_first, logged_same}
 
 -- a node with the id, running
 abbrev pub start : NodeId → Node → Node
@@ -71,7 +73,7 @@ module _ {V : Type 0} {app : Application V} (basis : Basis app) where
     come = record {
       sound = sound;
       stands = basis.starts_stand (whole_state progress cells) sound.ready;
-      log = refl;
+      log = logged_first progress;
       ended = omega arith;
       limit = refl;
       over = over;
@@ -91,7 +93,7 @@ module _ {V : Type 0} {app : Application V} (basis : Basis app) where
       by_cell (cell_at now.cells loc) refl
 
   pub drawings_begin : DrawingsBegin app
-  drawings_begin first now cells state rest =
+  drawings_begin first now cells state text rest =
       let sound = rest.come.sound in
       record {
         entries = rest.entries;
@@ -106,7 +108,7 @@ module _ {V : Type 0} {app : Application V} (basis : Basis app) where
   -- ---- one more job
 
   pub claims_go_on : ClaimsGoOn app
-  claims_go_on first now next cells state jobs pick job drawing claimed =
+  claims_go_on first now next cells state text jobs pick job drawing claimed =
       let come = drawing.come in
       let values = drawing.values in
       let tasks : tasks_of next.nodes ≡ tasks_of now.nodes = ap (λ (p : Progress V). tasks_of p.nodes) claimed.after ∙ basis.starts_keep_tasks claimed.node.id now.nodes in
@@ -117,7 +119,7 @@ module _ {V : Type 0} {app : Application V} (basis : Basis app) where
         come = record {
           sound = sound_turned next job jobs values (basis.claims_keep_sound now next pick job jobs values come.sound claimed);
           stands = subst (StandsFor app (whole_state first cells) drawing.entries) (sym whole) come.stands;
-          log = ap (λ (p : Progress V). p.log) claimed.after ∙ come.log;
+          log = logged_same (joined_by_key first.log drawing.entries) text now next come.log tasks (ap (λ (p : Progress V). p.log) claimed.after);
           ended = ap (λ (p : Progress V). p.ended) claimed.after ∙ come.ended;
           limit = ap (λ (p : Progress V). p.limit) claimed.after ∙ come.limit;
           over = ap (λ (p : Progress V). p.over) claimed.after ∙ come.over;
@@ -135,8 +137,8 @@ module _ {V : Type 0} {app : Application V} (basis : Basis app) where
 
   -- ---- all jobs of a round
 
-  module _ (first now : Progress V) (cells : List V) (state : State V) (jobs : List (Job V)) (dones : List (Done V))
-      (drawing : IsDrawing app first cells state now jobs) (all_drawn : clear_nodes app now.nodes ≡ []) (all : AreAllDone app jobs dones) (in_order : IsAscending (done_tasks dones)) where
+  module _ (first now : Progress V) (cells : List V) (state : State V) (text : List ℕ) (jobs : List (Job V)) (dones : List (Done V))
+      (drawing : IsDrawing app first cells state text now jobs) (all_drawn : clear_nodes app now.nodes ≡ []) (all : AreAllDone app jobs dones) (in_order : IsAscending (done_tasks dones)) where
     abbrev values : List V
     values = drawing.values
 
@@ -216,7 +218,7 @@ module _ {V : Type 0} {app : Application V} (basis : Basis app) where
         (λ task has. listed.all task (done_is_clear task has))
         (λ task has. clear_is_done task (all_at (IsClear app state) (clear_tasks app state) task listed.clear.clear has))
 
-    round_ends : IsEnding app first cells (after_round app state) now dones
+    round_ends : IsEnding app first cells (after_round app state) text now dones
     round_ends = record {
       entries = drawing.entries;
       jobs = jobs;
@@ -233,14 +235,14 @@ module _ {V : Type 0} {app : Application V} (basis : Basis app) where
   -- ---- the number of jobs
 
   pub rounds_have_jobs : RoundsHaveJobs app
-  rounds_have_jobs first now cells state jobs drawing all_drawn pending empty =
+  rounds_have_jobs first now cells state text jobs drawing all_drawn pending empty =
       let sound = subst (λ jobs. IsSound app now jobs drawing.values) empty drawing.come.sound in
       basis.some_clear now drawing.values sound
       (λ none. pending (ap (λ (s : State V). s.pending) (sym drawing.state_is) ∙ ap tasks_of none))
       all_drawn
 
   pub drawn_jobs_differ : DrawnJobsDiffer app
-  drawn_jobs_differ first now cells state jobs drawing = drawing.come.sound.outs_match.own
+  drawn_jobs_differ first now cells state text jobs drawing = drawing.come.sound.outs_match.own
 
   -- nodes without the id stay as they are
   others_stay : (id : NodeId) (nodes : List Node) → AllByRecursion (λ (node : Node). node.id ≢ id) nodes → started id nodes ≡ nodes

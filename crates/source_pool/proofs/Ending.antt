@@ -8,9 +8,9 @@ use Rattle.task_order.specs.declared.start.Start.{Start}
 use Rattle.task_order.specs.declared.task.Task.{Task}
 use Rattle.task_order.specs.Key.{end, key_cmp}
 use Rattle.task_order.specs.TaskList.{without}
-use Rattle.output_log.specs.Entries.{Entry, with_entry}
+use Rattle.output_log.specs.Entries.{Entry, joined_by_key, with_entry}
 use Rattle.kdg_graph.specs.Nodes.{tasks_of}
-use Rattle.app_laws.specs.Applications.{Application, effect_of, handed}
+use Rattle.app_laws.specs.Applications.{Application, IsFitTask, effect_of, handed}
 use Rattle.app_laws.specs.Execution.{children_from}
 use Rattle.commuting.specs.Clear.{IsClear}
 use Rattle.commuting.specs.Standing.{StandsFor}
@@ -21,17 +21,18 @@ use Rattle.graph_update.specs.Finishes.{IsEnd}
 use Rattle.graph_update.specs.Progress.{Progress, whole_state}
 use Rattle.graph_update.specs.Sound.{IsSound}
 use Rattle.source_pool.specs.Basis.{Basis}
-use Rattle.source_pool.specs.Course.{HasCome, IsEnding, done_tasks}
+use Rattle.source_pool.specs.Course.{HasCome, IsEnding, IsLogged, done_tasks}
 use Rattle.source_pool.specs.Laws.{EndsComeToRest, EndsGoOn, FirstMayEnd, MayEnd, TooManyNeverEnd}
 use Rattle.source_pool.proofs.Jobs.{FirstIsPerformed, effect_is, first_is_performed, job_is_clear, no_job_left}
 use Rattle.source_pool.proofs.Lists.{all_at, in_map}
+use Rattle.source_pool.proofs.Logged.{logged_more}
 
 length-children_from : (parent : Key) (number : ℕ) (starts : List Start) → length (children_from parent number starts) ≡ length starts
 length-children_from parent number [] = refl
 length-children_from parent number (start ∷ starts) = ap suc (length-children_from parent (suc number) starts)
 
 module _ {V : Type 0} {app : Application V} (basis : Basis app) where
-  module _ (start now : Progress V) (cells : List V) (target : State V) (done : Done V) (dones : List (Done V)) (ending : IsEnding app start cells target now (done ∷ dones)) where
+  module _ (start now : Progress V) (cells : List V) (target : State V) (text : List ℕ) (done : Done V) (dones : List (Done V)) (ending : IsEnding app start cells target text now (done ∷ dones)) where
     abbrev values : List V
     values = ending.values
 
@@ -71,7 +72,18 @@ module _ {V : Type 0} {app : Application V} (basis : Basis app) where
         (subst (λ text. StandsFor app (whole_state start cells) (with_entry first.job.task.key text ending.entries) (after_task app.act first.job.task (whole_state now values))) (sym (ap (λ effect. effect.text) effect))
         (basis.acts_stand (whole_state start cells) (whole_state now values) ending.entries first.job.task ending.come.stands clear))
 
-    pub goes_on : (next : Progress V) → ¬ IsOverLimit app now done → IsFinished app now done next → IsEnding app start cells target next dones
+    -- its entry is logged behind what was drained
+    logged_after : (next : Progress V) → next.log ≡ with_entry done.task.key done.effect.text now.log
+        → tasks_of next.nodes ≡ (after_task app.act first.job.task (whole_state now values)).pending
+        → IsLogged (with_entry done.task.key done.effect.text (joined_by_key start.log ending.entries)) text next
+    logged_after next log pending =
+        let job = first.job.task in
+        subst (λ (t : Task). IsLogged (with_entry t.key done.effect.text (joined_by_key start.log ending.entries)) text next) task
+        (logged_more basis (joined_by_key start.log ending.entries) text done.effect.text now next job (app.act job values).children ending.come.log clear.pending
+        (basis.lawful.children_come_no_earlier job values sound.ready.cells (all_at (IsFitTask app) (tasks_of now.nodes) job sound.ready.tasks clear.pending))
+        (log ∙ ap (λ (t : Task). with_entry t.key done.effect.text now.log) (sym task)) pending)
+
+    pub goes_on : (next : Progress V) → ¬ IsOverLimit app now done → IsFinished app now done next → IsEnding app start cells target text next dones
     goes_on next within finished =
         let come = ending.come in
         let after = finished.after in
@@ -85,9 +97,8 @@ module _ {V : Type 0} {app : Application V} (basis : Basis app) where
           come = record {
             sound = basis.finishes_keep_sound now next done first.job ending.jobs first.others values sound first.performed within finished;
             stands = subst (StandsFor app (whole_state start cells) next_entries) (sym whole) stands_after;
-            log =
-                ap (λ (p : Progress V). p.log) after ∙ ap (with_entry done.task.key done.effect.text) come.log
-                ∙ sym ((basis.joins_take_puts done.task.key done.effect.text start.log ending.entries).1 come.stands.ordered);
+            log = subst (λ entries. IsLogged entries text next) (sym ((basis.joins_take_puts done.task.key done.effect.text start.log ending.entries).1 come.stands.ordered))
+                (logged_after next (ap (λ (p : Progress V). p.log) after) (ap (λ (s : State V). s.pending) whole));
             ended = ap (λ (p : Progress V). p.ended) after ∙ omega (arith, come.ended, length-next_entries);
             limit = ap (λ (p : Progress V). p.limit) after ∙ come.limit;
             over = ap (λ (p : Progress V). p.over) after ∙ come.over;
@@ -133,18 +144,18 @@ module _ {V : Type 0} {app : Application V} (basis : Basis app) where
             omega (arith, restored, added, nodes)
 
   pub first_may_end : FirstMayEnd app
-  first_may_end start now cells target done dones ending = may_end start now cells target done dones ending
+  first_may_end start now cells target text done dones ending = may_end start now cells target text done dones ending
 
   pub ends_go_on : EndsGoOn app
-  ends_go_on start now next cells target done dones ending within finished = goes_on start now cells target done dones ending next within finished
+  ends_go_on start now next cells target text done dones ending within finished = goes_on start now cells target text done dones ending next within finished
 
   pub too_many_never_end : TooManyNeverEnd app
-  too_many_never_end start now cells target done dones ending over = never_ends start now cells target done dones ending over
+  too_many_never_end start now cells target text done dones ending over = never_ends start now cells target text done dones ending over
 
   pub ends_come_to_rest : EndsComeToRest app
-  ends_come_to_rest start now cells target ending = record {
+  ends_come_to_rest start now cells target text ending = record {
     entries = ending.entries;
     values = ending.values;
-    come = subst (λ jobs. HasCome app start cells ending.entries now jobs ending.values) (no_job_left ending.jobs ending.all_done) ending.come;
+    come = subst (λ jobs. HasCome app start cells ending.entries text now jobs ending.values) (no_job_left ending.jobs ending.all_done) ending.come;
     state_is = ending.leads;
   }

@@ -1,5 +1,5 @@
 -- An engine between two rounds: whether a node is left, and its whole state.
-use Rattle.std.proofs.Common.{◌≡◌, ◌≢◌, true, false, List, [], ◌∷◌, Option, refl, sym, ap, subst, ◌∙◌}
+use Rattle.std.proofs.Common.{◌≡◌, ◌≢◌, ℕ, true, false, List, [], ◌∷◌, Option, refl, sym, ap, subst, ◌∙◌}
 use Rattle.std.specs.Option.{is_some}
 use Rattle.std.proofs.lemmas.Bool.{true≢false}
 use Rattle.app_laws.specs.Applications.{Application}
@@ -20,8 +20,8 @@ no_node [] least is none = refl
 no_node (node ∷ nodes) least is none = absurd (true≢false (sym (ap is_some is) ∙ none))
 
 module _ {V : Type 0} {app : Application V} (home : WholeIsHome app) where
-  pub state_is : (start now : Progress V) (cells : List V) (state : State V) → IsAtRest app start cells state now → state ≡ state_at_rest now
-  state_is start now cells state rest = sym rest.state_is ∙ ap (whole_state now) (home now rest.values rest.come.sound).1
+  pub state_is : (start now : Progress V) (cells : List V) (state : State V) (text : List ℕ) → IsAtRest app start cells state text now → state ≡ state_at_rest now
+  state_is start now cells state text rest = sym rest.state_is ∙ ap (whole_state now) (home now rest.values rest.come.sound).1
 
-  pub rest_at : (start now : Progress V) (cells : List V) (state : State V) → IsAtRest app start cells state now → IsAtRest app start cells (state_at_rest now) now
-  rest_at start now cells state rest = subst (λ state. IsAtRest app start cells state now) (state_is start now cells state rest) rest
+  pub rest_at : (start now : Progress V) (cells : List V) (state : State V) (text : List ℕ) → IsAtRest app start cells state text now → IsAtRest app start cells (state_at_rest now) text now
+  rest_at start now cells state text rest = subst (λ state. IsAtRest app start cells state text now) (state_is start now cells state text rest) rest

@@ -41,11 +41,11 @@ module _ {V : Type 0} (app : Application V) where
   pub is_done : (now : Progress V) (done : Done V) → MayEnd app now done → IsDone app now done
   is_done now done may = record { jobs = may.jobs; values = may.values; sound = may.sound; job = may.job; others = may.others; performed = may.performed }
 
-  pub refused : TooManyNeverEnd app → (start now next : Progress V) (target : State V) (done : Done V) (dones : List (Done V))
-      → IsEnding app start (values_of start.cells) target now (done ∷ dones) → (fault : FinishFault V) → IsFinishRefusal app now done next fault → IsRunFault app start (fault_of fault)
-  refused never start now next target done dones ending (refusal.Budget back created limit) is = record {
-    too_long = never start now (values_of start.cells) target done dones ending is.1;
+  pub refused : TooManyNeverEnd app → (start now next : Progress V) (target : State V) (text : List ℕ) (done : Done V) (dones : List (Done V))
+      → IsEnding app start (values_of start.cells) target text now (done ∷ dones) → (fault : FinishFault V) → IsFinishRefusal app now done next fault → IsRunFault app start (fault_of fault)
+  refused never start now next target text done dones ending (refusal.Budget back created limit) is = record {
+    too_long = never start now (values_of start.cells) target text done dones ending is.1;
     limit_is = is.3 ∙ ending.come.limit;
     above = omega (arith, is.1, is.2, is.3);
   }
-  refused never start now next target done dones ending (refusal.NoRoom back) is = tt
+  refused never start now next target text done dones ending (refusal.NoRoom back) is = tt

@@ -1,4 +1,5 @@
 pub mod Dealing
+pub mod Drained
 pub mod Drawing
 pub mod Drawn
 pub mod EarliestFirst
@@ -8,6 +9,7 @@ pub mod Finished
 pub mod HandsPlayed
 pub mod Jobs
 pub mod Lists
+pub mod Logged
 pub mod Parts
 pub mod Played
 pub mod RoundNumbers

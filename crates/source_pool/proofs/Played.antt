@@ -1,5 +1,5 @@
 -- What the parts of a round come to: its jobs are some, and so are the performed ones.
-use Rattle.std.proofs.Common.{◌≡◌, ◌≢◌, ◌<◌, List, [], ◌∷◌, length, refl, ap, ◌∙◌, arith}
+use Rattle.std.proofs.Common.{◌≡◌, ◌≢◌, ◌<◌, ℕ, List, [], ◌∷◌, length, refl, ap, ◌∙◌, arith}
 use Rattle.std.specs.Prelude.{Contains}
 use Rattle.app_laws.specs.Applications.{Application}
 use Rattle.commuting.specs.States.{State}
@@ -25,5 +25,5 @@ module _ {V : Type 0} (app : Application V) where
   no_tasks (node ∷ nodes) none = cc
 
   -- where a node is left, some task is pending
-  pub some_pending : (start now : Progress V) (cells : List V) (state : State V) → IsAtRest app start cells state now → now.nodes ≢ [] → state.pending ≢ []
-  some_pending start now cells state rest some none_pending = some (no_tasks now.nodes (ap (λ (s : State V). s.pending) rest.state_is ∙ none_pending))
+  pub some_pending : (start now : Progress V) (cells : List V) (state : State V) (text : List ℕ) → IsAtRest app start cells state text now → now.nodes ≢ [] → state.pending ≢ []
+  some_pending start now cells state text rest some none_pending = some (no_tasks now.nodes (ap (λ (s : State V). s.pending) rest.state_is ∙ none_pending))

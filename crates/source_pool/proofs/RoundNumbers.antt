@@ -1,5 +1,5 @@
 -- Rounds add up, and where nothing is left they have come to the end of the sequential run.
-use Rattle.std.proofs.Common.{false, ◌≡◌, ◌≢◌, zero, suc, ◌+◌, ◌-◌, List, [], ◌∷◌, Option, Some, None, length, refl, sym, ap, subst, ◌∙◌, arith}
+use Rattle.std.proofs.Common.{false, ◌≡◌, ◌≢◌, ℕ, zero, suc, ◌+◌, ◌-◌, List, [], ◌∷◌, Option, Some, None, length, refl, sym, ap, subst, ◌∙◌, arith}
 use Rattle.std.specs.Prelude.{IsSomeAnd}
 use Rattle.std.proofs.lemmas.Bool.{true≢false}
 use Rattle.task_order.specs.Key.{end}
@@ -9,7 +9,7 @@ use Rattle.cell_store.specs.Cells.{cell_at}
 use Rattle.cell_store.specs.Home.{IsHome}
 use Rattle.cell_store.specs.Values.{AreAllHome, homes, values_of}
 use Rattle.kdg_graph.specs.Nodes.{tasks_of}
-use Rattle.output_log.specs.Entries.{joined_by_key}
+use Rattle.output_log.specs.Entries.{joined_by_key, joined_texts}
 use Rattle.app_laws.specs.Applications.{Application}
 use Rattle.app_laws.specs.Execution.{Execution}
 use Rattle.commuting.specs.Rounds.{after_round}
@@ -22,6 +22,7 @@ use Rattle.graph_update.specs.declared.job.Job.{Job}
 use Rattle.kdg_graph.specs.Node.{Node}
 use Rattle.source_pool.proofs.Jobs.{node_of}
 use Rattle.source_pool.proofs.Lists.{all_at, here}
+use Rattle.source_pool.proofs.Logged.{texts_in_all}
 use Rattle.source_pool.specs.Course.{IsAtRest, NothingRuns}
 use Rattle.source_pool.specs.Laws.{IdleIsSound, IsSequentialEnd, RestWithoutNodesIsTheEnd, RoundsAdd, RoundsAreTaken, WholeIsHome}
 
@@ -61,21 +62,21 @@ module _ {V : Type 0} {app : Application V} (basis : Basis app) where
       subst (IsSound app now []) (whole_is_home now values alone).1 alone
 
   -- the end of a run that is there
-  sequential_end : (start : Progress V) (cells : List V) (now : Progress V) (state : State V) (rest : IsAtRest app start cells state now) (run : Option (Execution V))
-      → run_from app.act (start.limit - start.ended) end (whole_state start cells) ≡ run → IsSomeAnd run (IsEndWith rest.entries rest.values) → IsSequentialEnd app start cells now
-  sequential_end start cells now state rest None is ended = absurd ended
-  sequential_end start cells now state rest (Some last) is ended = record {
+  sequential_end : (start : Progress V) (cells : List V) (now : Progress V) (state : State V) (text : List ℕ) (rest : IsAtRest app start cells state text now) (run : Option (Execution V))
+      → run_from app.act (start.limit - start.ended) end (whole_state start cells) ≡ run → IsSomeAnd run (IsEndWith rest.entries rest.values) → IsSequentialEnd app start cells text now
+  sequential_end start cells now state text rest None is ended = absurd ended
+  sequential_end start cells now state text rest (Some last) is ended = record {
     last = last;
     is_end = is;
     home = (whole_is_home now rest.values rest.come.sound).0 ∙ ap homes (sym ended.cells-are);
-    log = rest.come.log ∙ ap (joined_by_key start.log) (sym ended.log-is);
+    texts = texts_in_all basis (joined_by_key start.log rest.entries) text now rest.come.log ∙ ap (λ entries. joined_texts (joined_by_key start.log entries)) (sym ended.log-is);
     ended = rest.come.ended ∙ ap (λ entries. start.ended + length entries) (sym ended.log-is);
   }
 
   pub rest_without_nodes_is_the_end : RestWithoutNodesIsTheEnd app
-  rest_without_nodes_is_the_end start now cells state rest empty =
+  rest_without_nodes_is_the_end start now cells state text rest empty =
       let come = rest.come in
       let counts = come.sound.keys_and_counts in
-      sequential_end start cells now state rest (run_from app.act (start.limit - start.ended) end (whole_state start cells)) refl
+      sequential_end start cells now state text rest (run_from app.act (start.limit - start.ended) end (whole_state start cells)) refl
       (basis.ends (whole_state start cells) (whole_state now rest.values) rest.entries come.stands (ap tasks_of empty) (start.limit - start.ended)
       (omega (arith, come.ended, come.limit, counts.created, counts.within)))

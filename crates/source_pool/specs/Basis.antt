@@ -1,5 +1,5 @@
 -- What the laws of this crate stand on.
-use Rattle.task_order.specs.Key.{IsExactOrder}
+use Rattle.task_order.specs.Key.{ChildrenComeLater, IsExactOrder}
 use Rattle.task_order.specs.Laws as tasks
 use Rattle.rw_sets.specs.Laws as sets
 use Rattle.cell_store.specs.Laws as cells
@@ -9,7 +9,7 @@ use Rattle.app_laws.specs.Applications.{Application, IsLawful}
 use Rattle.commuting.specs.Rounds.{ClearTasksAreListed}
 use Rattle.commuting.specs.Standing.{StartsStandForThemselves, ClearTasksKeepStanding, NothingPendingIsTheEnd, TooManyTasksNeverEnd}
 use Rattle.graph_update.specs.Finishes.{FinishesActOnWhole}
-use Rattle.graph_update.specs.Laws.{ClaimsKeepSound, FinishesKeepSound, RecordedSetsSuffice, SomeIsClear}
+use Rattle.graph_update.specs.Laws.{ClaimsKeepSound, FinishesKeepSound, MarksAndDrainsKeepSound, RecordedSetsSuffice, SomeIsClear}
 
 pub record Basis {V : Type 0} (app : Application V) : Type 0 where
   pub lawful : IsLawful app
@@ -21,6 +21,7 @@ pub record Basis {V : Type 0} (app : Application V) : Type 0 where
   pub claims_keep_sound : ClaimsKeepSound app
   pub finishes_keep_sound : FinishesKeepSound app
   pub finishes_act : FinishesActOnWhole app
+  pub drains_keep_sound : MarksAndDrainsKeepSound app
   pub suffice : RecordedSetsSuffice app
   pub some_clear : SomeIsClear app
   pub have_ids : graph.NodesHaveIds
@@ -28,12 +29,17 @@ pub record Basis {V : Type 0} (app : Application V) : Type 0 where
   pub keys_find : graph.KeysFindNodes
   pub starts_keep_tasks : graph.StartsKeepTasks
   pub exact : IsExactOrder
+  pub children_later : ChildrenComeLater
   pub irreflexive : tasks.EarlierIsIrreflexive
   pub transitive : tasks.EarlierIsTransitive
   pub adds_each : tasks.PutAllAddsEach
+  pub adds_these : tasks.PutAllKeepsTasks
   pub adds_one : tasks.PutsAddOne
   pub put_without : tasks.PutRestoresWithout
+  pub without_others : tasks.WithoutKeepsOthers
   pub decided : sets.ConflictsAreDecided
+  pub earlier_first : logs.EarlierEntriesComeFirst
+  pub texts_follow : logs.TextsFollow
   pub joins_take_puts : logs.JoinsTakePuts
   pub joins_add_lengths : logs.JoinsAddLengths
   pub agreement : cells.AgreementLasts V

@@ -1,10 +1,13 @@
 -- How far rounds of claims and ends have come since an execution in which nothing was running.
-use Rattle.std.specs.Prelude.{◌≡◌, ◌≢◌, ℕ, zero, suc, ◌+◌, not, false, List, [], length, map, None, Contains}
+use Rattle.std.specs.Prelude.{◌≡◌, ◌≢◌, ℕ, zero, suc, ◌+◌, not, false, List, [], ◌++◌, length, map, None, Contains}
 use Rattle.std.specs.List.{AllByRecursion, filter}
+use Rattle.std.specs.declared.cmp.Ordering.TheVariants.{Less}
 use Rattle.task_order.specs.declared.task.Task.{Task}
+use Rattle.task_order.specs.Key.{key_cmp}
 use Rattle.task_order.specs.TaskList.{IsAscending}
-use Rattle.output_log.specs.Entries.{Entry, joined_by_key}
+use Rattle.output_log.specs.Entries.{Entry, joined_by_key, joined_texts}
 use Rattle.kdg_graph.specs.Node.{Node}
+use Rattle.kdg_graph.specs.Nodes.{tasks_of}
 use Rattle.app_laws.specs.Order.{Pairwise}
 use Rattle.app_laws.specs.Applications.{Application, IsEffect, set_in}
 use Rattle.commuting.specs.Rounds.{after_round}
@@ -31,10 +34,23 @@ NothingRuns nodes = AllByRecursion (λ node. node.running ≡ false) nodes
 abbrev pub idle_count : List Node → ℕ
 idle_count nodes = length (filter (λ node. not node.running) nodes)
 
--- a point of a run: where the run began, and the whole state there
+-- a point of a run: where the run began, the whole state at the point, and the text that was drained on the way to it
 pub record RunPoint (V : Type 0) : Type 0 where
   pub start : Progress V
   pub state : State V
+  pub text : List ℕ
+
+-- each entry is earlier than each task
+abbrev pub ComeBefore : List Entry → List Task → Type 0
+ComeBefore entries tasks = AllByRecursion (λ task. AllByRecursion (λ entry. key_cmp entry.0 task.key ≡ Less) entries) tasks
+
+-- The entries are those that were drained, whose text this is, and behind them those of the log. What was drained is earlier than
+-- all that is pending.
+pub record IsLogged {V : Type 0} (entries : List Entry) (text : List ℕ) (now : Progress V) : Type 0 where
+  pub drained : List Entry
+  pub text_is : text ≡ joined_texts drained
+  pub all : entries ≡ drained ++ now.log
+  pub earlier : ComeBefore drained (tasks_of now.nodes)
 
 module _ {V : Type 0} (app : Application V) where
   -- the job is performed: its task with what its operator makes of its bundle
@@ -53,37 +69,37 @@ module _ {V : Type 0} (app : Application V) where
   LeadsByRounds (suc rounds) state now = (state.pending ≢ []) × LeadsByRounds rounds (after_round app state) now
 
   module _ (start : Progress V) (cells : List V) where
-    -- Since the start tasks have ended that logged these entries: the whole state stands for the rest of the sequential run from
-    -- there, and the log and the count of ended tasks have them.
-    pub record HasCome (entries : List Entry) (now : Progress V) (jobs : List (Job V)) (values : List V) : Type 0 where
+    -- Since the start tasks have ended that logged these entries, and this text was drained: the whole state stands for the rest
+    -- of the sequential run from there, and what was drained, the log and the count of ended tasks have the entries.
+    pub record HasCome (entries : List Entry) (text : List ℕ) (now : Progress V) (jobs : List (Job V)) (values : List V) : Type 0 where
       pub sound : IsSound app now jobs values
       pub stands : StandsFor app (whole_state start cells) entries (whole_state now values)
-      pub log : now.log ≡ joined_by_key start.log entries
+      pub log : IsLogged (joined_by_key start.log entries) text now
       pub ended : now.ended ≡ start.ended + length entries
       pub limit : now.limit ≡ start.limit
       pub over : now.over ≡ None
 
-    -- between two rounds: nothing is running, and the whole state is this one
-    pub record IsAtRest (state : State V) (now : Progress V) : Type 0 where
+    -- between two rounds: nothing is running, the whole state is this one, and this text was drained
+    pub record IsAtRest (state : State V) (text : List ℕ) (now : Progress V) : Type 0 where
       pub entries : List Entry
       pub values : List V
-      pub come : HasCome entries now [] values
+      pub come : HasCome entries text now [] values
       pub state_is : whole_state now values ≡ state
 
     -- while jobs are drawn: the whole state is the one in which the round began, and each recorded set is the declared one
-    pub record IsDrawing (state : State V) (now : Progress V) (jobs : List (Job V)) : Type 0 where
+    pub record IsDrawing (state : State V) (text : List ℕ) (now : Progress V) (jobs : List (Job V)) : Type 0 where
       pub entries : List Entry
       pub values : List V
-      pub come : HasCome entries now jobs values
+      pub come : HasCome entries text now jobs values
       pub state_is : whole_state now values ≡ state
       pub sets_are : AllByRecursion (λ node. node.set ≡ set_in app values node.task) now.nodes
 
     -- while jobs are ended in key order: these are performed and not ended yet, and once their tasks have acted the state is the target
-    pub record IsEnding (target : State V) (now : Progress V) (dones : List (Done V)) : Type 0 where
+    pub record IsEnding (target : State V) (text : List ℕ) (now : Progress V) (dones : List (Done V)) : Type 0 where
       pub entries : List Entry
       pub jobs : List (Job V)
       pub values : List V
-      pub come : HasCome entries now jobs values
+      pub come : HasCome entries text now jobs values
       pub all_done : AreAllDone jobs dones
       pub in_order : IsAscending (done_tasks dones)
       pub leads : after_tasks app.act (done_tasks dones) (whole_state now values) ≡ target

@@ -4,14 +4,14 @@ use Rattle.task_order.specs.Key.{end}
 use Rattle.task_order.specs.TaskList.{IsAscending}
 use Rattle.cell_store.specs.Values.{homes, values_of}
 use Rattle.kdg_graph.specs.Nodes.{IsGraph}
-use Rattle.output_log.specs.Entries.{joined_by_key}
+use Rattle.output_log.specs.Entries.{joined_by_key, joined_texts}
 use Rattle.app_laws.specs.Applications.{Application}
 use Rattle.app_laws.specs.Execution.{Execution}
 use Rattle.commuting.specs.Rounds.{TakesRounds, after_round}
 use Rattle.commuting.specs.States.{State, run_from}
 use Rattle.graph_update.specs.declared.job.Done.{Done}
 use Rattle.graph_update.specs.declared.job.Job.{Job}
-use Rattle.graph_update.specs.Events.{IsClaimed, IsFinished, IsOverLimit, clear_nodes}
+use Rattle.graph_update.specs.Events.{IsClaimed, IsFinished, IsOverLimit, clear_nodes, drainable, drained}
 use Rattle.graph_update.specs.Laws.{IsPerformed}
 use Rattle.graph_update.specs.Progress.{Progress, whole_state}
 use Rattle.graph_update.specs.Sound.{IsSound}
@@ -21,30 +21,30 @@ module _ {V : Type 0} (app : Application V) where
   -- ---- claims
 
   abbrev pub StartsAreAtRest : Type 0
-  StartsAreAtRest = (start : Progress V) (cells : List V) → IsSound app start [] cells → start.over ≡ None → IsAtRest app start cells (whole_state start cells) start
+  StartsAreAtRest = (start : Progress V) (cells : List V) → IsSound app start [] cells → start.over ≡ None → IsAtRest app start cells (whole_state start cells) [] start
 
   abbrev pub DrawingsBegin : Type 0
-  DrawingsBegin = (start now : Progress V) (cells : List V) (state : State V) → IsAtRest app start cells state now → IsDrawing app start cells state now []
+  DrawingsBegin = (start now : Progress V) (cells : List V) (state : State V) (text : List ℕ) → IsAtRest app start cells state text now → IsDrawing app start cells state text now []
 
   abbrev pub ClaimsGoOn : Type 0
-  ClaimsGoOn = (start now next : Progress V) (cells : List V) (state : State V) (jobs : List (Job V)) (pick : ℕ) (job : Job V) →
-      IsDrawing app start cells state now jobs → IsClaimed app now pick next job → IsDrawing app start cells state next (jobs ++ job ∷ [])
+  ClaimsGoOn = (start now next : Progress V) (cells : List V) (state : State V) (text : List ℕ) (jobs : List (Job V)) (pick : ℕ) (job : Job V) →
+      IsDrawing app start cells state text now jobs → IsClaimed app now pick next job → IsDrawing app start cells state text next (jobs ++ job ∷ [])
 
   -- where no node is clear any more, the drawn jobs are those of all clear tasks of the state in which the round began: once they
   -- are performed and end in key order, the round is done
   abbrev pub DrawnJobsAreTheRound : Type 0
-  DrawnJobsAreTheRound = (start now : Progress V) (cells : List V) (state : State V) (jobs : List (Job V)) (dones : List (Done V)) →
-      IsDrawing app start cells state now jobs → clear_nodes app now.nodes ≡ [] → AreAllDone app jobs dones → IsAscending (done_tasks dones) →
-      IsEnding app start cells (after_round app state) now dones
+  DrawnJobsAreTheRound = (start now : Progress V) (cells : List V) (state : State V) (text : List ℕ) (jobs : List (Job V)) (dones : List (Done V)) →
+      IsDrawing app start cells state text now jobs → clear_nodes app now.nodes ≡ [] → AreAllDone app jobs dones → IsAscending (done_tasks dones) →
+      IsEnding app start cells (after_round app state) text now dones
 
   -- a round has a job, where any task is pending
   abbrev pub RoundsHaveJobs : Type 0
-  RoundsHaveJobs = (start now : Progress V) (cells : List V) (state : State V) (jobs : List (Job V)) →
-      IsDrawing app start cells state now jobs → clear_nodes app now.nodes ≡ [] → state.pending ≢ [] → jobs ≢ []
+  RoundsHaveJobs = (start now : Progress V) (cells : List V) (state : State V) (text : List ℕ) (jobs : List (Job V)) →
+      IsDrawing app start cells state text now jobs → clear_nodes app now.nodes ≡ [] → state.pending ≢ [] → jobs ≢ []
 
   -- the jobs of a round have keys of their own
   abbrev pub DrawnJobsDiffer : Type 0
-  DrawnJobsDiffer = (start now : Progress V) (cells : List V) (state : State V) (jobs : List (Job V)) → IsDrawing app start cells state now jobs → HaveOwnKeys jobs
+  DrawnJobsDiffer = (start now : Progress V) (cells : List V) (state : State V) (text : List ℕ) (jobs : List (Job V)) → IsDrawing app start cells state text now jobs → HaveOwnKeys jobs
 
   -- a claim marks one node more, which was not running
   abbrev pub ClaimsStartOne : Type 0
@@ -62,21 +62,28 @@ module _ {V : Type 0} (app : Application V) where
     pub performed : IsPerformed app jobs done job others
 
   abbrev pub FirstMayEnd : Type 0
-  FirstMayEnd = (start now : Progress V) (cells : List V) (target : State V) (done : Done V) (dones : List (Done V)) →
-      IsEnding app start cells target now (done ∷ dones) → MayEnd now done
+  FirstMayEnd = (start now : Progress V) (cells : List V) (target : State V) (text : List ℕ) (done : Done V) (dones : List (Done V)) →
+      IsEnding app start cells target text now (done ∷ dones) → MayEnd now done
 
   abbrev pub EndsGoOn : Type 0
-  EndsGoOn = (start now next : Progress V) (cells : List V) (target : State V) (done : Done V) (dones : List (Done V)) →
-      IsEnding app start cells target now (done ∷ dones) → ¬ IsOverLimit app now done → IsFinished app now done next → IsEnding app start cells target next dones
+  EndsGoOn = (start now next : Progress V) (cells : List V) (target : State V) (text : List ℕ) (done : Done V) (dones : List (Done V)) →
+      IsEnding app start cells target text now (done ∷ dones) → ¬ IsOverLimit app now done → IsFinished app now done next → IsEnding app start cells target text next dones
 
   -- where the limit is passed, the sequential run from the start doesn't end within what was left of it
   abbrev pub TooManyNeverEnd : Type 0
-  TooManyNeverEnd = (start now : Progress V) (cells : List V) (target : State V) (done : Done V) (dones : List (Done V)) →
-      IsEnding app start cells target now (done ∷ dones) → IsOverLimit app now done →
+  TooManyNeverEnd = (start now : Progress V) (cells : List V) (target : State V) (text : List ℕ) (done : Done V) (dones : List (Done V)) →
+      IsEnding app start cells target text now (done ∷ dones) → IsOverLimit app now done →
       run_from app.act (start.limit - start.ended) end (whole_state start cells) ≡ None
 
   abbrev pub EndsComeToRest : Type 0
-  EndsComeToRest = (start now : Progress V) (cells : List V) (target : State V) → IsEnding app start cells target now [] → IsAtRest app start cells target now
+  EndsComeToRest = (start now : Progress V) (cells : List V) (target : State V) (text : List ℕ) → IsEnding app start cells target text now [] → IsAtRest app start cells target text now
+
+  -- ---- drains
+
+  -- between two rounds what is drained goes behind the text that was drained before
+  abbrev pub DrainsKeepRest : Type 0
+  DrainsKeepRest = (start now : Progress V) (cells : List V) (state : State V) (text : List ℕ) →
+      IsAtRest app start cells state text now → IsAtRest app start cells state (text ++ joined_texts (drainable app now.nodes now.log)) (drained app now)
 
   -- ---- rounds
 
@@ -87,18 +94,19 @@ module _ {V : Type 0} (app : Application V) where
   abbrev pub RoundsAreTaken : Type 0
   RoundsAreTaken = (rounds : ℕ) (state now : State V) → LeadsByRounds app rounds state now → now.pending ≡ [] → TakesRounds app rounds state
 
-  -- The end of the sequential run from the start, within what was left of the limit: all cells are home, the log is joined with
-  -- that of the run, and each of its tasks has ended.
-  pub record IsSequentialEnd (start : Progress V) (cells : List V) (now : Progress V) : Type 0 where
+  -- The end of the sequential run from the start, within what was left of the limit: all cells are home, the text that was drained
+  -- and those of the log are the texts of the first log, joined with that of the run, and each of its tasks has ended.
+  pub record IsSequentialEnd (start : Progress V) (cells : List V) (text : List ℕ) (now : Progress V) : Type 0 where
     pub last : Execution V
     pub is_end : run_from app.act (start.limit - start.ended) end (whole_state start cells) ≡ Some last
     pub home : now.cells ≡ homes last.cells
-    pub log : now.log ≡ joined_by_key start.log last.log
+    pub texts : text ++ joined_texts now.log ≡ joined_texts (joined_by_key start.log last.log)
     pub ended : now.ended ≡ start.ended + length last.log
 
   -- where no node is left, the sequential run has come to its end
   abbrev pub RestWithoutNodesIsTheEnd : Type 0
-  RestWithoutNodesIsTheEnd = (start now : Progress V) (cells : List V) (state : State V) → IsAtRest app start cells state now → now.nodes ≡ [] → IsSequentialEnd start cells now
+  RestWithoutNodesIsTheEnd = (start now : Progress V) (cells : List V) (state : State V) (text : List ℕ) →
+      IsAtRest app start cells state text now → now.nodes ≡ [] → IsSequentialEnd start cells text now
 
   -- where no node is running there are no jobs, and the whole cells are those of the store
   abbrev pub IdleIsSound : Type 0

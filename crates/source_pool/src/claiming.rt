@@ -53,9 +53,9 @@ pub(crate) fn draw<A: App, G: Gate>(
     jobs: &mut VecDeque<Job<A::Val>>,
 ) -> Result<(), NoRoom>
     ghost from: { RunPoint A.Val }
-    requires rest { IsAtRest (A.meaning engine.old.app) from.start (values_of from.start.cells) from.state engine.old.progress }
+    requires rest { IsAtRest (A.meaning engine.old.app) from.start (values_of from.start.cells) from.state from.text engine.old.progress }
     ensures app { engine.new.app ≡ engine.old.app }
-    ensures drawing { OnOk result (IsDrawing (A.meaning engine.old.app) from.start (values_of from.start.cells) from.state engine.new.progress jobs.new.items) }
+    ensures drawing { OnOk result (IsDrawing (A.meaning engine.old.app) from.start (values_of from.start.cells) from.state from.text engine.new.progress jobs.new.items) }
     ensures none_clear { OnOk result (clear_nodes (A.meaning engine.old.app) engine.new.progress.nodes ≡ []) }
     ensures may_run { OnOk result (AllByRecursion (MayRun (A.meaning engine.old.app)) jobs.new.items) }
     ensures ended { OnOk result (engine.new.progress.ended ≡ engine.old.progress.ended) }

@@ -62,9 +62,9 @@ pub(crate) fn end_all<A: App, L: Ledger>(
     steps: &mut Steps<L>,
 ) -> Result<(), RunFault>
     ghost to: { RunPoint A.Val }
-    requires ending { IsEnding (A.meaning engine.old.app) to.start (values_of to.start.cells) to.state engine.old.progress (taken_in_turn dones.old turns.now) }
+    requires ending { IsEnding (A.meaning engine.old.app) to.start (values_of to.start.cells) to.state to.text engine.old.progress (taken_in_turn dones.old turns.now) }
     ensures app { engine.new.app ≡ engine.old.app }
-    ensures rest { OnOk result (IsAtRest (A.meaning engine.old.app) to.start (values_of to.start.cells) to.state engine.new.progress) }
+    ensures rest { OnOk result (IsAtRest (A.meaning engine.old.app) to.start (values_of to.start.cells) to.state to.text engine.new.progress) }
     ensures ended { OnOk result (engine.new.progress.ended ≡ engine.old.progress.ended + length (taken_in_turn dones.old turns.now)) }
     ensures fault { IfErr result (IsRunFault (A.meaning engine.old.app) to.start) }
 {

@@ -1,12 +1,12 @@
 ghost use Rattle.source_pool.specs.Basis.{Basis};
-ghost use Rattle.source_pool.specs.Laws.{ClaimsGoOn, ClaimsStartOne, DrawingsBegin, DrawnJobsAreTheRound, DrawnJobsDiffer, EndsComeToRest, EndsGoOn, FirstMayEnd, IdleIsSound, RestWithoutNodesIsTheEnd, RoundsAdd, RoundsAreTaken, RoundsHaveJobs, StartsAreAtRest, TooManyNeverEnd, WholeIsHome};
+ghost use Rattle.source_pool.specs.Laws.{ClaimsGoOn, ClaimsStartOne, DrainsKeepRest, DrawingsBegin, DrawnJobsAreTheRound, DrawnJobsDiffer, EndsComeToRest, EndsGoOn, FirstMayEnd, IdleIsSound, RestWithoutNodesIsTheEnd, RoundsAdd, RoundsAreTaken, RoundsHaveJobs, StartsAreAtRest, TooManyNeverEnd, WholeIsHome};
 
 use app_laws::{App, lawful};
 use cell_store::value_laws;
 use commuting::{round_laws as clear_round_laws, standing_laws};
-use graph_update::{claim_laws, clear_laws, finish_state_laws, sound_finish_laws};
+use graph_update::{claim_laws, clear_laws, drain_laws, finish_state_laws, sound_finish_laws};
 use kdg_graph::{node_laws, put_laws};
-use output_log::join_laws;
+use output_log::{join_laws, part_laws};
 use rw_sets::conflict_laws;
 use task_order::{earlier_laws, key_order, put_all_laws, put_in_laws, without_laws};
 
@@ -20,6 +20,7 @@ fn basis<A: App>()
     claim_laws::<A>();
     sound_finish_laws::<A>();
     finish_state_laws::<A>();
+    drain_laws::<A>();
     clear_laws::<A>();
     node_laws();
     put_laws();
@@ -29,6 +30,7 @@ fn basis<A: App>()
     put_in_laws();
     without_laws();
     conflict_laws();
+    part_laws();
     join_laws();
     value_laws::<A::Val>();
 }
@@ -54,6 +56,13 @@ pub fn ending_laws<A: App>()
     ensures goes_on { (app : A) → EndsGoOn (A.meaning app) }
     ensures too_many { (app : A) → TooManyNeverEnd (A.meaning app) }
     ensures rest { (app : A) → EndsComeToRest (A.meaning app) }
+{
+    basis::<A>();
+}
+
+/// Between two rounds what is drained goes behind what was drained before.
+pub fn draining_laws<A: App>()
+    ensures { (app : A) → DrainsKeepRest (A.meaning app) }
 {
     basis::<A>();
 }

@@ -2,6 +2,7 @@
 #![tactic(auto)]
 
 mod claiming;
+mod draining;
 mod finishing;
 mod hands;
 mod laws;
@@ -9,7 +10,7 @@ mod performing;
 mod round_lists;
 mod rounds;
 
-pub use laws::{drawing_laws, ending_laws, idle_laws, rounds_laws};
+pub use laws::{draining_laws, drawing_laws, ending_laws, idle_laws, rounds_laws};
 pub use rounds::{RunFault, run_rounds};
 
 #[cfg(test)]

@@ -16,7 +16,6 @@ use cell_store::Held;
 use graph_update::{Done, Job, perform};
 use kdg_text::NoRoom;
 use outer_edge::Gate;
-use std::alloc::Global;
 use std::collections::VecDeque;
 use std::ops::Range;
 use std::thread::Threads;
@@ -34,7 +33,6 @@ const MANY_CELLS: usize = 3072;
 /// and its turns.
 pub(crate) fn perform_jobs<R: Threads + Sync, A: App + Sync, G: Gate + Sync>(
     rt: &R,
-    alloc: Global,
     app: &A,
     gate: &G,
     workers: u32,
@@ -48,7 +46,7 @@ pub(crate) fn perform_jobs<R: Threads + Sync, A: App + Sync, G: Gate + Sync>(
 {
     ascending_laws();
     earlier_laws();
-    perform_each(rt, alloc, app, gate, workers, lists)?;
+    perform_each(rt, app, gate, workers, lists)?;
     order_turns(&lists.dones, &mut lists.turns)
 }
 
@@ -56,7 +54,6 @@ pub(crate) fn perform_jobs<R: Threads + Sync, A: App + Sync, G: Gate + Sync>(
 /// all jobs in order.
 fn perform_each<R: Threads + Sync, A: App + Sync, G: Gate + Sync>(
     rt: &R,
-    alloc: Global,
     app: &A,
     gate: &G,
     workers: u32,
@@ -71,7 +68,7 @@ fn perform_each<R: Threads + Sync, A: App + Sync, G: Gate + Sync>(
     } else {
         perform_together(
             rt,
-            alloc,
+            *lists.jobs.allocator(),
             app,
             gate,
             workers,

@@ -6,6 +6,7 @@ ghost use Rattle.source_pool.specs.Course.{IsAtRest, NothingRuns, RunPoint};
 ghost use Rattle.source_pool.specs.Runs.{IsRoundsEnd, IsRunFault, state_at_rest};
 
 use crate::claiming::{Picks, draw};
+use crate::draining::drain;
 use crate::finishing::end_all;
 use crate::laws::{drawing_laws, idle_laws, rounds_laws};
 use crate::performing::perform_jobs;
@@ -13,7 +14,7 @@ use crate::round_lists::RoundLists;
 use app_laws::{App, Finals};
 use cell_store::Held;
 use graph_update::{Engine, FinishFault};
-use kdg_text::{NoRoom, Steps};
+use kdg_text::{NoRoom, Steps, Text};
 use outer_edge::Gate;
 use std::alloc::Global;
 use std::marker::Brand;
@@ -103,7 +104,7 @@ fn counted_rounds<'a, R: Threads + Sync, A: App + Sync, G: Gate + Sync, L: Ledge
     requires parts { blank.parts ≡ L.parts }
     requires some { 0 < blank.parts }
     requires workers { 1 ≤ workers }
-    requires rest { IsAtRest (A.meaning engine.app) start (values_of start.cells) (state_at_rest start) engine.progress }
+    requires rest { IsAtRest (A.meaning engine.app) start (values_of start.cells) (state_at_rest start) [] engine.progress }
     requires begins { engine.progress ≡ start }
     ensures end { IfOk result (λ run. IsRoundsEnd (A.meaning engine.entry.app) start run.0 run.1) }
     ensures fit { IfOk result (λ run. (A.meaning engine.entry.app).is_fit_cells (values_of run.0.store)) }
@@ -113,44 +114,52 @@ fn counted_rounds<'a, R: Threads + Sync, A: App + Sync, G: Gate + Sync, L: Ledge
     let mut steps = Steps::<L>::new(blank);
     let mut picks = Picks::new(gate, seed);
     let mut lists = RoundLists::new(alloc);
+    let mut text = Text::new(alloc);
     let mut rounds = 0u64;
     while engine.graph().least().is_some() {
         play_round(
             rt,
-            alloc,
             &mut engine,
             &mut picks,
             workers,
             &mut lists,
             &mut steps,
+            &mut text,
         )?;
         rounds += 1;
     }
-    Ok((engine.end()?, rounds))
+    let mut finals = engine.end()?;
+    text.push_all(finals.text.bytes())?;
+    finals.text = text;
+    Ok((finals, rounds))
 }
 
 /// Plays one round of an execution in which nothing runs: draws the jobs of all clear tasks, has
-/// them performed, and ends them in the order of their keys. Whatever is in the lists is dropped.
+/// them performed, and ends them in the order of their keys. Then the texts that no pending task is
+/// before leave the log for the text of the run. Whatever is in the lists is dropped.
 fn play_round<R: Threads + Sync, A: App + Sync, G: Gate + Sync, L: Ledger>(
     rt: &R,
-    alloc: Global,
     engine: &mut Engine<'_, A>,
     picks: &mut Picks<'_, G>,
     workers: u32,
     lists: &mut RoundLists<A::Val>,
     steps: &mut Steps<L>,
+    text: &mut Text,
 ) -> Result<(), RunFault>
     ghost from: { RunPoint A.Val }
     requires workers { 1 ≤ workers }
-    requires rest { IsAtRest (A.meaning engine.old.app) from.start (values_of from.start.cells) from.state engine.old.progress }
+    requires rest { IsAtRest (A.meaning engine.old.app) from.start (values_of from.start.cells) from.state from.text engine.old.progress }
+    requires text { text.old ≡ from.text }
     requires some { engine.old.progress.nodes ≢ [] }
     ensures app { engine.new.app ≡ engine.old.app }
-    ensures rest { OnOk result (IsAtRest (A.meaning engine.old.app) from.start (values_of from.start.cells) (after_round (A.meaning engine.old.app) from.state) engine.new.progress) }
+    ensures rest { OnOk result (IsAtRest (A.meaning engine.old.app) from.start (values_of from.start.cells) (after_round (A.meaning engine.old.app) from.state) text.new engine.new.progress) }
     ensures ended { OnOk result (engine.old.progress.ended < engine.new.progress.ended) }
     ensures fault { IfErr result (IsRunFault (A.meaning engine.old.app) from.start) }
 {
     drawing_laws::<A>();
     draw(engine, picks, &mut lists.jobs)?;
-    perform_jobs(rt, alloc, engine.app(), picks.gate(), workers, lists)?;
-    end_all(engine, &mut lists.dones, &lists.turns, steps)
+    perform_jobs(rt, engine.app(), picks.gate(), workers, lists)?;
+    end_all(engine, &mut lists.dones, &lists.turns, steps)?;
+    drain(engine, text)?;
+    Ok(())
 }

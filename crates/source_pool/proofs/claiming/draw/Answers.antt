@@ -25,8 +25,8 @@ loop-job-preserved g c =
     let may_run = subst (λ (app : g.row.A.Denot). MayRun (g.A.App.meaning app) c.in-Job.job) c.loop-job.invariant.app to_run in
     record {
       app = c.claim.ensures.app ∙ c.loop-job.invariant.app;
-      drawing = subst (IsDrawing app g.from.start (values_of g.from.start.cells) g.from.state c.claim.new.self.progress) (sym c.in_ok-push_back.ensures.items)
-          (c.drawing_laws.ensures.goes_on c.args.engine.now.app g.from.start c.loop-job.engine.progress c.claim.new.self.progress (values_of g.from.start.cells) g.from.state c.loop-job.jobs.items c.next.result c.in-Job.job
+      drawing = subst (IsDrawing app g.from.start (values_of g.from.start.cells) g.from.state g.from.text c.claim.new.self.progress) (sym c.in_ok-push_back.ensures.items)
+          (c.drawing_laws.ensures.goes_on c.args.engine.now.app g.from.start c.loop-job.engine.progress c.claim.new.self.progress (values_of g.from.start.cells) g.from.state g.from.text c.loop-job.jobs.items c.next.result c.in-Job.job
           c.loop-job.invariant.drawing claimed);
       may_run = subst (AllByRecursion (MayRun app)) (sym c.in_ok-push_back.ensures.items) (all_turned (MayRun app) c.in-Job.job c.loop-job.jobs.items may_run c.loop-job.invariant.may_run);
       ended = ap (λ (p : Progress g.row.A-Val.Denot). p.ended) claimed.after ∙ c.loop-job.invariant.ended;
@@ -39,7 +39,7 @@ returns g c =
     let out = drawn_out app c.loop-job.engine.progress c.claim.new.self.progress c.next.result c.in_ok-job.field-0 answer c.in_default.not-Job c.loop-job.invariant.drawing.come.over in
     record {
       app = c.claim.ensures.app ∙ c.loop-job.invariant.app;
-      drawing = subst (λ now. IsDrawing app g.from.start (values_of g.from.start.cells) g.from.state now c.loop-job.jobs.items) (sym out.same) c.loop-job.invariant.drawing;
+      drawing = subst (λ now. IsDrawing app g.from.start (values_of g.from.start.cells) g.from.state g.from.text now c.loop-job.jobs.items) (sym out.same) c.loop-job.invariant.drawing;
       none_clear = ap (λ (p : Progress g.row.A-Val.Denot). clear_nodes app p.nodes) out.same ∙ out.none_clear;
       may_run = c.loop-job.invariant.may_run;
       ended = ap (λ (p : Progress g.row.A-Val.Denot). p.ended) out.same ∙ c.loop-job.invariant.ended;

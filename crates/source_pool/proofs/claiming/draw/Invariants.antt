@@ -8,7 +8,7 @@ use Rattle.source_pool.proofs.claiming.draw.Given as goal
 abbrev pub invariant-loop-job : goal.invariant-loop-job
 invariant-loop-job g l = record {
   app : l.engine.app ≡ l.fn.engine.app;
-  drawing : IsDrawing (g.A.App.meaning l.fn.engine.app) g.from.start (values_of g.from.start.cells) g.from.state l.engine.progress l.jobs.items;
+  drawing : IsDrawing (g.A.App.meaning l.fn.engine.app) g.from.start (values_of g.from.start.cells) g.from.state g.from.text l.engine.progress l.jobs.items;
   may_run : AllByRecursion (MayRun (g.A.App.meaning l.fn.engine.app)) l.jobs.items;
   ended : l.engine.progress.ended ≡ l.fn.engine.progress.ended;
 }

@@ -1,7 +1,6 @@
-use Rattle.std.proofs.Common.{ℕ, suc, sym, ap, subst, ◌∙◌, add-one, arith}
+use Rattle.std.proofs.Common.{◌++◌, ℕ, suc, refl, sym, ap, subst, ◌∙◌, add-one, arith}
 use Rattle.std.proofs.lemmas.Result.{err_from_is_err_and}
 use Rattle.cell_store.specs.Values.{values_of}
-use Rattle.output_log.specs.Entries.{joined_texts}
 use Rattle.commuting.specs.Rounds.{after_round}
 use Rattle.kdg_graph.specs.Nodes.{least_of, tasks_of}
 use Rattle.source_pool.specs.Course.{IsAtRest, LeadsByRounds}
@@ -14,10 +13,10 @@ pub play_round-requires : goal.play_round-requires
 play_round-requires g c κs within =
     let bounds = c.requires.1.1.1.1.1 in
     let workers = c.requires.1.1.1.1.1.1.1.1.1.1.1.1.0 in
-    let rest = subst (λ (app : g.row.A.Denot). IsAtRest (g.A.App.meaning app) g.start (values_of g.start.cells) (state_at_rest c.loop-picks.engine.progress) c.loop-picks.engine.progress) (sym c.loop-picks.invariant.app) c.loop-picks.invariant.rest in
+    let rest = subst (λ (app : g.row.A.Denot). IsAtRest (g.A.App.meaning app) g.start (values_of g.start.cells) (state_at_rest c.loop-picks.engine.progress) c.loop-picks.text c.loop-picks.engine.progress) (sym c.loop-picks.invariant.app) c.loop-picks.invariant.rest in
     let some = some_node c.loop-picks.engine.progress.nodes c.least.result (c.least.ensures.least ∙ ap least_of c.graph.ensures.nodes) (sym c.is_some.ensures ∙ c.loop-picks-test.true) in (
       within.0,
-      (within.1.0, (within.1.1.0, (within.1.1.1.0, (within.1.1.1.1, (bounds.0, (bounds.1.0, (bounds.1.1.0, (bounds.1.1.1.0, (workers, (rest, some)))))))))),
+      (within.1.0, (within.1.1.0, (within.1.1.1.0, (within.1.1.1.1, (bounds.0, (bounds.1.0, (bounds.1.1.0, (bounds.1.1.1.0, (workers, (rest, (refl, some))))))))))),
     )
 
 pub returns-in_err-play_round-clause-fault : goal.returns-in_err-play_round-clause-fault
@@ -37,14 +36,14 @@ loop-picks-preserved g c =
     let now = c.play_round.new.engine.progress in
     let home = c.rounds_laws.ensures.home c.args.engine.app in
     let some = some_node old.nodes c.least.result (c.least.ensures.least ∙ ap least_of c.graph.ensures.nodes) (sym c.is_some.ensures ∙ c.loop-picks-test.true) in
-    let rest = subst (λ (app : g.row.A.Denot). IsAtRest (g.A.App.meaning app) g.start (values_of g.start.cells) (after_round (g.A.App.meaning app) (state_at_rest old)) now) c.loop-picks.invariant.app c.in_ok-play_round.ensures.rest in
+    let rest = subst (λ (app : g.row.A.Denot). IsAtRest (g.A.App.meaning app) g.start (values_of g.start.cells) (after_round (g.A.App.meaning app) (state_at_rest old)) c.play_round.new.text now) c.loop-picks.invariant.app c.in_ok-play_round.ensures.rest in
     let leads = c.rounds_laws.ensures.add c.args.engine.app c.loop-picks.rounds (state_at_rest g.start) (state_at_rest old) c.loop-picks.invariant.leads
-    (some_pending app g.start old (values_of g.start.cells) (state_at_rest old) c.loop-picks.invariant.rest some) in
+    (some_pending app g.start old (values_of g.start.cells) (state_at_rest old) c.loop-picks.text c.loop-picks.invariant.rest some) in
     record {
       app = c.play_round.ensures.app ∙ c.loop-picks.invariant.app;
-      rest = rest_at home g.start now (values_of g.start.cells) (after_round app (state_at_rest old)) rest;
+      rest = rest_at home g.start now (values_of g.start.cells) (after_round app (state_at_rest old)) c.play_round.new.text rest;
       leads = subst (λ (n : ℕ). LeadsByRounds app n (state_at_rest g.start) (state_at_rest now)) (sym (add-one c.loop-picks.rounds))
-          (subst (LeadsByRounds app (suc c.loop-picks.rounds) (state_at_rest g.start)) (state_is home g.start now (values_of g.start.cells) (after_round app (state_at_rest old)) rest) leads);
+          (subst (LeadsByRounds app (suc c.loop-picks.rounds) (state_at_rest g.start)) (state_is home g.start now (values_of g.start.cells) (after_round app (state_at_rest old)) c.play_round.new.text rest) leads);
       few = omega (arith, c.loop-picks.invariant.few, c.in_ok-play_round.ensures.ended);
     }
 
@@ -52,12 +51,12 @@ pub returns-clause-end : goal.returns-clause-end
 returns-clause-end g c =
     let now = c.loop-picks.engine.progress in
     let empty = no_node now.nodes c.least.result (c.least.ensures.least ∙ ap least_of c.graph.ensures.nodes) (sym c.is_some.ensures ∙ c.loop-picks-test.false) in
-    let come = c.rounds_laws.ensures.end c.args.engine.app g.start now (values_of g.start.cells) (state_at_rest now) c.loop-picks.invariant.rest empty in
+    let come = c.rounds_laws.ensures.end c.args.engine.app g.start now (values_of g.start.cells) (state_at_rest now) c.loop-picks.text c.loop-picks.invariant.rest empty in
     record {
       last = come.last;
       is_end = come.is_end;
-      store = c.in_ok-end.ensures.store ∙ come.home;
-      text = c.in_ok-end.ensures.text ∙ ap joined_texts come.log;
-      count = c.in_ok-end.ensures.count ∙ come.ended;
+      store = c.in_ok-finals.ensures.store ∙ come.home;
+      text = c.in_ok-push_all.ensures.ok ∙ ap (λ last. c.loop-picks.text ++ last) (c.bytes.ensures ∙ c.in_ok-finals.ensures.text) ∙ come.texts;
+      count = c.in_ok-finals.ensures.count ∙ come.ended;
       rounds_are = c.rounds_laws.ensures.taken c.args.engine.app c.loop-picks.rounds (state_at_rest g.start) (state_at_rest now) c.loop-picks.invariant.leads (ap tasks_of empty);
     }

@@ -5,12 +5,12 @@ use Rattle.source_pool.specs.Runs.{state_at_rest}
 use Rattle.source_pool.proofs.rounds.counted_rounds.Given as goal
 
 abbrev pub ghost-play_round : goal.ghost-play_round
-ghost-play_round g a = record { start = g.start; state = state_at_rest a.engine.now.progress }
+ghost-play_round g a = record { start = g.start; state = state_at_rest a.engine.now.progress; text = a.text.now }
 
 abbrev pub invariant-loop-picks : goal.invariant-loop-picks
 invariant-loop-picks g l = record {
   app : l.engine.app ≡ l.fn.engine.app;
-  rest : IsAtRest (g.A.App.meaning l.fn.engine.app) g.start (values_of g.start.cells) (state_at_rest l.engine.progress) l.engine.progress;
+  rest : IsAtRest (g.A.App.meaning l.fn.engine.app) g.start (values_of g.start.cells) (state_at_rest l.engine.progress) l.text l.engine.progress;
   leads : LeadsByRounds (g.A.App.meaning l.fn.engine.app) l.rounds (state_at_rest g.start) (state_at_rest l.engine.progress);
   few : l.rounds + g.start.ended ≤ l.engine.progress.ended;
 }

@@ -5,4 +5,7 @@ abbrev pub ghost-draw : goal.ghost-draw
 ghost-draw g a = g.from
 
 abbrev pub ghost-end_all : goal.ghost-end_all
-ghost-end_all g a = record { start = g.from.start; state = after_round (g.A.App.meaning a.engine.now.app) g.from.state }
+ghost-end_all g a = record { start = g.from.start; state = after_round (g.A.App.meaning a.engine.now.app) g.from.state; text = g.from.text }
+
+abbrev pub ghost-drain : goal.ghost-drain
+ghost-drain g a = record { start = g.from.start; state = after_round (g.A.App.meaning a.engine.now.app) g.from.state; text = g.from.text }
