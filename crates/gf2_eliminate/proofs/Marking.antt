@@ -14,7 +14,7 @@ numbers_more first (suc count) =
 pub numbers_to : (count : ℕ) → numbers_from 0 (count + 1) ≡ numbers_from 0 count ++ count ∷ []
 numbers_to count = let same : 0 + count ≡ count = omega arith in rw add-one (numbers_more 0 count ∙ ap (λ n. numbers_from 0 count ++ n ∷ []) same)
 
-or_none : (b : Bool) → (b || false) ≡ b
+pub or_none : (b : Bool) → (b || false) ≡ b
 or_none true = refl
 or_none false = refl
 

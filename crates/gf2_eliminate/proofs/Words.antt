@@ -5,7 +5,7 @@ use Rattle.std.specs.List.{AllByRecursion}
 use Rattle.std.specs.Ordering.{nat_cmp}
 use Rattle.std.specs.declared.cmp.Ordering.TheVariants.{Less}
 use Rattle.std.proofs.Common.{◌⊎◌, inl, inr, arith, sym, ap, ◌∙◌, get_or, w64}
-use Rattle.std.proofs.lemmas.Bool.{and_parts, and_from, cases_eq, cases_lt, eq-eqb, ne_eqb, true≢false}
+use Rattle.std.proofs.lemmas.Bool.{and_parts, and_from, and_right, cases_eq, cases_lt, eq-eqb, ne_eqb, or_right, true≢false}
 use Rattle.std.proofs.lemmas.List.{get_or-set_other, get_or-set_same, get_or_past}
 use Rattle.std.proofs.lemmas.Nat.Bits.{bit_at-lt, bit_at-zero, bit_at_clear_other, bit_at_clear_same, bit_at_or, bit_at_set_other, bit_at_set_same, bit_at_xor, same_from_bits}
 use Rattle.mtx_reader.specs.Ascending.{IsAscendingBy, numbers_from, all_in, all_from_in, in_filter, from_filter, in_numbers, ascending_filter, ascending_numbers, ascending_push, nat_less, same_numbers}
@@ -14,7 +14,7 @@ use Rattle.gf2_eliminate.specs.Lines.{has, IsListTo}
 use Rattle.gf2_eliminate.specs.Elimination.{exactly_one}
 use Rattle.gf2_eliminate.specs.Plans.{sum_to}
 use Rattle.gf2_eliminate.specs.Membership.{same_tests, in_has, has_in, list_is_listed}
-use Rattle.gf2_eliminate.proofs.Marking.{any_append}
+use Rattle.gf2_eliminate.proofs.Marking.{any_append, or_none}
 
 -- a bit that is set is one of the words
 bit_within : (words : List ℕ) (n : ℕ) → has_bit words n ≡ true → n < 64 * length words
@@ -65,39 +65,27 @@ module _ (words : List ℕ) (place word : ℕ) (within : place / 64 < length wor
   bit_now : (n : ℕ) → n ≡ place → has_bit (slice_set words (place / 64) word) n ≡ (bit_at word (place % 64) == 1)
   bit_now n at = bit_here n (ap (λ k. k / 64) at) ∙ ap (λ k. bit_at word (k % 64) == 1) at
 
-or_false : (b : Bool) → (b || false) ≡ b
-or_false true = refl
-or_false false = refl
-
-or_true : (b : Bool) → (b || true) ≡ true
-or_true true = refl
-or_true false = refl
-
 and_true : (b : Bool) → (b && true) ≡ b
 and_true true = refl
 and_true false = refl
-
-and_false : (b : Bool) → (b && false) ≡ false
-and_false true = refl
-and_false false = refl
 
 module _ (words : List ℕ) (place : ℕ) (within : place / 64 < length words) where
   bit_set : (n : ℕ) → has_bit (slice_set words (place / 64) (bit_or (get_or words (place / 64) 0) (1 * 2 ^ (place % 64) % 2 ^ 64))) n ≡ (has_bit words n || place == n)
   bit_set n = elim (cases_eq n place) [
     | inl at ↦
         bit_now words place (bit_or (get_or words (place / 64) 0) (1 * 2 ^ (place % 64) % 2 ^ 64)) within n at
-        ∙ ap (λ b. b == 1) (bit_at_set_same w64 (get_or words (place / 64) 0) (place % 64) (omega arith)) ∙ sym (or_true (has_bit words n)) ∙ ap (λ b. has_bit words n || b) (sym (eq-eqb place n (sym at)))
+        ∙ ap (λ b. b == 1) (bit_at_set_same w64 (get_or words (place / 64) 0) (place % 64) (omega arith)) ∙ sym (or_right (has_bit words n) true refl) ∙ ap (λ b. has_bit words n || b) (sym (eq-eqb place n (sym at)))
     | inr other ↦
         bit_kept words place (bit_or (get_or words (place / 64) 0) (1 * 2 ^ (place % 64) % 2 ^ 64)) within
         (λ i below differs. bit_at_set_other w64 (get_or words (place / 64) 0) (place % 64) (omega arith) i differs) n other
-        ∙ sym (or_false (has_bit words n)) ∙ ap (λ b. has_bit words n || b) (sym (ne_eqb place n (λ same. other (sym same))))
+        ∙ sym (or_none (has_bit words n)) ∙ ap (λ b. has_bit words n || b) (sym (ne_eqb place n (λ same. other (sym same))))
   ]
 
   bit_cleared : (n : ℕ) → has_bit (slice_set words (place / 64) (bit_and (get_or words (place / 64) 0) (bit_not w64 (1 * 2 ^ (place % 64) % 2 ^ 64)))) n ≡ (has_bit words n && not (n == place))
   bit_cleared n = elim (cases_eq n place) [
     | inl at ↦
         bit_now words place (bit_and (get_or words (place / 64) 0) (bit_not w64 (1 * 2 ^ (place % 64) % 2 ^ 64))) within n at
-        ∙ ap (λ b. b == 1) (bit_at_clear_same w64 (get_or words (place / 64) 0) (place % 64) (omega arith)) ∙ sym (and_false (has_bit words n))
+        ∙ ap (λ b. b == 1) (bit_at_clear_same w64 (get_or words (place / 64) 0) (place % 64) (omega arith)) ∙ sym (and_right (has_bit words n) false refl)
         ∙ ap (λ b. has_bit words n && not b) (sym (eq-eqb n place at))
     | inr other ↦
         bit_kept words place (bit_and (get_or words (place / 64) 0) (bit_not w64 (1 * 2 ^ (place % 64) % 2 ^ 64))) within
