@@ -67,7 +67,7 @@ impl ChildList {
 
     /// Adds a child at the end. Where memory runs out, the child comes back and the list is as it
     /// was.
-    #[inline]
+    #[inline(always)]
     pub fn push(&mut self, child: Child) -> Result<(), Child>
         requires { length self.old < 2 ^ 32 - 1 }
         ensures ok { OnOk result (self.new ≡ self.old ++ child ∷ []) }
@@ -83,6 +83,7 @@ impl ChildList {
 
     /// The same, also where there are children. This is apart, since most tasks have at most one, and
     /// what it moves takes place.
+    #[inline(never)]
     fn push_further(&mut self, child: Child) -> Result<(), Child>
         requires { length self.old < 2 ^ 32 - 1 }
         ensures ok { OnOk result (self.new ≡ self.old ++ child ∷ []) }
@@ -102,6 +103,7 @@ impl ChildList {
     }
 
     /// The children, in order.
+    #[inline(always)]
     pub fn items(&self) -> &[Child]
         ensures all { result.now ≡ self.now }
         ensures few { length self.now < 2 ^ 32 }

@@ -113,6 +113,7 @@ fn counted_run<A: App, L: Ledger>(
 }
 
 /// Appends what a task wrote, which mostly is nothing.
+#[inline(always)]
 fn append(text: &mut Text, written: &Text) -> Result<(), NoRoom>
     ensures { OnOk result (text.new ≡ text.old ++ written.now) }
 {
@@ -131,6 +132,7 @@ pub(crate) fn lower_laws()
 }
 
 /// That number of created tasks, where it is within the limit.
+#[inline(always)]
 fn within(created: u64, limit: u64) -> Result<u64, SerialFault>
     ensures ok { IfOk result (λ same. (same ≡ created) × (created ≤ limit)) }
     ensures over { IfErr result (λ fault. (fault ≡ SerialFault.Budget created limit) × (limit < created)) }
@@ -154,6 +156,7 @@ fn store_of<A: App>(alloc: Global, app: &A, cells: Vec<A::Val>) -> Result<Store<
 
 /// Lets a task act on the cells, which are all home: finds out its set, and runs it on its bundle,
 /// which comes home again.
+#[inline(always)]
 fn act<A: App, L: Ledger>(
     app: &A,
     task: &Task,
@@ -209,6 +212,7 @@ fn first_tasks(alloc: Global, first: &[Start]) -> Result<TaskList, NoRoom>
 }
 
 /// Puts the children of a task among the pending ones.
+#[inline(always)]
 fn put_children(pending: &mut TaskList, parent: &Key, children: &[Child]) -> Result<(), NoRoom>
     requires few { length children.now < 2 ^ 32 }
     requires not_earlier { AllByRecursion (λ child. parent.now.prio ≤ child.prio) children.now }

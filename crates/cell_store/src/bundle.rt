@@ -38,6 +38,7 @@ impl<V> Bundle<V> {
     }
 
     /// The value at a location of the set.
+    #[inline(always)]
     pub fn get(&self, loc: u32) -> &V
         requires { IsSome (access_at self.now.set loc) }
         ensures value { cell_in self.now loc ≡ Home result.now }
@@ -50,6 +51,7 @@ impl<V> Bundle<V> {
     }
 
     /// The value at a location that the set writes, to be changed.
+    #[inline(always)]
     pub fn get_mut(&mut self, loc: u32) -> &mut V
         requires { IsTrue (writes self.old.set loc) }
         ensures* writes_back { sem 𝓛 (LendsValue V.row self.entry loc result) }

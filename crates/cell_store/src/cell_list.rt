@@ -26,6 +26,7 @@ impl<V> CellList<V> {
         }
     }
 
+    #[inline(always)]
     pub(crate) fn at(&self, i: usize) -> &Cell<V>
         requires { i < length (cells_of self.now) }
         ensures { result.now ≡ slice_index_or (cells_of self.now) i result.now }
@@ -36,6 +37,7 @@ impl<V> CellList<V> {
         }
     }
 
+    #[inline(always)]
     pub(crate) fn at_mut(&mut self, i: usize) -> &mut Cell<V>
         requires { i < length (cells_of self.old) }
         ensures* lends { sem 𝓛 (LendsCell V.row self.entry i result) }
@@ -49,6 +51,7 @@ impl<V> CellList<V> {
 }
 
 /// So many cells, all out.
+#[inline(always)]
 pub(crate) fn cells_out<V: Drop>(alloc: Global, len: usize) -> Result<CellList<V>, NoRoom>
     ensures { IfOk result (λ cells. cells_of cells ≡ replicate len Out) }
 {

@@ -9,6 +9,7 @@ use rw_sets::Access;
 use std::mem;
 
 /// Exchanges the cells that a set writes with those that are held in the order of the set.
+#[inline(always)]
 pub(crate) fn exchange<V>(home: &mut [Cell<V>], set: &[(u32, Access)], held: &mut CellList<V>)
     requires ascending { IsAscending set.now }
     requires one_each { length (cells_of held.old) ≡ length set.now }

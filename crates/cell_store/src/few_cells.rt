@@ -24,6 +24,7 @@ impl<V> FewCells<V> {
     ghost use Rattle.cell_store.specs.StorageLends.{LendsFewCell};
 
     /// So many cells, all out.
+    #[inline(always)]
     pub(crate) fn outs(len: usize) -> FewCells<V>
         requires { len ≤ 4 }
         ensures { cells_in result ≡ replicate len Out }
@@ -43,6 +44,7 @@ impl<V> FewCells<V> {
         self.len
     }
 
+    #[inline(always)]
     pub(crate) fn at(&self, i: usize) -> &Cell<V>
         requires { i < self.now.len }
         ensures { result.now ≡ slice_index_or (cells_in self.now) i result.now }
@@ -55,6 +57,7 @@ impl<V> FewCells<V> {
         }
     }
 
+    #[inline(always)]
     pub(crate) fn at_mut(&mut self, i: usize) -> &mut Cell<V>
         requires { i < self.old.len }
         ensures* lends { sem 𝓛 (LendsFewCell V.row self.entry i result) }

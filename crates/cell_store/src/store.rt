@@ -76,6 +76,7 @@ impl<V: Held> Store<V> {
 
     /// As `take`, of a set that goes into the bundle. After `NoRoom` the set is dropped, and the store
     /// is as it was.
+    #[inline(always)]
     pub fn take_owned(&mut self, set: RwSet) -> Result<Bundle<V>, NoRoom>
         requires { AreHome self.old set }
         ensures bundle { IfOk result (λ bundle. bundle ≡ part_of self.old set) }
@@ -90,6 +91,7 @@ impl<V: Held> Store<V> {
     }
 
     /// Puts the values that a bundle writes home, and leaves the rest of the bundle.
+    #[inline(always)]
     pub fn give(&mut self, bundle: Bundle<V>) -> Shell<V>
         requires { AreWrittenOut self.old bundle.set }
         ensures given { self.new ≡ cells_given self.old bundle }
@@ -116,6 +118,7 @@ impl<V: Held> Store<V> {
     }
 
     /// Exchanges the cells that a set writes with those that are held in the order of the set.
+    #[inline(always)]
     fn exchange(&mut self, set: &[(u32, Access)], held: &mut CellList<V>)
         requires ascending { IsAscending set.now }
         requires one_each { length (cells_of held.old) ≡ length set.now }
@@ -128,6 +131,7 @@ impl<V: Held> Store<V> {
 }
 
 /// A copy of each cell of a set that it only reads, and an empty cell for each that it writes.
+#[inline(always)]
 fn read_copies<V: Held>(cells: &Vec<Cell<V>>, set: &[(u32, Access)]) -> Result<CellList<V>, NoRoom>
     requires { AreHome cells.now.items set.now }
     ensures { IfOk result (λ copies. cells_of copies ≡ map (read_copy cells.now.items) set.now) }

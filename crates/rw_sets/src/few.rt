@@ -18,6 +18,7 @@ impl Few {
 
     pub(crate) const ROOM: usize = 4;
 
+    #[inline(always)]
     pub(crate) fn new() -> Few
         ensures { items_of result ≡ [] }
     {
@@ -39,6 +40,7 @@ impl Few {
         few
     }
 
+    #[inline(always)]
     pub(crate) fn items(&self) -> &[(u32, Access)]
         ensures { result.now ≡ items_of self.now }
     {
@@ -58,6 +60,7 @@ impl Few {
         self.pairs[at] = pair;
     }
 
+    #[inline(always)]
     pub(crate) fn insert(&mut self, at: usize, pair: (u32, Access))
         requires in_range { at ≤ self.old.len }
         requires has_room { self.old.len < 4 }

@@ -15,6 +15,7 @@ pub(crate) enum Pairs {
 }
 
 impl Pairs {
+    #[inline(always)]
     pub(crate) fn new() -> Pairs
         ensures { pairs_of result ≡ [] }
     {
@@ -41,6 +42,7 @@ impl Pairs {
         Pairs::InMemory(pairs)
     }
 
+    #[inline(always)]
     pub(crate) fn items(&self) -> &[(u32, Access)]
         ensures { result.now ≡ pairs_of self.now }
     {
@@ -50,6 +52,7 @@ impl Pairs {
         }
     }
 
+    #[inline(always)]
     pub(crate) fn copy(&self, alloc: Global) -> Result<Pairs, NoRoom>
         ensures { IfOk result (λ pairs. pairs_of pairs ≡ pairs_of self.now) }
     {
@@ -70,6 +73,7 @@ impl Pairs {
     }
 
     /// After `NoRoom` the list is as it was.
+    #[inline(always)]
     pub(crate) fn insert(
         &mut self,
         alloc: Global,

@@ -45,6 +45,7 @@ impl Eq for RwSet {
 
 impl RwSet {
     /// A set with no location, which takes no memory.
+    #[inline(always)]
     pub fn new(alloc: Global) -> RwSet
         ensures { result ≡ [] }
     {
@@ -67,6 +68,7 @@ impl RwSet {
     }
 
     /// The locations with their access, in ascending order.
+    #[inline(always)]
     pub fn items(&self) -> &[(u32, Access)]
         ensures all { result.now ≡ self.now }
         ensures ascending { IsAscending self.now }
@@ -75,6 +77,7 @@ impl RwSet {
     }
 
     /// Merges the access to one location into the set. After `NoRoom` the set is as it was.
+    #[inline(always)]
     pub fn add(&mut self, loc: u32, access: Access) -> Result<(), NoRoom>
         ensures ok { OnOk result (self.new ≡ merged self.old ((loc, access) ∷ [])) }
         ensures err { OnErr result (self.new ≡ self.old) }
@@ -100,6 +103,7 @@ impl RwSet {
     }
 
     /// The place of a location among the items, or `None` where the set lacks it.
+    #[inline(always)]
     pub fn position_of(&self, loc: u32) -> Option<usize>
         ensures place { IfSome result (IsAt self.now loc) }
         ensures absent { IfNone result (access_at self.now loc ≡ None) }
@@ -125,6 +129,7 @@ impl RwSet {
     }
 
     /// An equal set.
+    #[inline(always)]
     pub fn copy(&self) -> Result<RwSet, NoRoom>
         ensures { IfOk result (λ set. set ≡ self.now) }
     {
@@ -134,6 +139,7 @@ impl RwSet {
     }
 
     /// Where the location is, or where it would go: at once at the end, else by halving.
+    #[inline(always)]
     fn place_of(&self, loc: u32) -> Result<usize, usize>
         ensures found { IfOk result (IsAt self.now loc) }
         ensures absent { IfErr result (IsGapFor self.now loc) }

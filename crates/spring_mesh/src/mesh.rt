@@ -90,6 +90,7 @@ impl Mesh {
     }
 
     /// The spring of a task.
+    #[inline(always)]
     fn spring(&self, body: &Body) -> &Spring
         requires { body.now.at < length self.now.springs }
         ensures { result.now ≡ spring_at self.now body.now.at }
@@ -98,6 +99,7 @@ impl Mesh {
     }
 
     /// The mass of a node.
+    #[inline(always)]
     fn mass(&self, number: u32) -> i64
         requires { number < length self.now.masses }
         ensures { result ≡ mass_at self.now number }
@@ -169,6 +171,7 @@ impl App for Mesh {
         self.file.nodes.items().len() as u32
     }
 
+    #[inline(always)]
     fn sets<L: Ledger>(
         &self,
         body: &Body,
@@ -188,6 +191,7 @@ impl App for Mesh {
         true
     }
 
+    #[inline(always)]
     fn run(
         &self,
         task: &Task,
@@ -243,6 +247,7 @@ impl App for Mesh {
 }
 
 /// Both ends of a spring, written. The set stands in place.
+#[inline(always)]
 fn ends_of(alloc: Global, spring: &Spring) -> Result<RwSet, NoRoom>
     ensures { IfOk result (λ set. set ≡ ends_of spring.now) }
 {
@@ -253,6 +258,7 @@ fn ends_of(alloc: Global, spring: &Spring) -> Result<RwSet, NoRoom>
 }
 
 /// The spring's next step with its set, unless it would come after the end.
+#[inline(always)]
 fn children(alloc: Global, end: u64, task: &Task, spring: &Spring) -> Result<ChildList, NoRoom>
     requires time { task.now.key.prio ≤ latest }
     requires period { spring.now.h ≤ latest }

@@ -27,6 +27,7 @@ impl App for Circuit {
         2 * self.deck.signals.items().len() as u32
     }
 
+    #[inline(always)]
     fn sets<L: Ledger>(
         &self,
         body: &Body,
@@ -53,6 +54,7 @@ impl App for Circuit {
         }
     }
 
+    #[inline(always)]
     fn run(&self, task: &Task, bundle: Bundle<u8>) -> Result<Effect<u8>, Bundle<u8>>
         requires fit { IsTaskOf (simulation self.now) task.now }
         requires cells { IsTaken (simulation self.now) task.now bundle }
@@ -93,6 +95,7 @@ impl App for Circuit {
 
 impl Circuit {
     /// A copy of the set that the evaluation of a gate declares.
+    #[inline(always)]
     fn evaluation_set(&self, gate: u32) -> Result<RwSet, NoRoom>
         requires { gate < length self.now.deck.signals }
         ensures { IfOk result (λ set. set ≡ eval_set self.now.deck gate) }
@@ -112,6 +115,7 @@ impl Circuit {
 
     /// The signal takes the value, unless it has it. Each gate that reads it is then evaluated at
     /// the same time.
+    #[inline(always)]
     fn change_effect(
         &self,
         time: u64,
@@ -147,6 +151,7 @@ impl Circuit {
     }
 
     /// The evaluations and the line that follow a change of a signal to the value.
+    #[inline(always)]
     fn change_outcome(&self, time: u64, signal: u32, value: u8) -> Result<(ChildList, Text), NoRoom>
         requires in_range { signal < length self.now.deck.signals }
         requires time { 2 * time + 1 < 2 ^ 64 }
@@ -163,6 +168,7 @@ impl Circuit {
     }
 
     /// An evaluation at that time of each gate that reads a signal.
+    #[inline(always)]
     fn evaluations(&self, time: u64, signal: u32) -> Result<ChildList, NoRoom>
         requires in_range { signal < length self.now.deck.signals }
         requires time { 2 * time + 1 < 2 ^ 64 }
@@ -178,6 +184,7 @@ impl Circuit {
 
     /// Plans what the gate computes, unless it is planned. The gate then takes that value one unit
     /// of time later, if that is not too late.
+    #[inline(always)]
     fn evaluation_effect(
         &self,
         time: u64,
@@ -212,6 +219,7 @@ impl Circuit {
     }
 
     /// The change of a gate's signal one unit of time later, unless that is too late.
+    #[inline(always)]
     fn next_change(&self, time: u64, gate: u32, value: u8) -> Result<ChildList, NoRoom>
         requires in_range { gate < length self.now.deck.signals }
         requires time { time < 2 ^ 63 }
@@ -231,6 +239,7 @@ impl Circuit {
 }
 
 /// The set of a change of a signal.
+#[inline(always)]
 fn change_set(alloc: Global, signal: u32) -> Result<RwSet, NoRoom>
     requires { signal < 2 ^ 31 }
     ensures { IfOk result (λ set. set ≡ change_set signal) }
@@ -241,6 +250,7 @@ fn change_set(alloc: Global, signal: u32) -> Result<RwSet, NoRoom>
 }
 
 /// Adds a child with the set that it declares.
+#[inline(always)]
 fn push_child(children: &mut ChildList, start: Start, set: RwSet) -> Result<(), NoRoom>
     requires { length children.old < 2 ^ 32 - 1 }
     ensures { OnOk result (children.new ≡ children.old ++ record { prio = start.prio; body = start.body; set = set } ∷ []) }
@@ -250,6 +260,7 @@ fn push_child(children: &mut ChildList, start: Start, set: RwSet) -> Result<(), 
 }
 
 /// What an event leaves that has nothing to do.
+#[inline(always)]
 fn without_effect(alloc: Global, bundle: Bundle<u8>) -> Effect<u8>
     ensures { result ≡ record { bundle = bundle; children = []; text = [] } }
 {
