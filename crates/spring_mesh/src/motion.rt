@@ -112,7 +112,11 @@ fn change_by(given: i128, mass: i64) -> i128
     ensures value { result ≡ change_by given mass }
     ensures within { IsWithin (2 ^ 100) result }
 {
-    given.div_euclid(i128::from(mass))
+    // Mostly it fits into 64 bits, whose division is no call.
+    match i64::try_from(given) {
+        Ok(given) => i128::from(given.div_euclid(mass)),
+        Err(_) => given.div_euclid(i128::from(mass)),
+    }
 }
 
 /// A speed that has grown by so much.
