@@ -1,11 +1,13 @@
 -- Jobs that are dealt out in turn: what each hand has of them so far, and that none is lost.
 use Rattle.std.proofs.Common.{◌≡◌, ◌≢◌, ◌⊎◌, inl, inr, ℕ, zero, suc, ◌+◌, ◌%◌, if◌then◌else◌, List, [], ◌∷◌, ◌++◌, Some, length, refl, sym, ◌∙◌, ap, subst, arith, IsPermutation}
 use Rattle.std.specs.Prelude.{slice_get, slice_set}
-use Rattle.std.specs.List.{flat_map}
+use Rattle.std.specs.List.{All, flat_map}
 use Rattle.std.proofs.lemmas.Bool.{eq-eqb}
 use Rattle.std.proofs.lemmas.Bool.Decides.{eqb_tells}
-use Rattle.std.proofs.lemmas.List.{append-nil, append_assoc, length-append, length-set}
+use Rattle.std.proofs.lemmas.List.{append-nil, append_assoc, length-set}
+use Rattle.std.proofs.lemmas.Option.{get_or_from_slice_get, slice_get_within}
 use Rattle.std.proofs.lemmas.List.Sorted.{IsPermutation-append_left, IsPermutation-append_right, IsPermutation-refl, IsPermutation-to_front, IsPermutation-trans}
+use Rattle.graph_update.specs.declared.job.Done.{Done}
 use Rattle.graph_update.specs.declared.job.Job.{Job}
 use Rattle.source_pool.specs.declared.hands.Hand.{Hand}
 use Rattle.source_pool.specs.Performing.{AreDealt, AreEmptyHands, dealt_jobs, share}
@@ -58,67 +60,47 @@ others workers worker number x xs differ = elim (eqb_tells (number % workers) wo
 module _ {V : Type 0} where
   -- ---- hands without jobs
 
-  pub no_hands : AreEmptyHands {V = V} 0 []
-  no_hands = record { count = refl; numbers = λ number hand at. absurd (cc); empty = λ number hand at. absurd (cc) }
-
-  pub one_hand_more : (worker : ℕ) (hands : List (Hand V)) (hand : Hand V) → AreEmptyHands worker hands → hand.worker ≡ worker → hand.jobs.items ≡ [] → AreEmptyHands (worker + 1) (hands ++ hand ∷ [])
-  one_hand_more worker hands hand so_far number empty = record {
-    count = length-append hands (hand ∷ []) ∙ ap (λ count. count + 1) so_far.count;
-    numbers = λ k other at. elim (pushed_at hands hand k other at) [
-      | inl before ↦ so_far.numbers k other before
-      | inr last ↦ ap (λ (h : Hand V). h.worker) (sym last.1) ∙ number ∙ sym (last.0 ∙ so_far.count)
-    ];
-    empty = λ k other at. elim (pushed_at hands hand k other at) [
-      | inl before ↦ so_far.empty k other before
-      | inr last ↦ ap (λ (h : Hand V). h.jobs.items) (sym last.1) ∙ empty
-    ];
-  }
-
-  no_jobs : (hands : List (Hand V)) → ((k : ℕ) (hand : Hand V) → slice_get hands k ≡ Some hand → hand.jobs.items ≡ []) → dealt_jobs hands ≡ []
+  no_jobs : (hands : List (Hand (Job V) (Done V))) → All (λ (hand : Hand (Job V) (Done V)). hand.jobs.items ≡ []) hands → dealt_jobs hands ≡ []
   no_jobs [] each = refl
-  no_jobs (hand ∷ hands) each = ap (λ (l : List (Job V)). l ++ dealt_jobs hands) (each 0 hand refl) ∙ no_jobs hands (λ k other at. each (suc k) other at)
+  no_jobs (hand ∷ hands) each = ap (λ (l : List (Job V)). l ++ dealt_jobs hands) (each 0 hand (omega arith)) ∙ no_jobs hands (λ k other inside. each (suc k) other (omega (arith, inside)))
 
   -- ---- hands with some of the jobs
 
   -- the jobs before a number are dealt out, and the rest is left
-  pub record AreDealtBefore (workers : ℕ) (jobs : List (Job V)) (number : ℕ) (rest : List (Job V)) (hands : List (Hand V)) : Type 0 where
+  pub record AreDealtBefore (workers : ℕ) (jobs : List (Job V)) (number : ℕ) (rest : List (Job V)) (hands : List (Hand (Job V) (Done V))) : Type 0 where
     pub count : length hands ≡ workers
-    pub numbers : (k : ℕ) (hand : Hand V) → slice_get hands k ≡ Some hand → hand.worker ≡ k
-    pub shares : (k : ℕ) (hand : Hand V) → slice_get hands k ≡ Some hand → hand.jobs.items ++ share workers k number rest ≡ share workers k 0 jobs
+    pub shares : (k : ℕ) (hand : Hand (Job V) (Done V)) → slice_get hands k ≡ Some hand → hand.jobs.items ++ share workers k number rest ≡ share workers k 0 jobs
     pub all : IsPermutation jobs (dealt_jobs hands ++ rest)
 
-  pub none_dealt : (workers : ℕ) (jobs rest : List (Job V)) (hands : List (Hand V)) → AreEmptyHands workers hands → rest ≡ jobs → AreDealtBefore workers jobs 0 rest hands
-  none_dealt workers jobs rest hands empty whole = record {
-    count = empty.count;
-    numbers = empty.numbers;
-    shares = λ k hand at. ap (λ (l : List (Job V)). l ++ share workers k 0 rest) (empty.empty k hand at) ∙ ap (share workers k 0) whole;
-    all = subst (IsPermutation jobs) (sym whole ∙ ap (λ (l : List (Job V)). l ++ rest) (sym (no_jobs hands empty.empty))) (IsPermutation-refl jobs);
-  }
+  pub none_dealt : (workers : ℕ) (jobs rest : List (Job V)) (hands : List (Hand (Job V) (Done V))) → AreEmptyHands workers hands → rest ≡ jobs → AreDealtBefore workers jobs 0 rest hands
+  none_dealt workers jobs rest hands empty whole =
+      let empty_at : (k : ℕ) (hand : Hand (Job V) (Done V)) → slice_get hands k ≡ Some hand → hand.jobs.items ≡ [] = λ k hand at.
+      subst (λ (h : Hand (Job V) (Done V)). h.jobs.items ≡ []) (get_or_from_slice_get hands k hand hand at) (empty.empty k hand (slice_get_within hands k hand at)) in
+      record {
+        count = empty.count;
+        shares = λ k hand at. ap (λ (l : List (Job V)). l ++ share workers k 0 rest) (empty_at k hand at) ∙ ap (share workers k 0) whole;
+        all = subst (IsPermutation jobs) (sym whole ∙ ap (λ (l : List (Job V)). l ++ rest) (sym (no_jobs hands empty.empty))) (IsPermutation-refl jobs);
+      }
 
-  pub all_dealt : (workers : ℕ) (jobs : List (Job V)) (number : ℕ) (rest : List (Job V)) (hands : List (Hand V)) → AreDealtBefore workers jobs number rest hands → rest ≡ [] → AreDealt workers jobs hands
+  pub all_dealt : (workers : ℕ) (jobs : List (Job V)) (number : ℕ) (rest : List (Job V)) (hands : List (Hand (Job V) (Done V))) → AreDealtBefore workers jobs number rest hands → rest ≡ [] → AreDealt workers jobs hands
   all_dealt workers jobs number rest hands so_far empty = record {
     count = so_far.count;
-    numbers = so_far.numbers;
     shares = λ k hand at.
         sym (append-nil hand.jobs.items) ∙ ap (λ (l : List (Job V)). hand.jobs.items ++ share workers k number l) (sym empty) ∙ so_far.shares k hand at;
     all = subst (IsPermutation jobs) (ap (λ (l : List (Job V)). dealt_jobs hands ++ l) empty ∙ append-nil (dealt_jobs hands)) so_far.all;
   }
 
   -- the next job goes to the worker whose turn it is
-  pub one_dealt : (workers : ℕ) (jobs : List (Job V)) (number : ℕ) (job : Job V) (rest : List (Job V)) (hands : List (Hand V)) (hand next : Hand V) (now : List (Hand V))
-      → AreDealtBefore workers jobs number (job ∷ rest) hands → slice_get hands (number % workers) ≡ Some hand → next.worker ≡ hand.worker → next.jobs.items ≡ hand.jobs.items ++ job ∷ []
+  pub one_dealt : (workers : ℕ) (jobs : List (Job V)) (number : ℕ) (job : Job V) (rest : List (Job V)) (hands : List (Hand (Job V) (Done V))) (hand next : Hand (Job V) (Done V)) (now : List (Hand (Job V) (Done V)))
+      → AreDealtBefore workers jobs number (job ∷ rest) hands → slice_get hands (number % workers) ≡ Some hand → next.jobs.items ≡ hand.jobs.items ++ job ∷ []
       → now ≡ slice_set hands (number % workers) next → AreDealtBefore workers jobs (number + 1) rest now
-  one_dealt workers jobs number job rest hands hand next now so_far at same more is =
+  one_dealt workers jobs number job rest hands hand next now so_far at more is =
       let place : ℕ = number % workers in
       subst (AreDealtBefore workers jobs (number + 1) rest) (sym is) (record {
         count = length-set hands place next ∙ so_far.count;
-        numbers = λ k other found. elim (set_at hands place next k other found) [
-          | inl here ↦ ap (λ (h : Hand V). h.worker) (sym here.1) ∙ same ∙ so_far.numbers place hand at ∙ sym here.0
-          | inr there ↦ so_far.numbers k other there.1
-        ];
         shares = λ k other found. elim (set_at hands place next k other found) [
           | inl here ↦
-              ap (λ (h : Hand V). h.jobs.items ++ share workers k (number + 1) rest) (sym here.1) ∙ ap (λ (l : List (Job V)). l ++ share workers k (number + 1) rest) more
+              ap (λ (h : Hand (Job V) (Done V)). h.jobs.items ++ share workers k (number + 1) rest) (sym here.1) ∙ ap (λ (l : List (Job V)). l ++ share workers k (number + 1) rest) more
               ∙ append_assoc hand.jobs.items (job ∷ []) (share workers k (number + 1) rest)
               ∙ ap (λ worker. hand.jobs.items ++ (job ∷ share workers worker (number + 1) rest)) here.0
               ∙ ap (λ (l : List (Job V)). hand.jobs.items ++ l) (sym (mine workers number job rest))
@@ -128,7 +110,7 @@ module _ {V : Type 0} where
         all =
             let before : List (Job V) = dealt_jobs hands in
             let dealt : IsPermutation ((before ++ job ∷ []) ++ rest) (dealt_jobs (slice_set hands place next) ++ rest) =
-            IsPermutation-append_left rest (before ++ job ∷ []) (dealt_jobs (slice_set hands place next)) (grown (λ (h : Hand V). h.jobs.items) hands place hand next job at more) in
+            IsPermutation-append_left rest (before ++ job ∷ []) (dealt_jobs (slice_set hands place next)) (grown (λ (h : Hand (Job V) (Done V)). h.jobs.items) hands place hand next job at more) in
             IsPermutation-trans jobs (before ++ (job ∷ rest)) (dealt_jobs (slice_set hands place next) ++ rest) so_far.all
             (subst (λ (l : List (Job V)). IsPermutation l (dealt_jobs (slice_set hands place next) ++ rest)) (append_assoc before (job ∷ []) rest) dealt);
       })

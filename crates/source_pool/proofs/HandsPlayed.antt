@@ -1,14 +1,15 @@
--- Hands of jobs, and what each of them gives.
-use Rattle.std.proofs.Common.{◌≡◌, ℕ, zero, suc, List, [], ◌∷◌, ◌++◌, Option, Some, None, Result, Ok, Err, Vec, IfOk, length, refl, subst, arith, IsPermutation}
-use Rattle.std.specs.Prelude.{slice_get}
+-- Hands of jobs, and what becomes of each of them.
+use Rattle.std.proofs.Common.{◌≡◌, ◌<◌, ℕ, zero, suc, true, false, cond, List, [], ◌∷◌, ◌++◌, Option, Some, None, length, length-drop, get_or, take, drop, refl, ◌∙◌, ap, subst, arith, IsPermutation}
 use Rattle.std.specs.List.{All, AllByRecursion}
 use Rattle.std.specs.Option.{option_map}
+use Rattle.std.proofs.lemmas.List.{append-nil, take_all}
 use Rattle.std.proofs.lemmas.List.Sorted.{Contains-permutation, IsPermutation-sym}
 use Rattle.app_laws.specs.Applications.{Application}
 use Rattle.graph_update.specs.declared.job.Done.{Done}
 use Rattle.graph_update.specs.declared.job.Job.{Job}
 use Rattle.source_pool.specs.declared.hands.Hand.{Hand}
-use Rattle.source_pool.specs.Performing.{AreDoneInTurn, dealt_jobs, joined_parts}
+use Rattle.source_pool.specs.Performing.{AreDoneInTurn, ArePlayed, IsPlayed, dealt_jobs, gathered}
+use Rattle.source_pool.proofs.Finished.{none_left}
 use Rattle.source_pool.proofs.Lists.{Some-injective, all_at, all_from}
 use Rattle.source_pool.proofs.Turns.{turns_joined}
 
@@ -17,44 +18,53 @@ module _ {V : Type 0} where
   all_front P [] others all = (tt, all)
   all_front P (job ∷ jobs) others all = let rest : AllByRecursion P jobs × AllByRecursion P others = all_front P jobs others all.1 in ((all.0, rest.0), rest.1)
 
-  each_hand : (P : Job V → Type 0) (hands : List (Hand V)) → AllByRecursion P (dealt_jobs hands) → All (λ (hand : Hand V). AllByRecursion P hand.jobs.items) hands
+  each_hand : (P : Job V → Type 0) (hands : List (Hand (Job V) (Done V))) → AllByRecursion P (dealt_jobs hands) → All (λ (hand : Hand (Job V) (Done V)). AllByRecursion P hand.jobs.items) hands
   each_hand P [] all k d inside = absurd (omega (arith, inside))
   each_hand P (hand ∷ hands) all zero d inside = (all_front P hand.jobs.items (dealt_jobs hands) all).0
   each_hand P (hand ∷ hands) all (suc k) d inside = each_hand P hands (all_front P hand.jobs.items (dealt_jobs hands) all).1 k d (omega (arith, inside))
 
   -- what holds of all jobs holds of those in each hand
-  pub in_each_hand : (P : Job V → Type 0) (jobs : List (Job V)) (hands : List (Hand V)) → IsPermutation jobs (dealt_jobs hands) → AllByRecursion P jobs
-      → All (λ (hand : Hand V). AllByRecursion P hand.jobs.items) hands
+  pub in_each_hand : (P : Job V → Type 0) (jobs : List (Job V)) (hands : List (Hand (Job V) (Done V))) → IsPermutation jobs (dealt_jobs hands) → AllByRecursion P jobs
+      → All (λ (hand : Hand (Job V) (Done V)). AllByRecursion P hand.jobs.items) hands
   in_each_hand P jobs hands dealt all = each_hand P hands
       (all_from P (dealt_jobs hands) (λ job has. all_at P jobs job all (Contains-permutation (dealt_jobs hands) jobs job (IsPermutation-sym jobs (dealt_jobs hands) dealt) has)))
 
 module _ {V : Type 0} (app : Application V) where
-  -- what each hand gave, where it gave anything, is what its jobs became in turn
-  abbrev pub ArePlayed : {Z E : Type 0} → List (Hand V) → List (Result (Vec (Option (Done V)) Z) E) → Type 0
-  ArePlayed [] [] = Unit {0}
-  ArePlayed (hand ∷ hands) (part ∷ parts) = IfOk part (λ dones. AreDoneInTurn app hand.jobs.items dones.items) × ArePlayed hands parts
-  ArePlayed hands parts = ⊥
-
-  -- from what the hand at each place gave
-  pub played : {Z E : Type 0} (hands : List (Hand V)) (parts : List (Result (Vec (Option (Done V)) Z) E)) → length parts ≡ length hands
-      → ((k : ℕ) (hand : Hand V) (part : Result (Vec (Option (Done V)) Z) E) → slice_get hands k ≡ Some hand → slice_get parts k ≡ Some part → IfOk part (λ dones. AreDoneInTurn app hand.jobs.items dones.items))
-      → ArePlayed hands parts
+  -- from what became of the hand at each place
+  pub played : (olds nows : List (Hand (Job V) (Done V))) → length nows ≡ length olds
+      → ((k : ℕ) (d : Hand (Job V) (Done V)) → k < length olds → IsPlayed app (get_or olds k d) (get_or nows k d)) → ArePlayed app olds nows
   played [] [] long each = tt
-  played [] (part ∷ parts) long each = absurd (omega (arith, long))
-  played (hand ∷ hands) [] long each = absurd (omega (arith, long))
-  played (hand ∷ hands) (part ∷ parts) long each = (each 0 hand part refl refl, played hands parts (omega (arith, long)) (λ k other gave at there. each (suc k) other gave at there))
+  played [] (now ∷ nows) long each = absurd (omega (arith, long))
+  played (old ∷ olds) [] long each = absurd (omega (arith, long))
+  played (old ∷ olds) (now ∷ nows) long each = (each 0 old (omega arith), played olds nows (omega (arith, long)) (λ k d inside. each (suc k) d (omega (arith, inside))))
+
+  same_length : (olds nows : List (Hand (Job V) (Done V))) → ArePlayed app olds nows → length nows ≡ length olds
+  same_length [] [] each = refl
+  same_length [] (now ∷ nows) each = absurd each
+  same_length (old ∷ olds) [] each = absurd each
+  same_length (old ∷ olds) (now ∷ nows) each = ap suc (same_length olds nows each.1)
+
+  -- the hands as they are given back to the vector that lent them
+  pub given_back : (count : ℕ) (olds nows : List (Hand (Job V) (Done V))) → ArePlayed app olds nows → count ≡ length olds → take count (nows ++ drop (length nows) olds) ≡ nows
+  given_back count olds nows each all =
+      let same = same_length olds nows each in
+      ap (λ (rest : List (Hand (Job V) (Done V))). take count (nows ++ rest)) (none_left (drop (length nows) olds) (omega (arith, length-drop (length nows) olds, same)))
+      ∙ ap (take count) (append-nil nows) ∙ take_all count nows (omega (arith, same, all))
 
   -- all together
-  pub all_played : {Z E : Type 0} (hands : List (Hand V)) (parts : List (Result (Vec (Option (Done V)) Z) E)) (dones : List (Option (Done V))) → ArePlayed hands parts → joined_parts parts ≡ Some dones
-      → AreDoneInTurn app (dealt_jobs hands) dones
-  all_played [] [] dones each joined = subst (AreDoneInTurn app []) (Some-injective [] dones joined) tt
-  all_played [] (part ∷ parts) dones each joined = absurd each
-  all_played (hand ∷ hands) [] dones each joined = absurd each
-  all_played (hand ∷ hands) (Err fault ∷ parts) dones each joined = absurd (cc)
-  all_played {Z} {E} (hand ∷ hands) (Ok part ∷ parts) dones each joined =
-      let by_rest : (rest : Option (List (Option (Done V)))) → joined_parts parts ≡ rest → option_map (λ more. part.items ++ more) rest ≡ Some dones → AreDoneInTurn app (hand.jobs.items ++ dealt_jobs hands) dones = elim [
-        | None ↦ λ _ none. absurd (cc)
-        | Some rest ↦ λ is all. subst (AreDoneInTurn app (hand.jobs.items ++ dealt_jobs hands)) (Some-injective (part.items ++ rest) dones all)
-            (turns_joined app hand.jobs.items (dealt_jobs hands) part.items rest each.0 (all_played hands parts rest each.1 is))
+  pub all_played : (olds nows : List (Hand (Job V) (Done V))) (dones : List (Option (Done V))) → ArePlayed app olds nows → gathered nows ≡ Some dones → AreDoneInTurn app (dealt_jobs olds) dones
+  all_played [] [] dones each all = subst (AreDoneInTurn app []) (Some-injective [] dones all) tt
+  all_played [] (now ∷ nows) dones each all = absurd each
+  all_played (old ∷ olds) [] dones each all = absurd each
+  all_played (old ∷ olds) (now ∷ nows) dones each all =
+      let by_done : (done : _) → now.is_done ≡ done → cond done (option_map (λ rest. now.dones.items ++ rest) (gathered nows)) None ≡ Some dones → AreDoneInTurn app (old.jobs.items ++ dealt_jobs olds) dones = elim [
+        | true ↦ λ is whole.
+            let by_rest : (rest : Option (List (Option (Done V)))) → gathered nows ≡ rest → option_map (λ more. now.dones.items ++ more) rest ≡ Some dones → AreDoneInTurn app (old.jobs.items ++ dealt_jobs olds) dones = elim [
+              | None ↦ λ _ none. absurd (cc)
+              | Some rest ↦ λ same joined. subst (AreDoneInTurn app (old.jobs.items ++ dealt_jobs olds)) (Some-injective (now.dones.items ++ rest) dones joined)
+                  (turns_joined app old.jobs.items (dealt_jobs olds) now.dones.items rest (each.0 is) (all_played olds nows rest each.1 same))
+            ] in
+            by_rest (gathered nows) refl whole
+        | false ↦ λ _ none. absurd (cc)
       ] in
-      by_rest (joined_parts parts) refl joined
+      by_done now.is_done refl all

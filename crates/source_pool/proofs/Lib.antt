@@ -10,7 +10,6 @@ pub mod HandsPlayed
 pub mod Jobs
 pub mod Lists
 pub mod Logged
-pub mod Parts
 pub mod Played
 pub mod RoundNumbers
 pub mod Taken

@@ -1,6 +1,6 @@
 -- How the jobs of a round are dealt out among workers, and what these make of them.
-use Rattle.std.specs.Prelude.{◌≡◌, ◌+◌, ◌%◌, ◌==◌, ◌++◌, if◌then◌else◌, ℕ, List, [], ◌∷◌, length, slice_get, Option, Some, None, Result, Ok, Err, IsPermutation, Vec}
-use Rattle.std.specs.List.{AllByRecursion, flat_map}
+use Rattle.std.specs.Prelude.{◌≡◌, ◌+◌, ◌%◌, ◌==◌, ◌++◌, if◌then◌else◌, ℕ, true, List, [], ◌∷◌, length, slice_get, Option, Some, None, IsPermutation}
+use Rattle.std.specs.List.{All, AllByRecursion, flat_map}
 use Rattle.std.specs.Option.{option_map}
 use Rattle.app_laws.specs.Applications.{Application}
 use Rattle.graph_update.specs.declared.job.Done.{Done}
@@ -16,25 +16,23 @@ share workers worker number (x ∷ xs) = if number % workers == worker then x �
 
 module _ {V : Type 0} where
   -- the jobs of all hands
-  abbrev pub dealt_jobs : List (Hand V) → List (Job V)
+  abbrev pub dealt_jobs : List (Hand (Job V) (Done V)) → List (Job V)
   dealt_jobs hands = flat_map (λ hand. hand.jobs.items) hands
 
-  -- each worker has a hand without jobs, in the order of the workers' numbers
-  pub record AreEmptyHands (workers : ℕ) (hands : List (Hand V)) : Type 0 where
+  -- each worker has a hand without jobs
+  pub record AreEmptyHands (workers : ℕ) (hands : List (Hand (Job V) (Done V))) : Type 0 where
     pub count : length hands ≡ workers
-    pub numbers : (number : ℕ) (hand : Hand V) → slice_get hands number ≡ Some hand → hand.worker ≡ number
-    pub empty : (number : ℕ) (hand : Hand V) → slice_get hands number ≡ Some hand → hand.jobs.items ≡ []
+    pub empty : All (λ hand. hand.jobs.items ≡ []) hands
 
   -- each worker has a hand with its share of the jobs, in the order of the workers' numbers, and all jobs are in hands
-  pub record AreDealt (workers : ℕ) (jobs : List (Job V)) (hands : List (Hand V)) : Type 0 where
+  pub record AreDealt (workers : ℕ) (jobs : List (Job V)) (hands : List (Hand (Job V) (Done V))) : Type 0 where
     pub count : length hands ≡ workers
-    pub numbers : (number : ℕ) (hand : Hand V) → slice_get hands number ≡ Some hand → hand.worker ≡ number
-    pub shares : (number : ℕ) (hand : Hand V) → slice_get hands number ≡ Some hand → hand.jobs.items ≡ share workers number 0 jobs
+    pub shares : (number : ℕ) (hand : Hand (Job V) (Done V)) → slice_get hands number ≡ Some hand → hand.jobs.items ≡ share workers number 0 jobs
     pub all : IsPermutation jobs (dealt_jobs hands)
 
   module _ (app : Application V) where
     -- each job of the hand may run
-    abbrev pub MayPlay : Hand V → Type 0
+    abbrev pub MayPlay : Hand (Job V) (Done V) → Type 0
     MayPlay hand = AllByRecursion (MayRun app) hand.jobs.items
 
     -- each job is performed, in order, and the slots have what was done
@@ -43,14 +41,23 @@ module _ {V : Type 0} where
     AreDoneInTurn (job ∷ jobs) (Some done ∷ slots) = IsJobDone app job done × AreDoneInTurn jobs slots
     AreDoneInTurn jobs slots = ⊥
 
+    -- where the hand is done, each of its jobs is performed, in order
+    abbrev pub IsPlayed : Hand (Job V) (Done V) → Hand (Job V) (Done V) → Type 0
+    IsPlayed old now = now.is_done ≡ true → AreDoneInTurn old.jobs.items now.dones.items
+
+    -- the same of each of the hands
+    abbrev pub ArePlayed : List (Hand (Job V) (Done V)) → List (Hand (Job V) (Done V)) → Type 0
+    ArePlayed [] [] = Unit {0}
+    ArePlayed (old ∷ olds) (now ∷ nows) = IsPlayed old now × ArePlayed olds nows
+    ArePlayed olds nows = ⊥
+
     -- each job is performed, in some order
     pub record AreDoneInSomeTurn (jobs : List (Job V)) (slots : List (Option (Done V))) : Type 0 where
       pub turn : List (Job V)
       pub same : IsPermutation jobs turn
       pub done : AreDoneInTurn turn slots
 
--- the parts as one list, where none is wanting
-abbrev pub joined_parts : {X Z E : Type 0} → List (Result (Vec X Z) E) → Option (List X)
-joined_parts [] = Some []
-joined_parts (Ok part ∷ parts) = option_map (λ rest. part.items ++ rest) (joined_parts parts)
-joined_parts (Err fault ∷ parts) = None
+-- what was done in all hands, hand by hand, where each is done
+abbrev pub gathered : {J D : Type 0} → List (Hand J D) → Option (List (Option D))
+gathered [] = Some []
+gathered (hand ∷ hands) = if hand.is_done then option_map (λ rest. hand.dones.items ++ rest) (gathered hands) else None

@@ -1,11 +1,12 @@
 //! How the jobs of a round are performed by a thread for each worker.
 
-ghost use Rattle.std.specs.Prelude.{◌≡◌, ◌≤◌, ◌<◌, length, IfOk, OnOk};
+ghost use Rattle.std.specs.Prelude.{◌≡◌, ◌≤◌, ◌<◌, ◌^◌, [], length, OnOk};
 ghost use Rattle.std.specs.List.{All, AllByRecursion};
 ghost use Rattle.graph_update.specs.Engine.{MayRun};
-ghost use Rattle.source_pool.specs.Performing.{AreDealt, AreDoneInSomeTurn, AreDoneInTurn, AreEmptyHands, MayPlay, dealt_jobs, joined_parts};
+ghost use Rattle.source_pool.specs.Performing.{AreDealt, AreDoneInSomeTurn, AreDoneInTurn, AreEmptyHands, ArePlayed, IsPlayed, MayPlay, gathered};
 
 use crate::performing::perform_in_turn;
+use crate::round_lists::RoundLists;
 use app_laws::App;
 use cell_store::Held;
 use graph_update::{Done, Job};
@@ -15,49 +16,71 @@ use std::alloc::Global;
 use std::collections::VecDeque;
 use std::thread::{self, Threads};
 
-/// A worker's number and the jobs that are dealt to it.
+/// What a worker has in hand in a round.
 #[derive(Drop)]
-struct Hand<V: Held> {
-    worker: u32,
-    jobs: VecDeque<Job<V>>,
+pub(crate) struct Hand<J, D> {
+    /// What is dealt to the worker and not yet performed, the first one dealt first.
+    jobs: VecDeque<J>,
+    /// What it has performed, in order.
+    dones: Vec<Option<D>>,
+    /// Whether it performed all that it was dealt.
+    is_done: bool,
 }
 
-/// Performs the jobs of a round by a thread for each worker, as they are dealt out. The list then
-/// has what was done; what was in it is dropped.
+/// Performs the jobs of a round by a thread for each worker, as they are dealt out. The lists then
+/// have what was done; what was in the hands is dropped.
 pub(crate) fn perform_together<R: Threads + Sync, A: App + Sync, G: Gate + Sync>(
     rt: &R,
-    alloc: Global,
     app: &A,
     gate: &G,
     workers: u32,
-    jobs: &mut VecDeque<Job<A::Val>>,
-    dones: &mut Vec<Option<Done<A::Val>>>,
+    lists: &mut RoundLists<A::Val>,
 ) -> Result<(), NoRoom>
     requires workers { 1 ≤ workers }
-    requires may_run { AllByRecursion (MayRun (A.meaning app.now)) jobs.old.items }
-    ensures { OnOk result (AreDoneInSomeTurn (A.meaning app.now) jobs.old.items dones.new.items) }
+    requires may_run { AllByRecursion (MayRun (A.meaning app.now)) lists.old.jobs.items }
+    ensures { OnOk result (AreDoneInSomeTurn (A.meaning app.now) lists.old.jobs.items lists.new.dones.items) }
 {
-    let mut hands = empty_hands(alloc, workers)?;
-    deal(jobs, &mut hands)?;
-    play_all(rt, app, gate, hands, dones)
+    empty_hands(*lists.jobs.allocator(), workers, &mut lists.hands)?;
+    deal(&mut lists.jobs, &mut lists.hands)?;
+    play_all(rt, app, gate, &mut lists.hands);
+    gather(&mut lists.hands, &mut lists.dones)
 }
 
-/// A hand without jobs for each worker.
-fn empty_hands<V: Held>(alloc: Global, workers: u32) -> Result<Vec<Hand<V>>, NoRoom>
-    ensures { IfOk result (λ hands. AreEmptyHands workers hands.items) }
+/// Makes the hands those of the workers, without jobs.
+fn empty_hands<V: Held>(
+    alloc: Global,
+    workers: u32,
+    hands: &mut Vec<Hand<Job<V>, Done<V>>>,
+) -> Result<(), NoRoom>
+    ensures { OnOk result (AreEmptyHands workers hands.new.items) }
 {
-    let mut hands = Vec::new(alloc);
-    for worker in 0..workers {
+    hands.truncate(workers as usize);
+    clear_jobs(hands);
+    while hands.len() < workers as usize {
         hands.push(Hand {
-            worker,
             jobs: VecDeque::new(alloc),
+            dones: Vec::new(alloc),
+            is_done: false,
         })?;
     }
-    Ok(hands)
+    Ok(())
+}
+
+/// Drops the jobs of all hands.
+fn clear_jobs<V: Held>(hands: &mut Vec<Hand<Job<V>, Done<V>>>)
+    ensures count { length hands.new.items ≡ length hands.old.items }
+    ensures empty { All (λ hand. hand.jobs.items ≡ []) hands.new.items }
+{
+    for place in 0..hands.len() {
+        hands[place].jobs.clear();
+    }
 }
 
 /// Deals the jobs out in turn among the hands, which have none.
-fn deal<V: Held>(jobs: &mut VecDeque<Job<V>>, hands: &mut Vec<Hand<V>>) -> Result<(), NoRoom>
+fn deal<V: Held>(
+    jobs: &mut VecDeque<Job<V>>,
+    hands: &mut Vec<Hand<Job<V>, Done<V>>>,
+) -> Result<(), NoRoom>
     requires some { 0 < length hands.old.items }
     requires empty { AreEmptyHands (length hands.old.items) hands.old.items }
     ensures { OnOk result (AreDealt (length hands.old.items) jobs.old.items hands.new.items) }
@@ -71,56 +94,54 @@ fn deal<V: Held>(jobs: &mut VecDeque<Job<V>>, hands: &mut Vec<Hand<V>>) -> Resul
     Ok(())
 }
 
-/// Performs the jobs of all hands at once. The list then has what was done, hand by hand; what was
-/// in it is dropped.
+/// Performs the jobs of all hands at once. Each hand then has what became of its own.
 fn play_all<R: Threads + Sync, A: App + Sync, G: Gate + Sync>(
     rt: &R,
     app: &A,
     gate: &G,
-    hands: Vec<Hand<A::Val>>,
-    dones: &mut Vec<Option<Done<A::Val>>>,
-) -> Result<(), NoRoom>
-    requires { All (MayPlay (A.meaning app.now)) hands.items }
-    ensures { OnOk result (AreDoneInTurn (A.meaning app.now) (dealt_jobs hands.items) dones.new.items) }
+    hands: &mut [Hand<Job<A::Val>, Done<A::Val>>],
+)
+    requires some { 0 < length hands.old }
+    requires few { length hands.old < 2 ^ 32 }
+    requires may_play { All (MayPlay (A.meaning app.now)) hands.old }
+    ensures { ArePlayed (A.meaning app.now) hands.old hands.new }
 {
-    let parts = thread::map_vec(
+    let workers = hands.len();
+    thread::for_each_mut(
         rt,
         hands,
-        &|hand: Hand<A::Val>| -> Result<Vec<Option<Done<A::Val>>>, NoRoom>
-            requires { MayPlay (A.meaning app.now) hand }
-            ensures { IfOk result (λ dones. AreDoneInTurn (A.meaning app.entry.now) hand.jobs.items dones.items) }
-        { play(app, gate, hand) },
-    )?;
-    join_parts(parts, dones)
+        workers,
+        &|worker: usize, hand: &mut Hand<Job<A::Val>, Done<A::Val>>|
+            requires { (worker < 2 ^ 32) × MayPlay (A.meaning app.now) hand.now }
+            ensures { IsPlayed (A.meaning app.entry.now) hand.entry.now hand.exit.now }
+        { play(app, gate, worker as u32, hand) },
+    );
 }
 
-/// The parts as one list, where each worker gave its own. What was in the list is dropped.
-fn join_parts<V: Held>(
-    parts: Vec<Result<Vec<Option<Done<V>>>, NoRoom>>,
+/// Moves what was done in all hands into one list, hand by hand. What was in the list is dropped.
+fn gather<V: Held>(
+    hands: &mut Vec<Hand<Job<V>, Done<V>>>,
     dones: &mut Vec<Option<Done<V>>>,
 ) -> Result<(), NoRoom>
-    ensures { OnOk result (joined_parts parts.items ≡ Some dones.new.items) }
+    ensures { OnOk result (gathered hands.old.items ≡ Some dones.new.items) }
 {
     dones.clear();
-    for part in parts {
-        let mut part = part?;
-        dones.append(&mut part)?;
+    for place in 0..hands.len() {
+        if !hands[place].is_done {
+            return Err(NoRoom);
+        }
+        dones.append(&mut hands[place].dones)?;
     }
     Ok(())
 }
 
-/// Performs the jobs of a hand, in order.
-fn play<A: App, G: Gate>(
-    app: &A,
-    gate: &G,
-    hand: Hand<A::Val>,
-) -> Result<Vec<Option<Done<A::Val>>>, NoRoom>
-    requires { MayPlay (A.meaning app.now) hand }
-    ensures { IfOk result (λ dones. AreDoneInTurn (A.meaning app.now) hand.jobs.items dones.items) }
+/// Performs the jobs of a worker's hand, in order. The hand then has what was done, and whether that
+/// is all; what was there before is dropped.
+fn play<A: App, G: Gate>(app: &A, gate: &G, worker: u32, hand: &mut Hand<Job<A::Val>, Done<A::Val>>)
+    requires { MayPlay (A.meaning app.now) hand.old }
+    ensures { IsPlayed (A.meaning app.now) hand.old hand.new }
 {
-    let Hand { worker, mut jobs } = hand;
-    let mut dones = Vec::with_capacity(*jobs.allocator(), jobs.len())?;
     let end = worker.saturating_add(1);
-    perform_in_turn(app, gate, worker..end, &mut jobs, &mut dones)?;
-    Ok(dones)
+    let performed = perform_in_turn(app, gate, worker..end, &mut hand.jobs, &mut hand.dones);
+    hand.is_done = performed.is_ok();
 }

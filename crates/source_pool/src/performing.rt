@@ -66,15 +66,7 @@ fn perform_each<R: Threads + Sync, A: App + Sync, G: Gate + Sync>(
     if workers == 1 || cells_in(&lists.jobs) < MANY_CELLS {
         perform_in_turn(app, gate, 0..workers, &mut lists.jobs, &mut lists.dones)
     } else {
-        perform_together(
-            rt,
-            *lists.jobs.allocator(),
-            app,
-            gate,
-            workers,
-            &mut lists.jobs,
-            &mut lists.dones,
-        )
+        perform_together(rt, app, gate, workers, lists)
     }
 }
 

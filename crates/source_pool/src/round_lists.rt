@@ -2,6 +2,7 @@
 
 ghost use Rattle.std.specs.Prelude.{◌≡◌, []};
 
+use crate::hands::Hand;
 use cell_store::Held;
 use graph_update::{Done, Job};
 use std::alloc::Global;
@@ -16,6 +17,8 @@ pub(crate) struct RoundLists<V: Held> {
     pub(crate) dones: Vec<Option<Done<V>>>,
     /// The places of all that is performed, in the order of the keys.
     pub(crate) turns: Vec<usize>,
+    /// What each worker has in hand, where the round is performed by threads.
+    pub(crate) hands: Vec<Hand<Job<V>, Done<V>>>,
 }
 
 impl<V: Held> RoundLists<V> {
@@ -27,6 +30,7 @@ impl<V: Held> RoundLists<V> {
             jobs: VecDeque::new(alloc),
             dones: Vec::new(alloc),
             turns: Vec::new(alloc),
+            hands: Vec::new(alloc),
         }
     }
 }

@@ -2,6 +2,7 @@ use Rattle.std.proofs.Common.{◌≡◌, ◌<◌, ◌%◌, ◌+◌, ◌∷◌, �
 use Rattle.std.specs.Prelude.{MatchOption, Option, slice_get}
 use Rattle.std.specs.VecDeque.{deque_len}
 use Rattle.std.proofs.lemmas.Option.{slice_get_read}
+use Rattle.graph_update.specs.declared.job.Done.{Done}
 use Rattle.graph_update.specs.declared.job.Job.{Job}
 use Rattle.source_pool.specs.declared.hands.Hand.{Hand}
 use Rattle.source_pool.proofs.Dealing.{AreDealtBefore, all_dealt, none_dealt, one_dealt}
@@ -21,9 +22,9 @@ loop-job-preserved g c =
     let number : ℕ = at.number in
     let job : Job g.row.V.Denot = c.in-Some.job in
     let rest : List (Job g.row.V.Denot) = c.pop_front.new.self.items in
-    let hands : List (Hand g.row.V.Denot) = at.hands.items in
-    let hand : Hand g.row.V.Denot = c.index_mut.result.now in
-    let next : Hand g.row.V.Denot = record { worker = hand.worker; jobs = c.push_back.new.self } in
+    let hands : List (Hand (Job g.row.V.Denot) (Done g.row.V.Denot)) = at.hands.items in
+    let hand : Hand (Job g.row.V.Denot) (Done g.row.V.Denot) = c.index_mut.result.now in
+    let next : Hand (Job g.row.V.Denot) (Done g.row.V.Denot) = record hand { jobs = c.push_back.new.self } in
     let steps : at.jobs.items ≡ job ∷ rest = c.in-Some.ensures.items in
     let so_far : AreDealtBefore workers c.args.jobs.now.items number (job ∷ rest) hands =
     subst (λ (left : List (Job g.row.V.Denot)). AreDealtBefore workers c.args.jobs.now.items number left hands) steps at.invariant.dealt in
@@ -37,7 +38,7 @@ loop-job-preserved g c =
     let short = ap length steps in
     record {
       dealt = one_dealt workers c.args.jobs.now.items number job rest hands hand next (slice_set hands (number % c.len.result) next)
-          so_far there refl c.in_ok-push_back.ensures.items (ap (λ k. slice_set hands k next) place);
+          so_far there c.in_ok-push_back.ensures.items (ap (λ k. slice_set hands k next) place);
       few = omega arith;
     }
 

@@ -1,12 +1,21 @@
-use Rattle.std.proofs.Common.{◌≡◌, [], ◌∷◌, ◌++◌, ◌+◌, sym, subst, refl}
+use Rattle.std.proofs.Common.{◌≡◌, [], ◌∷◌, ◌++◌, false, sym, subst, arith}
+use Rattle.std.specs.List.{All}
+use Rattle.std.proofs.lemmas.List.Elements.{All-push}
+use Rattle.graph_update.specs.declared.job.Done.{Done}
+use Rattle.graph_update.specs.declared.job.Job.{Job}
 use Rattle.source_pool.specs.declared.hands.Hand.{Hand}
-use Rattle.source_pool.specs.Performing.{AreEmptyHands}
-use Rattle.source_pool.proofs.Dealing.{one_hand_more}
 use Rattle.source_pool.proofs.hands.empty_hands.Goals as goal
 
-pub loop-worker-preserved : goal.loop-worker-preserved
-loop-worker-preserved g c =
-    let at = c.loop-worker in
-    let hand : Hand g.row.V.Denot = record { worker = at.worker; jobs = c.new.result } in
-    let added : at.hands.items ++ hand ∷ [] ≡ c.push.new.self.items = sym c.in_ok-push.ensures.items in
-    subst (AreEmptyHands (at.worker + 1)) added (one_hand_more at.worker at.hands.items hand at.invariant refl c.new.ensures.items)
+pub loop-alloc-preserved : goal.loop-alloc-preserved
+loop-alloc-preserved g c =
+    let at = c.loop-alloc in
+    let hand : Hand (Job g.row.V.Denot) (Done g.row.V.Denot) = record { jobs = c.new.result; dones = c.new-in-loop-alloc.result; is_done = false } in
+    let IsEmpty = λ (h : Hand (Job g.row.V.Denot) (Done g.row.V.Denot)). h.jobs.items ≡ [] in
+    let added : c.push.new.self.items ≡ at.hands.items ++ hand ∷ [] = c.in_ok-push.ensures.items in
+    let longer = c.in_ok-push.ensures.len in
+    let count = c.len.ensures in
+    let less = c.loop-alloc-test.true in
+    record {
+      few = omega (arith, longer, count, less);
+      empty = subst (All IsEmpty) (sym added) (All-push IsEmpty at.hands.items hand at.invariant.empty c.new.ensures.items);
+    }

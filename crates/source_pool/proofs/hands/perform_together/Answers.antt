@@ -1,18 +1,32 @@
-use Rattle.std.proofs.Common.{List}
+use Rattle.std.proofs.Common.{◌≡◌, ◌++◌, ◌∙◌, List, Some, ap, sym, subst, take, drop, length}
+use Rattle.std.specs.List.{All}
 use Rattle.std.proofs.lemmas.Result.{on_ok_weaker}
 use Rattle.app_laws.specs.Applications.{Application}
 use Rattle.graph_update.specs.Engine.{MayRun}
+use Rattle.graph_update.specs.declared.job.Done.{Done}
+use Rattle.graph_update.specs.declared.job.Job.{Job}
 use Rattle.source_pool.specs.declared.hands.Hand.{Hand}
-use Rattle.source_pool.specs.Performing.{AreDoneInTurn, dealt_jobs}
-use Rattle.source_pool.proofs.HandsPlayed.{in_each_hand}
+use Rattle.source_pool.specs.Performing.{ArePlayed, MayPlay, dealt_jobs, gathered}
+use Rattle.source_pool.proofs.HandsPlayed.{all_played, given_back, in_each_hand}
 use Rattle.source_pool.proofs.hands.perform_together.Goals as goal
 
-pub play_all-requires-after_bounds : goal.play_all-requires-after_bounds
-play_all-requires-after_bounds g c κs within =
-    in_each_hand (MayRun (g.A.App.meaning c.args.app.now)) c.args.jobs.now.items c.deal.new.hands.items c.in_ok-deal.ensures.all c.requires.may_run
+pub play_all-requires-clause-may_play : goal.play_all-requires-clause-may_play
+play_all-requires-clause-may_play g c κs within =
+    let app : Application g.row.A-Val.Denot = g.A.App.meaning c.args.app.now in
+    let hands : List (Hand (Job g.row.A-Val.Denot) (Done g.row.A-Val.Denot)) = c.deal.new.hands.items in
+    subst (λ (hs : List (Hand (Job g.row.A-Val.Denot) (Done g.row.A-Val.Denot))). All (MayPlay app) hs) (sym c.deref_mut.ensures.value)
+    (in_each_hand (MayRun app) c.args.lists.now.jobs.items hands c.in_ok-deal.ensures.all c.requires.may_run)
 
 pub returns : goal.returns
 returns g c =
     let app : Application g.row.A-Val.Denot = g.A.App.meaning c.args.app.now in
-    let hands : List (Hand g.row.A-Val.Denot) = c.deal.new.hands.items in
-    on_ok_weaker c.play_all.result (λ (done : AreDoneInTurn app (dealt_jobs hands) c.play_all.new.dones.items). record { turn = dealt_jobs hands; same = c.in_ok-deal.ensures.all; done = done }) c.play_all.ensures
+    let hands : List (Hand (Job g.row.A-Val.Denot) (Done g.row.A-Val.Denot)) = c.deal.new.hands.items in
+    let nows : List (Hand (Job g.row.A-Val.Denot) (Done g.row.A-Val.Denot)) = c.play_all.new.hands in
+    let each : ArePlayed app hands nows = subst (λ (hs : List (Hand (Job g.row.A-Val.Denot) (Done g.row.A-Val.Denot))). ArePlayed app hs nows) c.deref_mut.ensures.value c.play_all.ensures in
+    let same : take c.deal.new.hands.len (nows ++ drop (length nows) hands) ≡ nows = given_back app c.deal.new.hands.len hands nows each c.deal.new.hands.ok.0 in
+    on_ok_weaker c.gather.result (λ (all : gathered (take c.deal.new.hands.len (nows ++ drop (length nows) hands)) ≡ Some c.gather.new.dones.items).
+    record {
+      turn = dealt_jobs hands;
+      same = c.in_ok-deal.ensures.all;
+      done = all_played app hands nows c.gather.new.dones.items each (ap gathered (sym same) ∙ all);
+    }) c.gather.ensures
