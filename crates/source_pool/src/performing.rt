@@ -21,12 +21,12 @@ use std::ops::Range;
 use std::thread::Threads;
 use task_order::{ascending_laws, earlier_laws};
 
-/// From so many cells on, which the jobs of a round have in all, a thread for each worker is worth its
-/// start, which took 21, 39 and 57 microseconds for 2, 3 and 4 workers. A job of a circuit or a mesh
-/// has one to four cells and takes 100 to 200 nanoseconds. With threads from 1,024 cells on, inputs
-/// whose rounds have up to some 3,000 cells lost up to a quarter by four workers; those with 3,500 and
-/// 4,096 gained a tenth.
-const MANY_CELLS: usize = 3072;
+/// From so many cells on, which the jobs of a round have in all, a thread is started for each worker.
+/// A start took 21, 39 and 57 microseconds for 2, 3 and 4 workers, but each job and what was done also
+/// go to another processor and back. On circuits, meshes and matrices, whose jobs take 0.1 to 30
+/// microseconds, four workers took a tenth to a half longer than one in rounds of 3,500 to 8,192 cells,
+/// and no input that was measured has larger rounds.
+const MANY_CELLS: usize = 16_384;
 
 /// Performs the jobs of a round, and orders what was done by its keys: job number `i` is worker
 /// `i mod workers`'s, and each worker performs its jobs in order. The lists then have what was done

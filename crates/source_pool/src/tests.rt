@@ -52,11 +52,11 @@ fn ten_meetings(alloc: Global) -> Result<StartList, NoRoom>
 /// People in groups of four, who each know the next but one, and the last two of them the first
 /// two of the next group.
 fn many_contacts(alloc: Global) -> Result<Vec<u64>, NoRoom>
-    ensures { IfOk result (λ contacts. AreContacts 3600 contacts.items) }
+    ensures { IfOk result (λ contacts. AreContacts 16400 contacts.items) }
 {
     let mut contacts = Vec::new(alloc);
-    for person in 0..3600u64 {
-        contacts.push((person + 2) % 3600)?;
+    for person in 0..16400u64 {
+        contacts.push((person + 2) % 16400)?;
     }
     Ok(contacts)
 }
@@ -64,11 +64,11 @@ fn many_contacts(alloc: Global) -> Result<Vec<u64>, NoRoom>
 /// In each group the first two meet, and introduce the other two. Two further meetings follow in
 /// turn, since all three have a guest in common.
 fn many_meetings(alloc: Global) -> Result<StartList, NoRoom>
-    ensures fit { IfOk result (AreFitStarts (introductions 3600)) }
+    ensures fit { IfOk result (AreFitStarts (introductions 16400)) }
     ensures few { IfOk result (λ first. length first < 2 ^ 32) }
 {
     let mut first = StartList::new(alloc);
-    for group in 0..900u32 {
+    for group in 0..4100u32 {
         first.push(meeting(1, 1, 4 * group, 4 * u64::from(group) + 1))?;
     }
     Ok(first)
@@ -194,24 +194,24 @@ fn rounds_leave_what_meetings_in_turn_do(rt: HostRuntime) -> Result<(), Fail> {
 #[test]
 fn many_meet_at_once(rt: HostRuntime) -> Result<(), Fail> {
     let alloc = rt.alloc();
-    let app = Introductions::new(alloc, 3600);
+    let app = Introductions::new(alloc, 16400);
     let in_turn = serial(
         alloc,
         &app,
         many_contacts(alloc)?,
         many_meetings(alloc)?,
-        2700,
+        12300,
     )?;
     let engine = begin(
         alloc,
         &app,
         many_contacts(alloc)?,
         many_meetings(alloc)?,
-        2700,
+        12300,
     )?;
     let (finals, rounds) = run_rounds(&rt, alloc, engine, &Seeded, 1, 4)?;
     assert_eq!(rt; outcome_of(alloc, &finals)?, outcome_of(alloc, &in_turn)?);
-    assert_eq!(rt; (finals.count, rounds), (2700, 3));
+    assert_eq!(rt; (finals.count, rounds), (12300, 3));
     Ok(())
 }
 

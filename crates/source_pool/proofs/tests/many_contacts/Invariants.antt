@@ -5,5 +5,5 @@ use Rattle.source_pool.proofs.tests.many_contacts.Given as goal
 abbrev pub invariant-loop-person : goal.invariant-loop-person
 invariant-loop-person l = record {
   one_each : length l.contacts.items ≡ l.person;
-  known : All (λ contact. contact < 3600) l.contacts.items;
+  known : All (λ contact. contact < 16400) l.contacts.items;
 }

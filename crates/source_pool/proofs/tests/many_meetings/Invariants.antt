@@ -5,6 +5,6 @@ use Rattle.source_pool.proofs.tests.many_meetings.Given as goal
 
 abbrev pub invariant-loop-group : goal.invariant-loop-group
 invariant-loop-group l = record {
-  fit : AreFitStarts (introductions 3600) l.first;
+  fit : AreFitStarts (introductions 16400) l.first;
   few : length l.first ≡ l.group;
 }
