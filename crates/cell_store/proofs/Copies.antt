@@ -1,58 +1,30 @@
--- What is copied so far of the cells that a set reads.
-use Rattle.std.proofs.Common.{◌≡◌, ℕ, ◌+◌, ◌<◌, ◌≤◌, true, false, List, [], ◌∷◌, ◌++◌, length, get_or, set, map, take, replicate, refl, sym, ap, ◌∙◌, arith}
-use Rattle.std.proofs.lemmas.List.{length-replicate, get_or-replicate, take_more, take_more_set, take_all, map-append, get_or-set_other, length-set}
+-- What is copied of the cells that a set reads.
+use Rattle.std.proofs.Common.{◌≡◌, ℕ, ◌+◌, ◌<◌, ◌≤◌, true, false, List, [], ◌∷◌, ◌++◌, length, get_or, map, take, refl, sym, ap, ◌∙◌, arith}
+use Rattle.std.proofs.lemmas.List.{take_more, take_all, map-append, get_or_default}
 use Rattle.rw_sets.specs.declared.access.Access.{Access}
 use Rattle.rw_sets.specs.declared.access.Access.TheVariants.{Read, Write}
 use Rattle.rw_sets.specs.Accesses.{Accesses, is_write}
 use Rattle.cell_store.specs.declared.cell.Cell.{Cell}
-use Rattle.cell_store.specs.declared.cell.Cell.TheVariants.{Out}
 use Rattle.cell_store.specs.Cells.{cell_at, read_copy}
 
-module _ {V : Type 0} where
-  -- the cells that the first i pairs of a set read are copied, and all others are out
-  pub record IsCopied (cells : List (Cell V)) (ps : Accesses) (copies : List (Cell V)) (i : ℕ) : Type 0 where
-    pub as_many : length copies ≡ length ps
-    pub copied : take i copies ≡ map (read_copy cells) (take i ps)
-    pub left : (j : ℕ) → i ≤ j → j < length ps → get_or copies j Out ≡ Out
+-- up to four items, one by one
+pub few_mapped : {X Y : Type 0} (f : X → Y) (d : X) (xs : List X) → length xs ≤ 4 → take (length xs) (f (get_or xs 0 d) ∷ f (get_or xs 1 d) ∷ f (get_or xs 2 d) ∷ f (get_or xs 3 d) ∷ []) ≡ map f xs
+few_mapped f d [] few = refl
+few_mapped f d (a ∷ []) few = refl
+few_mapped f d (a ∷ b ∷ []) few = refl
+few_mapped f d (a ∷ b ∷ c ∷ []) few = refl
+few_mapped f d (a ∷ b ∷ c ∷ e ∷ []) few = refl
+few_mapped f d (a ∷ b ∷ c ∷ e ∷ g ∷ xs) few = absurd (omega arith)
 
-  pub copied_none : (cells : List (Cell V)) (ps : Accesses) (copies : List (Cell V)) → copies ≡ replicate (length ps) Out → IsCopied cells ps copies 0
-  copied_none cells ps copies e = rw e (record {
-    as_many = length-replicate (length ps) Out;
-    copied = refl;
-    left = λ j le lt. get_or-replicate (length ps) j Out Out lt;
-  })
+module _ {V : Type 0} (cells : List (Cell V)) (ps : Accesses) (i : ℕ) where
+  pub copies_more : i < length ps → map (read_copy cells) (take (i + 1) ps) ≡ map (read_copy cells) (take i ps) ++ read_copy cells (get_or ps i (0, Write)) ∷ []
+  copies_more lt = ap (map (read_copy cells)) (take_more ps i (0, Write) lt) ∙ map-append (read_copy cells) (take i ps) (get_or ps i (0, Write) ∷ [])
 
-  pub copied_all : (cells : List (Cell V)) (ps : Accesses) (copies : List (Cell V)) (i : ℕ) → i ≡ length ps → IsCopied cells ps copies i → copies ≡ map (read_copy cells) ps
-  copied_all cells ps copies i e h = sym (take_all i copies (omega (arith, h.as_many))) ∙ h.copied ∙ ap (map (read_copy cells)) (take_all i ps (omega arith))
+  -- a place that is only read
+  pub copy_of_read : i < length ps → is_write (get_or ps i (0, Read)).1 ≡ false → read_copy cells (get_or ps i (0, Write)) ≡ cell_at cells (get_or ps i (0, Read)).0
+  copy_of_read lt read = ap (read_copy cells) (get_or_default ps i (0, Write) (0, Read) lt) ∙ of_read (get_or ps i (0, Read)) read
+    where
+      of_read : (p : ℕ × Access) → is_write p.1 ≡ false → read_copy cells p ≡ cell_at cells p.0
+      of_read (n, Read) e = refl
+      of_read (n, Write) e = absurd cc
 
-  read_copy_read : (cells : List (Cell V)) (p : ℕ × Access) → is_write p.1 ≡ false → read_copy cells p ≡ cell_at cells p.0
-  read_copy_read cells (n, Read) e = refl
-  read_copy_read cells (n, Write) e = absurd cc
-
-  read_copy_write : (cells : List (Cell V)) (p : ℕ × Access) → is_write p.1 ≡ true → read_copy cells p ≡ Out
-  read_copy_write cells (n, Read) e = absurd cc
-  read_copy_write cells (n, Write) e = refl
-
-  module _ (cells : List (Cell V)) (ps : Accesses) (copies : List (Cell V)) (i : ℕ) (h : IsCopied cells ps copies i) (lt : i < length ps) where
-    one_more : map (read_copy cells) (take (i + 1) ps) ≡ map (read_copy cells) (take i ps) ++ read_copy cells (get_or ps i (0, Read)) ∷ []
-    one_more = ap (map (read_copy cells)) (take_more ps i (0, Read) lt) ∙ map-append (read_copy cells) (take i ps) (get_or ps i (0, Read) ∷ [])
-
-    -- the pair is written, and its place stays empty
-    pub copied_write : is_write (get_or ps i (0, Read)).1 ≡ true → IsCopied cells ps copies (i + 1)
-    copied_write written = record {
-      as_many = h.as_many;
-      copied =
-          let here : get_or copies i Out ≡ read_copy cells (get_or ps i (0, Read)) = h.left i (omega arith) lt ∙ sym (read_copy_write cells (get_or ps i (0, Read)) written) in
-          take_more copies i Out (omega (arith, h.as_many)) ∙ ap (λ cell. take i copies ++ cell ∷ []) here ∙ ap (λ front. front ++ read_copy cells (get_or ps i (0, Read)) ∷ []) h.copied ∙ sym one_more;
-      left = λ j le lt. h.left j (omega arith) lt;
-    }
-
-    -- the pair is read, and its place has the cell
-    pub copied_read : (cell : Cell V) → is_write (get_or ps i (0, Read)).1 ≡ false → cell ≡ cell_at cells (get_or ps i (0, Read)).0 → IsCopied cells ps (set copies i cell) (i + 1)
-    copied_read cell read e = record {
-      as_many = length-set copies i cell ∙ h.as_many;
-      copied =
-          let here : cell ≡ read_copy cells (get_or ps i (0, Read)) = e ∙ sym (read_copy_read cells (get_or ps i (0, Read)) read) in
-          take_more_set copies i cell (omega (arith, h.as_many)) ∙ ap (λ c. take i copies ++ c ∷ []) here ∙ ap (λ front. front ++ read_copy cells (get_or ps i (0, Read)) ∷ []) h.copied ∙ sym one_more;
-      left = λ j le lt. get_or-set_other copies i j cell Out (λ e. omega arith) ∙ h.left j (omega arith) lt;
-    }

@@ -1,6 +1,6 @@
 -- What is left to exchange at each place of a set.
-use Rattle.std.proofs.Common.{◌≡◌, ℕ, zero, suc, ◌+◌, ◌<◌, true, false, cond, List, [], ◌∷◌, ◌++◌, length, get_or, set, take, drop, refl, sym, ap, ◌∙◌, subst, inl, inr, arith, append_assoc, append-nil}
-use Rattle.std.proofs.lemmas.Bool.{cases_eq}
+use Rattle.std.proofs.Common.{◌≡◌, ℕ, zero, suc, ◌+◌, ◌<◌, ◌≤◌, Bool, true, false, IsTrue, cond, List, [], ◌∷◌, ◌++◌, length, get_or, set, take, drop, refl, sym, ap, ◌∙◌, subst, inl, inr, arith, append_assoc, append-nil}
+use Rattle.std.proofs.lemmas.Bool.{cases_eq, false≢true}
 use Rattle.std.proofs.lemmas.List.{drop_more, take_more_set, drop-set-lt, take_more, get_or-set_same, get_or-set_other, length-set, take_all, drop_all}
 use Rattle.rw_sets.specs.declared.access.Access.{Access}
 use Rattle.rw_sets.specs.declared.access.Access.TheVariants.{Read, Write}
@@ -9,7 +9,8 @@ use Rattle.cell_store.specs.declared.cell.Cell.{Cell}
 use Rattle.cell_store.specs.declared.cell.Cell.TheVariants.{Out}
 use Rattle.cell_store.specs.Part.{Part}
 use Rattle.cell_store.specs.Cells.{cell_at, held_at, cell_in, cells_given, with_written}
-use Rattle.cell_store.proofs.Locations.{ascending_first, ascending_rest, writes_first, writes_other, unwritten_beyond, held_first, held_other}
+use Rattle.cell_store.specs.Places.{given_at, taken_at}
+use Rattle.cell_store.proofs.Locations.{ascending_first, ascending_rest, writes_first, writes_other, writes_in_place, unwritten_beyond, held_first, held_other}
 use Rattle.cell_store.proofs.Parts.{length-each_from, cell_given, same_cells}
 
 pub ascending_drop : (i : ℕ) (ps : Accesses) → IsAscending ps → IsAscending (drop i ps)
@@ -124,3 +125,90 @@ module _ {V : Type 0} where
         home_left = rw (drop-set-lt (i + 1) held i (cell_at home n) (omega arith)) (sym (given_write home n (drop (i + 1) ps) cell (drop (i + 1) held) (ascending_first _ _ up-left) within) ∙ left);
         held_left = rw (drop-set-lt (i + 1) held i (cell_at home n) (omega arith), take_more_set held i (cell_at home n) in-held, append_assoc, with_written_beyond home n cell (drop (i + 1) ps) (drop (i + 1) held) (ascending_first _ _ up-left)) done;
       }
+
+-- a place beyond a set isn't written
+written_place : (ps : Accesses) (i : ℕ) → IsTrue (is_write (get_or ps i (0, Read)).1) → i < length ps
+written_place [] i written = absurd (false≢true written)
+written_place (p ∷ ps) zero written = omega arith
+written_place (p ∷ ps) (suc i) written = omega (arith, written_place ps i written)
+
+set_back : {X : Type 0} (xs : List X) (i : ℕ) (d : X) → set xs i (get_or xs i d) ≡ xs
+set_back [] i d = refl
+set_back (x ∷ xs) zero d = refl
+set_back (x ∷ xs) (suc i) d = ap (λ rest. x ∷ rest) (set_back xs i d)
+
+module _ {V : Type 0} (home0 : List (Cell V)) where
+  abbrev AreWithin : Accesses → Type 0
+  AreWithin ps = (loc : ℕ) → IsTrue (writes ps loc) → loc < length home0
+
+  -- where a place is written, its location is one of the cells
+  pub place_within : (home : List (Cell V)) (ps : Accesses) (i : ℕ) → IsAscending ps → AreWithin ps → length home ≡ length home0 → IsTrue (is_write (get_or ps i (0, Read)).1) → (get_or ps i (0, Read)).0 < length home
+  place_within home ps i up within same written =
+      let here = within _ (writes_in_place ps i (0, Read) up (written_place ps i written) written) in
+      omega (arith, same, here)
+
+  pub length_given_at : (home : List (Cell V)) (p : ℕ × Access) (h : Cell V) → length home ≡ length home0 → length (given_at home p h) ≡ length home0
+  length_given_at home (n, Read) h e = e
+  length_given_at home (n, Write) h e = length-set home n h ∙ e
+
+  exchange_step : (ps : Accesses) (held0 home held : List (Cell V)) (i : ℕ) → IsAscending ps → AreWithin ps → i < length ps → Exchanging home0 ps held0 i home held → Exchanging home0 ps held0 (i + 1) (given_at home (get_or ps i (0, Read)) (get_or held i Out)) (set held i (taken_at home (get_or ps i (0, Read)) (get_or held i Out)))
+  exchange_step ps held0 home held i up within lt h = by_access (is_write (get_or ps i (0, Read)).1) refl
+    where
+      by_access : (b : Bool) → is_write (get_or ps i (0, Read)).1 ≡ b → Exchanging home0 ps held0 (i + 1) (given_at home (get_or ps i (0, Read)) (get_or held i Out)) (set held i (taken_at home (get_or ps i (0, Read)) (get_or held i Out)))
+      by_access false e = rw (e, set_back held i Out) (exchange_read home0 ps held0 home held i up lt e h)
+      by_access true e = rw e (exchange_write home0 ps held0 home held i up lt e (place_within home ps i up within h.same_length e) h)
+
+  -- up to four places, one after the other
+  module _ (h0 h1 h2 h3 : Cell V) where
+    abbrev pub first_given : Accesses → List (Cell V)
+    first_given ps = given_at home0 (get_or ps 0 (0, Read)) h0
+
+    abbrev pub second_given : Accesses → List (Cell V)
+    second_given ps = given_at (first_given ps) (get_or ps 1 (0, Read)) h1
+
+    abbrev pub third_given : Accesses → List (Cell V)
+    third_given ps = given_at (second_given ps) (get_or ps 2 (0, Read)) h2
+
+    abbrev pub fourth_given : Accesses → List (Cell V)
+    fourth_given ps = given_at (third_given ps) (get_or ps 3 (0, Read)) h3
+
+    abbrev pub few_taken : Accesses → List (Cell V)
+    few_taken ps =
+        taken_at home0 (get_or ps 0 (0, Read)) h0
+        ∷ taken_at (first_given ps) (get_or ps 1 (0, Read)) h1
+        ∷ taken_at (second_given ps) (get_or ps 2 (0, Read)) h2
+        ∷ taken_at (third_given ps) (get_or ps 3 (0, Read)) h3
+        ∷ []
+
+    abbrev few_held : Accesses → List (Cell V)
+    few_held ps = take (length ps) (h0 ∷ h1 ∷ h2 ∷ h3 ∷ [])
+
+    pub exchange_few : (ps : Accesses) → length ps ≤ 4 → IsAscending ps → AreWithin ps → record { home : fourth_given ps ≡ cells_given home0 (part ps (few_held ps)); held : take (length ps) (few_taken ps) ≡ with_written (cell_at home0) ps (few_held ps) }
+    exchange_few [] few up within = exchange_end home0 [] [] home0 [] 0 refl (exchange_start home0 [] [] refl)
+    exchange_few (p ∷ []) few up within =
+        let ps = p ∷ [] in
+        let s0 = exchange_start home0 ps (few_held ps) refl in
+        let s1 = exchange_step ps (few_held ps) _ _ 0 up within (omega arith) s0 in
+        exchange_end home0 ps (few_held ps) _ _ 1 refl s1
+    exchange_few (p ∷ q ∷ []) few up within =
+        let ps = p ∷ q ∷ [] in
+        let s0 = exchange_start home0 ps (few_held ps) refl in
+        let s1 = exchange_step ps (few_held ps) _ _ 0 up within (omega arith) s0 in
+        let s2 = exchange_step ps (few_held ps) _ _ 1 up within (omega arith) s1 in
+        exchange_end home0 ps (few_held ps) _ _ 2 refl s2
+    exchange_few (p ∷ q ∷ r ∷ []) few up within =
+        let ps = p ∷ q ∷ r ∷ [] in
+        let s0 = exchange_start home0 ps (few_held ps) refl in
+        let s1 = exchange_step ps (few_held ps) _ _ 0 up within (omega arith) s0 in
+        let s2 = exchange_step ps (few_held ps) _ _ 1 up within (omega arith) s1 in
+        let s3 = exchange_step ps (few_held ps) _ _ 2 up within (omega arith) s2 in
+        exchange_end home0 ps (few_held ps) _ _ 3 refl s3
+    exchange_few (p ∷ q ∷ r ∷ s ∷ []) few up within =
+        let ps = p ∷ q ∷ r ∷ s ∷ [] in
+        let s0 = exchange_start home0 ps (few_held ps) refl in
+        let s1 = exchange_step ps (few_held ps) _ _ 0 up within (omega arith) s0 in
+        let s2 = exchange_step ps (few_held ps) _ _ 1 up within (omega arith) s1 in
+        let s3 = exchange_step ps (few_held ps) _ _ 2 up within (omega arith) s2 in
+        let s4 = exchange_step ps (few_held ps) _ _ 3 up within (omega arith) s3 in
+        exchange_end home0 ps (few_held ps) _ _ 4 refl s4
+    exchange_few (p ∷ q ∷ r ∷ s ∷ t ∷ ps) few up within = absurd (omega arith)

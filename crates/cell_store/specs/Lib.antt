@@ -1,6 +1,7 @@
 pub mod Home
 pub mod Part
 pub mod Cells
+pub mod Places
 pub mod Values
 pub mod Storage
 pub mod StorageLends

@@ -1,13 +1,10 @@
-ghost use Rattle.std.specs.Prelude.{◌≡◌, ◌<◌, length, replicate, slice_index_or, IfOk};
+ghost use Rattle.std.specs.Prelude.{◌≡◌, ◌<◌, length, slice_index_or};
 ghost use Rattle.std.specs.Borrow.{sem};
-ghost use Rattle.cell_store.specs.declared.cell.Cell.TheVariants.{Out};
 ghost use Rattle.cell_store.specs.Storage.{cells_of};
 ghost use Rattle.cell_store.specs.StorageLends.{LendsCell};
 
 use crate::cell::Cell;
-use crate::few_cells::{FEW, FewCells};
-use kdg_text::NoRoom;
-use std::alloc::Global;
+use crate::few_cells::FewCells;
 
 /// Cells in the order of a set: in place while they are few, so that a small bundle takes no memory.
 #[derive(Drop)]
@@ -48,19 +45,4 @@ impl<V> CellList<V> {
             CellList::InMemory(cells) => &mut cells[i],
         }
     }
-}
-
-/// So many cells, all out.
-#[inline(always)]
-pub(crate) fn cells_out<V: Drop>(alloc: Global, len: usize) -> Result<CellList<V>, NoRoom>
-    ensures { IfOk result (λ cells. cells_of cells ≡ replicate len Out) }
-{
-    if len <= FEW {
-        return Ok(CellList::InPlace(FewCells::outs(len)));
-    }
-    let mut cells = Vec::with_capacity(alloc, len)?;
-    for _ in 0..len {
-        cells.push(Cell::Out)?;
-    }
-    Ok(CellList::InMemory(cells))
 }

@@ -17,9 +17,24 @@ pub(crate) fn exchange<V>(home: &mut [Cell<V>], set: &[(u32, Access)], held: &mu
     ensures home { home.new ≡ cells_given home.old (record { set = set.now; cells = cells_of held.old }) }
     ensures held { cells_of held.new ≡ with_written (cell_at home.old) set.now (cells_of held.old) }
 {
+    match held {
+        CellList::InPlace(few) => few.exchange(home, set),
+        CellList::InMemory(cells) => exchange_many(home, set, cells),
+    }
+}
+
+/// The same, of cells that stand in memory.
+#[inline(never)]
+fn exchange_many<V>(home: &mut [Cell<V>], set: &[(u32, Access)], held: &mut [Cell<V>])
+    requires ascending { IsAscending set.now }
+    requires one_each { length held.old ≡ length set.now }
+    requires in_range { (loc : ℕ) → IsTrue (writes set.now loc) → loc < length home.old }
+    ensures home { home.new ≡ cells_given home.old (record { set = set.now; cells = held.old }) }
+    ensures held { held.new ≡ with_written (cell_at home.old) set.now held.old }
+{
     for (i, (loc, access)) in set.iter().enumerate() {
         if access.is_write() {
-            mem::swap(&mut home[*loc as usize], held.at_mut(i));
+            mem::swap(&mut home[*loc as usize], &mut held[i]);
         }
     }
 }

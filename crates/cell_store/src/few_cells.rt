@@ -1,6 +1,10 @@
 ghost use Rattle.std.specs.Prelude.{◌≤◌};
 
 use crate::cell::Cell;
+use crate::held::Held;
+use crate::place::{copy_at, exchange_at};
+use kdg_text::NoRoom;
+use rw_sets::Access;
 
 /// How many cells stand in place at most.
 pub(crate) const FEW: usize = 4;
@@ -17,26 +21,12 @@ pub(crate) struct FewCells<V> {
 }
 
 impl<V> FewCells<V> {
-    ghost use Rattle.std.specs.Prelude.{◌≡◌, ◌<◌, length, replicate, slice_index_or};
+    ghost use Rattle.std.specs.Prelude.{◌≡◌, ℕ, ◌<◌, length, slice_index_or, IsTrue};
     ghost use Rattle.std.specs.Borrow.{sem};
-    ghost use Rattle.cell_store.specs.declared.cell.Cell.TheVariants.{Out};
+    ghost use Rattle.rw_sets.specs.Accesses.{IsAscending, writes};
+    ghost use Rattle.cell_store.specs.Cells.{cell_at, cells_given, with_written};
     ghost use Rattle.cell_store.specs.Storage.{cells_in};
     ghost use Rattle.cell_store.specs.StorageLends.{LendsFewCell};
-
-    /// So many cells, all out.
-    #[inline(always)]
-    pub(crate) fn outs(len: usize) -> FewCells<V>
-        requires { len ≤ 4 }
-        ensures { cells_in result ≡ replicate len Out }
-    {
-        FewCells {
-            first: Cell::Out,
-            second: Cell::Out,
-            third: Cell::Out,
-            fourth: Cell::Out,
-            len,
-        }
-    }
 
     pub(crate) fn len(&self) -> usize
         ensures { result ≡ length (cells_in self.now) }
@@ -69,5 +59,45 @@ impl<V> FewCells<V> {
             2 => &mut self.third,
             _ => &mut self.fourth,
         }
+    }
+    /// Exchanges the cells that a set writes with those that are held in the order of the set. One
+    /// after the other and by name, so that none of them needs to stand in memory.
+    #[inline(always)]
+    pub(crate) fn exchange(&mut self, home: &mut [Cell<V>], set: &[(u32, Access)])
+        requires ascending { IsAscending set.now }
+        requires one_each { self.old.len ≡ length set.now }
+        requires in_range { (loc : ℕ) → IsTrue (writes set.now loc) → loc < length home.old }
+        ensures home { home.new ≡ cells_given home.old (record { set = set.now; cells = cells_in self.old }) }
+        ensures held { cells_in self.new ≡ with_written (cell_at home.old) set.now (cells_in self.old) }
+    {
+        exchange_at(home, set, 0, &mut self.first);
+        exchange_at(home, set, 1, &mut self.second);
+        exchange_at(home, set, 2, &mut self.third);
+        exchange_at(home, set, 3, &mut self.fourth);
+    }
+}
+
+impl<V: Held> FewCells<V> {
+    ghost use Rattle.std.specs.Prelude.{◌≡◌, length, map, IfOk};
+    ghost use Rattle.cell_store.specs.Cells.{AreHome, read_copy};
+    ghost use Rattle.cell_store.specs.Storage.{cells_in};
+
+    /// A copy of each cell of a set that it only reads, and an empty cell for each that it writes.
+    #[inline(always)]
+    pub(crate) fn read_copies(
+        cells: &[Cell<V>],
+        set: &[(u32, Access)],
+    ) -> Result<FewCells<V>, NoRoom>
+        requires home { AreHome cells.now set.now }
+        requires few { length set.now ≤ 4 }
+        ensures { IfOk result (λ copies. cells_in copies ≡ map (read_copy cells.now) set.now) }
+    {
+        Ok(FewCells {
+            first: copy_at(cells, set, 0)?,
+            second: copy_at(cells, set, 1)?,
+            third: copy_at(cells, set, 2)?,
+            fourth: copy_at(cells, set, 3)?,
+            len: set.len(),
+        })
     }
 }

@@ -8,6 +8,7 @@ mod exchange;
 mod few_cells;
 mod held;
 mod laws;
+mod place;
 mod store;
 #[cfg(test)]
 mod tests;

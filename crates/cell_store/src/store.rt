@@ -7,9 +7,11 @@ ghost use Rattle.cell_store.specs.Cells.{cell_at, AreHome, AreWrittenHome, AreWr
 
 use crate::bundle::{Bundle, Shell};
 use crate::cell::{Cell, Seen};
-use crate::cell_list::{CellList, cells_out};
+use crate::cell_list::CellList;
 use crate::exchange::exchange;
+use crate::few_cells::{FEW, FewCells};
 use crate::held::Held;
+use crate::place::copy_at;
 use kdg_text::NoRoom;
 use rw_sets::{Access, RwSet};
 use std::alloc::Global;
@@ -136,12 +138,21 @@ fn read_copies<V: Held>(cells: &Vec<Cell<V>>, set: &[(u32, Access)]) -> Result<C
     requires { AreHome cells.now.items set.now }
     ensures { IfOk result (λ copies. cells_of copies ≡ map (read_copy cells.now.items) set.now) }
 {
-    let mut copies = cells_out(*cells.allocator(), set.len())?;
-    for (i, (loc, access)) in set.iter().enumerate() {
-        if !access.is_write() {
-            let copy = cells[*loc as usize].copy()?;
-            *copies.at_mut(i) = copy;
-        }
+    if set.len() <= FEW {
+        return Ok(CellList::InPlace(FewCells::read_copies(cells, set)?));
+    }
+    Ok(CellList::InMemory(many_copies(cells, set)?))
+}
+
+/// The same, in memory.
+#[inline(never)]
+fn many_copies<V: Held>(cells: &Vec<Cell<V>>, set: &[(u32, Access)]) -> Result<Vec<Cell<V>>, NoRoom>
+    requires { AreHome cells.now.items set.now }
+    ensures { IfOk result (λ copies. copies.items ≡ map (read_copy cells.now.items) set.now) }
+{
+    let mut copies = Vec::with_capacity(*cells.allocator(), set.len())?;
+    for i in 0..set.len() {
+        copies.push(copy_at(cells, set, i)?)?;
     }
     Ok(copies)
 }
