@@ -27,4 +27,3 @@ module _ {V : Type 0} (cells : List (Cell V)) (ps : Accesses) (i : ℕ) where
       of_read : (p : ℕ × Access) → is_write p.1 ≡ false → read_copy cells p ≡ cell_at cells p.0
       of_read (n, Read) e = refl
       of_read (n, Write) e = absurd cc
-

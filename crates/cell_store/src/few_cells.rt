@@ -60,6 +60,7 @@ impl<V> FewCells<V> {
             _ => &mut self.fourth,
         }
     }
+
     /// Exchanges the cells that a set writes with those that are held in the order of the set. One
     /// after the other and by name, so that none of them needs to stand in memory.
     #[inline(always)]
