@@ -1,4 +1,4 @@
-use Rattle.std.proofs.Common.{◌<◌, ◌≡◌, length, get_or, sym, arith, false}
+use Rattle.std.proofs.Common.{◌≡◌, get_or, sym, arith, false}
 use Rattle.std.proofs.lemmas.List.{get_or_default}
 use Rattle.rw_sets.specs.declared.access.Access.TheVariants.{Read}
 use Rattle.rw_sets.specs.Accesses.{is_write}
