@@ -1,0 +1,109 @@
+//! A list whose items are found by their places at once, and of which few move where one comes or
+//! goes.
+#![tactic(auto)]
+
+ghost use Rattle.std.specs.Prelude.{◌≡◌, ◌+◌, ◌<◌, ◌≤◌, ◌^◌, [], ◌∷◌, ◌++◌, Some, length, slice_get, OnOk};
+ghost use Rattle.std.specs.List.{insert, remove};
+ghost use Rattle.std.specs.Map.Iter.{deref};
+ghost use Rattle.std.specs.Option.{option_map};
+
+mod form;
+mod middle;
+mod ring;
+#[cfg(test)]
+mod tests;
+mod tier;
+mod tiers;
+
+use form::Form;
+use kdg_text::NoRoom;
+use std::alloc::Global;
+use std::collections::VecDeque;
+use std::marker::Model;
+
+/// Items in order.
+#[derive(Drop)]
+pub struct TieredList<T> {
+    form: Form<T>,
+}
+
+impl<T> Model for TieredList<T> {
+    ghost use Rattle.tiered_list.specs.Tiered.{Tiered, tiered_code};
+
+    ghost Value = { Tiered T };
+
+    ghost coded = { tiered_code T.code };
+
+    ghost use Rattle.tiered_list.specs.Form.{tiered_of};
+
+    ghost view = { λ l. tiered_of l.form };
+}
+
+impl<T> TieredList<T> {
+    /// No items, which take no memory.
+    pub fn new(alloc: Global) -> TieredList<T>
+        ensures { result.items ≡ [] }
+    {
+        TieredList {
+            form: Form::Ring(VecDeque::new(alloc)),
+        }
+    }
+
+    /// How many items there are.
+    pub fn len(&self) -> usize
+        ensures len { result ≡ length self.now.items }
+        ensures small { result < 2 ^ 63 }
+    {
+        self.form.len()
+    }
+
+    /// The item at a place, counted from 0.
+    pub fn get(&self, place: usize) -> Option<&T>
+        ensures item { option_map deref result ≡ slice_get self.now.items place }
+        ensures small { length self.now.items < 2 ^ 63 }
+    {
+        // Its contract tells that there are fewer than 2^63.
+        let _len: usize = self.form.len();
+        self.form.get(place)
+    }
+
+    /// Makes room for so many more items. After `NoRoom` the items are as they were.
+    pub fn reserve(&mut self, additional: usize) -> Result<(), NoRoom>
+    where
+        T: Drop,
+        ensures room { OnOk result (length self.old.items + additional ≤ self.new.capacity) }
+        ensures no_less { self.old.capacity ≤ self.new.capacity }
+        ensures items { self.new.items ≡ self.old.items }
+    {
+        self.form.reserve(additional)
+    }
+
+    /// Puts an item at a place, where `reserve` made room. It takes no memory.
+    pub fn insert(&mut self, place: usize, item: T)
+        requires inside { place ≤ length self.old.items }
+        requires room { length self.old.items < self.old.capacity }
+        ensures items { self.new.items ≡ insert self.old.items place item }
+        ensures capacity { self.old.capacity ≤ self.new.capacity }
+    {
+        self.form.insert(place, item);
+    }
+
+    /// Puts an item behind the others, where `reserve` made room. It takes no memory.
+    pub fn push_reserved(&mut self, item: T)
+        requires { length self.old.items < self.old.capacity }
+        ensures items { self.new.items ≡ self.old.items ++ item ∷ [] }
+        ensures capacity { self.old.capacity ≤ self.new.capacity }
+    {
+        self.form.push_reserved(item);
+    }
+
+    /// Takes the item at a place out. It takes no memory.
+    pub fn remove(&mut self, place: usize) -> T
+        requires { place < length self.old.items }
+        ensures item { slice_get self.old.items place ≡ Some result }
+        ensures items { self.new.items ≡ remove self.old.items place }
+        ensures capacity { self.new.capacity ≡ self.old.capacity }
+    {
+        self.form.remove(place)
+    }
+}
