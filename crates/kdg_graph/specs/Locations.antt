@@ -1,8 +1,7 @@
 -- The nodes of each location, and which of them stand in the way of which.
-use Rattle.std.specs.Prelude.{◌≡◌, ℕ, zero, suc, ◌-◌, ◌≤◌, Bool, false, min, if◌then◌else◌, List, [], ◌∷◌, map, Some, Contains}
+use Rattle.std.specs.Prelude.{◌≡◌, ℕ, zero, suc, ◌-◌, ◌≤◌, Bool, false, min, if◌then◌else◌, List, [], ◌∷◌, length, map, Some, Contains}
 use Rattle.std.specs.List.{AllByRecursion, filter}
 use Rattle.std.specs.Ordering.{is_lt}
-use Rattle.std.specs.VecDeque.{deque_capacity, deque_len}
 use Rattle.rw_sets.specs.declared.access.Access.{Access}
 use Rattle.rw_sets.specs.declared.access.Access.TheVariants.{Read, Write}
 use Rattle.rw_sets.specs.Accesses.{Accesses, access_at, clash, writes}
@@ -83,7 +82,7 @@ HaveSameLanes before after = (loc : ℕ) (access : Access) → lane_of after loc
 
 -- for so many more nodes there is room at a location
 abbrev pub room_in : Location → ℕ
-room_in location = min (deque_capacity location.named.ids - deque_len location.named.ids) (deque_capacity location.writers.ids - deque_len location.writers.ids)
+room_in location = min (location.named.ids.capacity - length location.named.ids.items) (location.writers.ids.capacity - length location.writers.ids.items)
 
 abbrev pub rooms_of : List Location → List ℕ
 rooms_of locations = map room_in locations

@@ -1,6 +1,5 @@
 ghost use Rattle.std.specs.Prelude.{◌≡◌, ◌+◌, ◌^◌, ◌≤◌, ◌<◌, [], length, slice_index_or, MatchResult, OnOk};
 ghost use Rattle.std.specs.List.{insert, remove};
-ghost use Rattle.std.specs.VecDeque.{deque_capacity, deque_len};
 ghost use Rattle.kdg_graph.specs.Lanes.{IsBetween, IsEnded, IsLane, IsRank, IsRankPast, IsSearched, cmp_at, cmp_in};
 ghost use Rattle.kdg_graph.specs.Locations.{is_first_before};
 ghost use Rattle.std.specs.Prelude.{List};
@@ -12,8 +11,8 @@ use kdg_text::NoRoom;
 use slab::Slab;
 use std::alloc::Global;
 use std::cmp::Ordering;
-use std::collections::VecDeque;
 use task_order::Key;
+use tiered_list::TieredList;
 
 /// How many times as long as the last step of a search the next one is, until the key is passed.
 const GROWTH: usize = 8;
@@ -21,7 +20,7 @@ const GROWTH: usize = 8;
 /// Ids of nodes in the order of the nodes' keys, which stand in a slab.
 #[derive(Drop)]
 pub(crate) struct Lane {
-    ids: VecDeque<NodeId>,
+    ids: TieredList<NodeId>,
     // where searches begin: behind the id that was put in last, where one was last taken out, and
     // where either was last; should these be other places by now, a search takes longer
     put_at: usize,
@@ -35,7 +34,7 @@ impl Lane {
         ensures { result.ids.items ≡ [] }
     {
         Lane {
-            ids: VecDeque::new(alloc),
+            ids: TieredList::new(alloc),
             put_at: 0,
             taken_at: 0,
             changed_at: 0,
@@ -45,7 +44,7 @@ impl Lane {
     /// How many ids there are.
     pub(crate) fn len(&self) -> usize
         ensures len { result ≡ length self.now.ids.items }
-        ensures counted { result ≡ deque_len self.now.ids }
+        ensures small { result < 2 ^ 63 }
     {
         self.ids.len()
     }
@@ -55,18 +54,19 @@ impl Lane {
         requires { place < length self.now.ids.items }
         ensures { result ≡ slice_index_or self.now.ids.items place result }
     {
-        self.ids[place]
+        match self.ids.get(place) {
+            Some(id) => *id,
+            None => unreachable!(),
+        }
     }
 
     /// Makes room for so many more ids.
     pub(crate) fn reserve(&mut self, additional: usize) -> Result<(), NoRoom>
-        ensures room { OnOk result (deque_len self.new.ids + additional ≤ deque_capacity self.new.ids) }
-        ensures no_less { deque_capacity self.old.ids ≤ deque_capacity self.new.ids }
-        ensures len { deque_len self.new.ids ≡ deque_len self.old.ids }
+        ensures room { OnOk result (length self.new.ids.items + additional ≤ self.new.ids.capacity) }
+        ensures no_less { self.old.ids.capacity ≤ self.new.ids.capacity }
         ensures ids { self.new.ids.items ≡ self.old.ids.items }
     {
-        self.ids.reserve(additional)?;
-        Ok(())
+        self.ids.reserve(additional)
     }
 
     /// How many of the nodes are earlier than the key, for a node that is to be put in: a search that
@@ -103,7 +103,8 @@ impl Lane {
 
     /// The place of the node with the key, or else how many are earlier, by a search from a place on.
     fn search_near(&self, slots: &Slab<Entry>, key: &Key, start: usize) -> Result<usize, usize>
-        ensures { IsEnded slots.now key.now self.now.ids.items result }
+        ensures ended { IsEnded slots.now key.now self.now.ids.items result }
+        ensures small { length self.now.ids.items < 2 ^ 63 }
     {
         match self.compare_at(slots, start, key) {
             Ordering::Less => self.search_up(slots, key, start),
@@ -114,7 +115,8 @@ impl Lane {
 
     /// The same, where the node at the start is earlier: by steps that grow, and then by halving.
     fn search_up(&self, slots: &Slab<Entry>, key: &Key, start: usize) -> Result<usize, usize>
-        requires { cmp_at slots.now key.now self.now.ids.items start ≡ Ordering.Less }
+        requires earlier { cmp_at slots.now key.now self.now.ids.items start ≡ Ordering.Less }
+        requires small { length self.now.ids.items < 2 ^ 63 }
         ensures { IsEnded slots.now key.now self.now.ids.items result }
     {
         let mut low = start + 1;
@@ -201,20 +203,17 @@ impl Lane {
     /// Puts an id at a place, where `reserve` made room.
     pub(crate) fn insert(&mut self, place: usize, id: NodeId)
         requires inside { place ≤ length self.old.ids.items }
-        requires room { deque_len self.old.ids < deque_capacity self.old.ids }
+        requires room { length self.old.ids.items < self.old.ids.capacity }
         ensures ids { self.new.ids.items ≡ insert self.old.ids.items place id }
-        ensures room { deque_capacity self.old.ids ≤ deque_capacity self.new.ids }
-        ensures len { deque_len self.new.ids ≡ deque_len self.old.ids + 1 }
+        ensures room { self.old.ids.capacity ≤ self.new.ids.capacity }
+        ensures len { length self.new.ids.items ≡ length self.old.ids.items + 1 }
     {
-        self.put_at = place + 1;
+        self.put_at = place.saturating_add(1);
         self.changed_at = place;
         if place <= self.taken_at {
             self.taken_at = self.taken_at.saturating_add(1);
         }
-        match self.ids.insert(place, id) {
-            Ok(()) => (),
-            Err(_) => unreachable!(),
-        }
+        self.ids.insert(place, id);
     }
 
     /// Takes the id at a place out.
@@ -222,15 +221,15 @@ impl Lane {
         requires { place < length self.old.ids.items }
         ensures id { result ≡ slice_index_or self.old.ids.items place result }
         ensures ids { self.new.ids.items ≡ remove self.old.ids.items place }
-        ensures room { deque_capacity self.new.ids ≡ deque_capacity self.old.ids }
-        ensures len { deque_len self.new.ids + 1 ≡ deque_len self.old.ids }
+        ensures room { self.new.ids.capacity ≡ self.old.ids.capacity }
+        ensures len { length self.new.ids.items + 1 ≡ length self.old.ids.items }
     {
         if place < self.put_at {
             self.put_at -= 1;
         }
         self.taken_at = place;
         self.changed_at = place;
-        self.ids.remove(place).unwrap()
+        self.ids.remove(place)
     }
 }
 

@@ -4,7 +4,6 @@ ghost use Rattle.std.specs.Option.{option_map};
 ghost use Rattle.task_order.specs.TaskList.{IsNewKey};
 ghost use Rattle.kdg_graph.specs.Node.{new_node};
 ghost use Rattle.kdg_graph.specs.Nodes.{IsGraph, HasNode, ids_of, least_of, node_at, node_with_key, put_node, set_at, started, tasks_of};
-ghost use Rattle.std.specs.VecDeque.{deque_capacity, deque_len};
 ghost use Rattle.kdg_graph.specs.Lanes.{IsRank, IsRankPast, IsSearched};
 ghost use Rattle.kdg_graph.specs.Locations.{IsLaneAmong, is_first_before};
 ghost use Rattle.std.specs.Prelude.{Bool, List, filter, ◌||◌};
@@ -31,15 +30,14 @@ pub(crate) struct OrderedNodes {
 }
 
 impl Model for OrderedNodes {
-    ghost use Rattle.std.specs.Prelude.{◌-◌};
-    ghost use Rattle.std.specs.VecDeque.{deque_capacity, deque_len};
+    ghost use Rattle.std.specs.Prelude.{◌-◌, length};
     ghost use Rattle.slab.specs.Slab.{slab_len};
     ghost use Rattle.kdg_graph.specs.Lanes.{nodes_in, IsStored};
     ghost use Rattle.kdg_graph.specs.NodeStock.{NodeShelf};
 
     ghost Value = { NodeShelf };
 
-    ghost view = { λ o. record { nodes = nodes_in o.slots o.order.ids.items; places = deque_capacity o.order.ids - deque_len o.order.ids; numbers = o.slots.capacity - slab_len o.slots; keys = o.slots.capacity } };
+    ghost view = { λ o. record { nodes = nodes_in o.slots o.order.ids.items; places = o.order.ids.capacity - length o.order.ids.items; numbers = o.slots.capacity - slab_len o.slots; keys = o.slots.capacity } };
 
     ghost invariant = { λ o. IsStored o.slots o.order.ids.items };
 }
@@ -156,10 +154,10 @@ impl OrderedNodes {
     /// Puts a node into a list of ids in key order, which has room for it.
     pub(crate) fn put_into(&self, lane: &mut Lane, id: NodeId)
         requires there { HasNode self.now.nodes id }
-        requires room { deque_len lane.old.ids < deque_capacity lane.old.ids }
+        requires room { length lane.old.ids.items < lane.old.ids.capacity }
         ensures ids { (some : List Node) → IsLaneAmong self.now.nodes some lane.old.ids.items → IfSome (node_at self.now.nodes id) (λ node. lane.new.ids.items ≡ ids_of (put_node node some)) }
-        ensures room { deque_capacity lane.old.ids ≤ deque_capacity lane.new.ids }
-        ensures len { deque_len lane.new.ids ≡ deque_len lane.old.ids + 1 }
+        ensures room { lane.old.ids.capacity ≤ lane.new.ids.capacity }
+        ensures len { length lane.new.ids.items ≡ length lane.old.ids.items + 1 }
     {
         let node = self.entry(id);
         let place = self.rank_among(lane, &node.task.key);
@@ -170,8 +168,8 @@ impl OrderedNodes {
     pub(crate) fn take_from(&self, lane: &mut Lane, id: NodeId)
         requires { HasNode self.now.nodes id }
         ensures ids { (some : List Node) → IsLaneAmong self.now.nodes some lane.old.ids.items → lane.new.ids.items ≡ ids_of (without id some) }
-        ensures room { deque_capacity lane.old.ids ≤ deque_capacity lane.new.ids }
-        ensures len { deque_len lane.new.ids ≤ deque_len lane.old.ids }
+        ensures room { lane.old.ids.capacity ≤ lane.new.ids.capacity }
+        ensures len { length lane.new.ids.items ≤ length lane.old.ids.items }
     {
         let node = self.entry(id);
         if let Ok(place) = self.search_among(lane, &node.task.key) {

@@ -28,14 +28,13 @@ pub(crate) struct SourceLane {
 
 impl Model for SourceLane {
     ghost use Rattle.std.specs.Prelude.{length};
-    ghost use Rattle.std.specs.VecDeque.{deque_capacity};
     ghost use Rattle.kdg_graph.specs.Selected.{AreMarked, MarkedIds};
 
     ghost Value = { MarkedIds };
 
     ghost view = { λ s. record {
       ids = s.lane.ids.items;
-      room = deque_capacity s.lane.ids;
+      room = s.lane.ids.capacity;
       marks = length s.listed.items;
     } };
 
@@ -103,7 +102,6 @@ impl SourceLane {
         ensures marks { self.new.marks ≡ self.old.marks }
     {
         if !self.is_listed(id) {
-            let _counted = self.lane.len();
             nodes.put_into(&mut self.lane, id);
             self.listed[id.at] = true;
         }

@@ -4,13 +4,13 @@ use Rattle.kdg_graph.proofs.lane.Lane.rank.Goals as goal
 
 pub returns-in-Ok-clause-rank : goal.returns-in-Ok-clause-rank
 returns-in-Ok-clause-rank c nodes lane =
-    (found_ended c.args.slots.now c.args.key.now nodes c.args.self.now.ids.items c.in-Ok.place lane c.in-Ok.ensures).rank
+    (found_ended c.args.slots.now c.args.key.now nodes c.args.self.now.ids.items c.in-Ok.place lane c.in-Ok.ensures.ended).rank
 
 pub returns-in-Ok-clause-inside : goal.returns-in-Ok-clause-inside
 returns-in-Ok-clause-inside c =
-    let inside : c.in-Ok.place < length c.args.self.now.ids.items = inside_tied c.args.slots.now c.args.key.now c.args.self.now.ids.items c.in-Ok.place c.in-Ok.ensures in
+    let inside : c.in-Ok.place < length c.args.self.now.ids.items = inside_tied c.args.slots.now c.args.key.now c.args.self.now.ids.items c.in-Ok.place c.in-Ok.ensures.ended in
     omega (arith, inside)
 
 pub returns-in-Ok-2-clause-rank : goal.returns-in-Ok-2-clause-rank
 returns-in-Ok-2-clause-rank c nodes lane =
-    (gap_ended c.args.slots.now c.args.key.now nodes c.args.self.now.ids.items c.in-Ok.place lane c.in-Ok.ensures).rank
+    (gap_ended c.args.slots.now c.args.key.now nodes c.args.self.now.ids.items c.in-Ok.place lane c.in-Ok.ensures.ended).rank

@@ -1,4 +1,4 @@
-use Rattle.std.proofs.Common.{◌≡◌, ◌∙◌, ◌∷◌, [], Bool, true, false, List, ap, subst, sym, arith, ◌==◌}
+use Rattle.std.proofs.Common.{◌≡◌, ◌∙◌, ◌∷◌, [], Bool, false, List, ap, subst, sym, arith, ◌==◌}
 use Rattle.std.specs.List.{filter, list_any}
 use Rattle.std.proofs.lemmas.List.{length-set}
 use Rattle.kdg_graph.specs.declared.node_id.NodeId.{NodeId}

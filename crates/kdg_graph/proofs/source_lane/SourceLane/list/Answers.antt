@@ -18,7 +18,7 @@ put_into-requires-clause-room c =
     let found = found_node nodes c.args.id c.requires.there in
     let out : test found.0 ≡ false = sym (listed_selected nodes test c.args.self.now.ids c.args.id found.0 c.requires.graph found.1 c.requires.some.selected) ∙ sym c.is_listed.ensures ∙ c.if-not-is_listed.true in
     let room = has_room nodes c.args.id found.0 c.args.self.now.ids test c.args.self.now.room c.requires.graph found.1 out c.requires.some.selected c.requires.some.room in
-    omega (arith, room, ap (λ (some : MarkedIds). length some.ids) c.self.view_is, ap (λ (some : MarkedIds). some.room) c.self.view_is, c.len-counted.ensures.len, c.len-counted.ensures.counted)
+    omega (arith, room, ap (λ (some : MarkedIds). length some.ids) c.self.view_is, ap (λ (some : MarkedIds). some.room) c.self.view_is)
 
 pub index_mut-requires : goal.index_mut-requires
 index_mut-requires c =
