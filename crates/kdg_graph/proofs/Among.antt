@@ -16,7 +16,7 @@ use Rattle.kdg_graph.specs.Nodes.{HaveOwnIds, HasNode, IsGraph, ids_of, is_at, n
 use Rattle.kdg_graph.specs.Rewrite.{without}
 use Rattle.kdg_graph.proofs.Filtered.{ascending_filtered}
 use Rattle.kdg_graph.proofs.Keeping.{ids-insert, ids-remove}
-use Rattle.kdg_graph.proofs.Lanes.{id_there, length-ids, some_node}
+use Rattle.kdg_graph.proofs.Lanes.{graph_of_stored, id_there, length-ids, some_node}
 use Rattle.kdg_graph.proofs.LookUps.{found_by_id, ids_find_nodes, nodes_have_ids}
 use Rattle.kdg_graph.proofs.Members.{all_at, all_from, from_filter, there as later_too}
 use Rattle.kdg_graph.proofs.Neighbours.{same_found}
@@ -26,6 +26,9 @@ use Rattle.kdg_graph.proofs.Storing.{place_by_rank}
 
 pub graph_among : (nodes : List Node) → IsGraph nodes → IsLaneAmong nodes nodes (ids_of nodes)
 graph_among nodes graph = record { ids_are = refl; there = all_from (λ (node : Node). Contains nodes node) nodes (λ node has. has); ascending = graph.ascending }
+
+pub among_all : (slots : Slab Node) (ids : List NodeId) → IsStored slots ids → IsLaneAmong (nodes_in slots ids) (nodes_in slots ids) ids
+among_all slots ids is = subst (λ (l : List NodeId). IsLaneAmong (nodes_in slots ids) (nodes_in slots ids) l) (sym is.lane.ids_are) (graph_among (nodes_in slots ids) (graph_of_stored slots ids is))
 
 pub among_filtered : (p : Node → Bool) (nodes some : List Node) (before ids : List NodeId) → IsLaneAmong nodes some before → ids ≡ ids_of (filter p some) → IsLaneAmong nodes (filter p some) ids
 among_filtered p nodes some before ids among is = record {

@@ -79,7 +79,7 @@ before_tied key (node ∷ nodes) zero d up inside tied =
     less_tied node.task.key next.task.key key turn tied
 before_tied key (node ∷ nodes) (suc before) d up inside tied = before_tied key nodes before d up.1 (omega (arith, inside)) tied
 
-found_tied : (key : Key) (nodes : List Node) (place : ℕ) → IsAscending (tasks_of nodes) → place < length nodes → ((d : Node) → key_cmp (get_or nodes place d).task.key key ≡ Equal) → IsFound key nodes place
+pub found_tied : (key : Key) (nodes : List Node) (place : ℕ) → IsAscending (tasks_of nodes) → place < length nodes → ((d : Node) → key_cmp (get_or nodes place d).task.key key ≡ Equal) → IsFound key nodes place
 found_tied key nodes place up inside tied = record {
   rank = rank_around key nodes place up (omega (arith, inside))
       (λ before is d. ap is_lt (before_tied key nodes before d up (omega (arith, inside, is)) (subst (λ n. key_cmp (get_or nodes n d).task.key key ≡ Equal) (sym is) (tied d))))

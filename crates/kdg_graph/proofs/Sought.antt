@@ -1,25 +1,27 @@
 -- What a search for a key tells of the nodes of a graph.
-use Rattle.std.proofs.Common.{◌≡◌, ◌≢◌, inl, inr, ℕ, suc, ◌<◌, false, List, [], ◌∷◌, length, get_or, Some, None, sym, ◌∙◌, ap, subst, arith}
-use Rattle.std.specs.Prelude.{Contains}
+use Rattle.std.proofs.Common.{◌≡◌, ◌≢◌, inl, inr, eqb-true, ℕ, zero, suc, ◌<◌, true, false, List, [], ◌∷◌, length, get_or, Some, None, sym, ◌∙◌, ap, subst, arith}
+use Rattle.std.specs.Prelude.{Contains, slice_get}
 use Rattle.std.specs.Cmp.{tied_itself}
 use Rattle.std.specs.Ordering.{is_eq, ordering_reverse}
 use Rattle.std.specs.declared.cmp.Ordering.TheVariants.{Less, Equal, Greater}
-use Rattle.std.proofs.lemmas.Option.{slice_get_cases}
+use Rattle.std.proofs.lemmas.Bool.{false≢true}
+use Rattle.std.proofs.lemmas.Option.{get_or_from_slice_get, slice_get_cases, slice_get_within}
 use Rattle.task_order.specs.declared.key.Key.{Key}
 use Rattle.task_order.specs.Key.{key_cmp, key_cmp_total}
 use Rattle.task_order.specs.TaskList.{IsAscending}
 use Rattle.kdg_graph.specs.declared.node_id.NodeId.{NodeId}
-use Rattle.kdg_graph.specs.Lanes.{IsFound, IsGap, IsRankPast}
+use Rattle.kdg_graph.specs.Lanes.{IsFound, IsGap, IsRankPast, is_id_at}
 use Rattle.kdg_graph.specs.Locations.{IsLaneAmong}
 use Rattle.kdg_graph.specs.Node.{Node}
 use Rattle.kdg_graph.specs.Nodes.{IsGraph, node_at, node_with_key, tasks_of}
-use Rattle.kdg_graph.proofs.Among.{contains_at}
+use Rattle.kdg_graph.proofs.Among.{among_at, contains_at, same_by_number}
 use Rattle.kdg_graph.proofs.Lanes.{id_there, length-ids, some_node}
 use Rattle.kdg_graph.proofs.LookUps.{ids_find_nodes, key_later}
 use Rattle.kdg_graph.proofs.Members.{all_at, cases, none}
 use Rattle.kdg_graph.proofs.Neighbours.{same_found}
 use Rattle.kdg_graph.proofs.Ordering.{found_at_point, no_key_past_all}
 use Rattle.kdg_graph.proofs.Pasts.{past_nothing, past_tied, past_untied}
+use Rattle.kdg_graph.proofs.Searching.{found_tied}
 
 -- ---- the node with the key
 
@@ -43,6 +45,14 @@ past_found key some place up found =
     past_tied key some place d up found.rank found.inside (ap is_eq (found.tied d))
 
 -- ---- the id of a node
+
+pub id_at : (ids : List NodeId) (place : ℕ) (id : NodeId) → is_id_at id ids place ≡ true → slice_get ids place ≡ Some id
+id_at [] place id is = absurd (false≢true is)
+id_at (first ∷ ids) zero id is = ap (λ (other : NodeId). Some other) (same_by_number first id (eqb-true first.at id.at is))
+id_at (first ∷ ids) (suc place) id is = id_at ids place id is
+
+pub inside_at : (ids : List NodeId) (place : ℕ) (id : NodeId) → is_id_at id ids place ≡ true → place < length ids
+inside_at ids place id is = slice_get_within ids place id (id_at ids place id is)
 
 -- two nodes at one key are one
 same_key : (nodes : List Node) (a b : Node) → IsAscending (tasks_of nodes) → Contains nodes a → Contains nodes b → key_cmp a.task.key b.task.key ≡ Equal → a ≡ b
@@ -74,6 +84,18 @@ id_found nodes some ids id node place graph among is found =
     let has : Contains nodes node × (node.id ≡ id) = ids_find_nodes nodes id node is in
     let same : get_or some place node ≡ node = same_key nodes (get_or some place node) node graph.ascending (contains_among nodes some ids place node among found.inside) has.0 (found.tied node) in
     sym (id_there some ids place id node among.ids_are (inside_among nodes some ids place among found.inside) ∙ ap (λ (n : Node). n.id) same ∙ has.1)
+
+-- where its id stands its key is found
+pub found_at_id : (nodes some : List Node) (ids : List NodeId) (id : NodeId) (node : Node) (place : ℕ) → IsGraph nodes → IsLaneAmong nodes some ids → node_at nodes id ≡ Some node → is_id_at id ids place ≡ true → IsFound node.task.key some place
+found_at_id nodes some ids id node place graph among is here =
+    let at : slice_get ids place ≡ Some id = id_at ids place id here in
+    let inside : place < length ids = inside_at ids place id here in
+    let within : place < length some = omega (arith, inside, ap length among.ids_are, length-ids some) in
+    let there : id ≡ get_or ids place id = sym (get_or_from_slice_get ids place id id at) in
+    found_tied node.task.key some place among.ascending within (λ d.
+    let found : Some (get_or some place d) ≡ Some node = sym (among_at nodes some ids place id d graph among inside there) ∙ is in
+    let same : get_or some place d ≡ node = cc in
+    subst (λ (n : Node). key_cmp n.task.key node.task.key ≡ Equal) (sym same) (tied_itself key_cmp_total node.task.key))
 
 -- where it isn't found its id isn't there
 pub id_apart : (nodes some : List Node) (ids : List NodeId) (id : NodeId) (node : Node) (place : ℕ) (d : NodeId) → IsGraph nodes → IsLaneAmong nodes some ids → node_at nodes id ≡ Some node → IsGap node.task.key some place → place < length ids → get_or ids place d ≢ id

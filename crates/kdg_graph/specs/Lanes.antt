@@ -1,5 +1,5 @@
 -- Nodes that are kept under their ids, and lists of ids in the order of the nodes' keys.
-use Rattle.std.specs.Prelude.{◌≡◌, ℕ, suc, ◌<◌, ◌≤◌, true, false, List, [], ◌∷◌, ◌++◌, length, slice_get, slice_index_or, MatchResult, Option, Some, None, Result}
+use Rattle.std.specs.Prelude.{◌≡◌, ◌==◌, ℕ, suc, ◌<◌, ◌≤◌, Bool, true, false, List, [], ◌∷◌, ◌++◌, length, slice_get, slice_index_or, MatchResult, Option, Some, None, Result}
 use Rattle.std.specs.List.{AllByRecursion}
 use Rattle.std.specs.List.Sorted.{IsPartitionPoint}
 use Rattle.std.specs.Option.{option_to_list}
@@ -46,6 +46,15 @@ pub record IsRankPast (key : Key) (nodes : List Node) (place : ℕ) : Type 0 whe
   pub point : IsPartitionPoint (λ node. is_lt (key_cmp key node.task.key) ≡ false) (λ node. is_lt (key_cmp key node.task.key) ≡ true) nodes place
 
 -- ---- searches
+
+-- whether the id is this one
+abbrev pub is_id : NodeId → Option NodeId → Bool
+is_id id None = false
+is_id id (Some other) = other.at == id.at
+
+-- whether the id at a place is this one
+abbrev pub is_id_at : NodeId → List NodeId → ℕ → Bool
+is_id_at id ids place = is_id id (slice_get ids place)
 
 -- how the node compares with the key; none counts as later
 abbrev pub cmp_if : Key → Option Node → Ordering

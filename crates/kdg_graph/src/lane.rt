@@ -1,6 +1,6 @@
-ghost use Rattle.std.specs.Prelude.{◌≡◌, ◌+◌, ◌^◌, ◌≤◌, ◌<◌, [], length, slice_index_or, MatchResult, OnOk};
+ghost use Rattle.std.specs.Prelude.{◌≡◌, ◌+◌, ◌^◌, ◌≤◌, ◌<◌, [], length, slice_index_or, true, IfSome, MatchResult, OnOk};
 ghost use Rattle.std.specs.List.{insert, remove};
-ghost use Rattle.kdg_graph.specs.Lanes.{IsBetween, IsEnded, IsLane, IsRank, IsRankPast, IsSearched, cmp_at, cmp_in};
+ghost use Rattle.kdg_graph.specs.Lanes.{IsBetween, IsEnded, IsLane, IsRank, IsRankPast, IsSearched, cmp_at, cmp_in, is_id_at};
 ghost use Rattle.kdg_graph.specs.Locations.{is_first_before};
 ghost use Rattle.std.specs.Prelude.{List};
 ghost use Rattle.kdg_graph.specs.Node.{Node};
@@ -16,6 +16,9 @@ use tiered_list::TieredList;
 
 /// How many times as long as the last step of a search the next one is, until the key is passed.
 const GROWTH: usize = 8;
+
+/// How many ids are looked at one after another before a search by keys.
+const NEAR: usize = 8;
 
 /// Ids of nodes in the order of the nodes' keys, which stand in a slab.
 #[derive(Drop)]
@@ -87,6 +90,47 @@ impl Lane {
         ensures inside { MatchResult result (λ place. place < length self.now.ids.items) (λ place. place ≤ length self.now.ids.items) }
     {
         self.search_near(slots, key, self.taken_at)
+    }
+
+    /// The place of an id that mostly is the first one or stands where one was last taken out, or close
+    /// behind it.
+    pub(crate) fn likely_place(&self, id: NodeId) -> Option<usize>
+        ensures { IfSome result (λ place. is_id_at id self.now.ids.items place ≡ true) }
+    {
+        if self.has_at(0, id) {
+            return Some(0);
+        }
+        self.find_near(self.taken_at, id)
+    }
+
+    /// The place of an id that is among the few from a place on.
+    fn find_near(&self, start: usize, id: NodeId) -> Option<usize>
+        ensures { IfSome result (λ place. is_id_at id self.now.ids.items place ≡ true) }
+    {
+        let end = start.saturating_add(NEAR).min(self.len());
+        for place in start..end {
+            if self.has_at(place, id) {
+                return Some(place);
+            }
+        }
+        None
+    }
+
+    /// Whether an id is the first.
+    pub(crate) fn starts_with(&self, id: NodeId) -> bool
+        ensures { result ≡ is_id_at id self.now.ids.items 0 }
+    {
+        self.has_at(0, id)
+    }
+
+    /// Whether an id stands at a place.
+    fn has_at(&self, place: usize, id: NodeId) -> bool
+        ensures { result ≡ is_id_at id self.now.ids.items place }
+    {
+        match self.ids.get(place) {
+            Some(other) => other.at == id.at,
+            None => false,
+        }
     }
 
     /// How many of the nodes are not later than the key, mostly that of the node that was put in or

@@ -111,14 +111,20 @@ impl OrderedNodes {
         lane.rank_past(&self.slots, key)
     }
 
-    /// The place of the node with the key among some of the nodes, by their ids in key order, or else
-    /// how many of these are earlier.
-    fn search_among(&self, lane: &Lane, key: &Key) -> Result<usize, usize>
-        ensures found { (some : List Node) → IsLaneAmong self.now.nodes some lane.now.ids.items → IsSearched key.now some result }
+    /// The place of a node among some of the nodes, by their ids in key order, or else how many of these
+    /// are earlier. Keys are compared only where its id isn't at a likely place.
+    fn place_among(&self, lane: &Lane, id: NodeId) -> Result<usize, usize>
+        requires { HasNode self.now.nodes id }
+        ensures found { (some : List Node) → IsLaneAmong self.now.nodes some lane.now.ids.items → IfSome (node_at self.now.nodes id) (λ node. IsSearched node.task.key some result) }
         ensures inside { MatchResult result (λ place. place < length lane.now.ids.items) (λ place. place ≤ length lane.now.ids.items) }
         ensures graph { IsGraph self.now.nodes }
     {
-        lane.search(&self.slots, key)
+        let _graph = self.len();
+        if let Some(place) = lane.likely_place(id) {
+            return Ok(place);
+        }
+        let node = self.entry(id);
+        lane.search(&self.slots, &node.task.key)
     }
 
     /// Whether the first of some of the nodes, by their ids in key order, is earlier than the key.
@@ -171,8 +177,7 @@ impl OrderedNodes {
         ensures room { lane.old.ids.capacity ≤ lane.new.ids.capacity }
         ensures len { length lane.new.ids.items ≤ length lane.old.ids.items }
     {
-        let node = self.entry(id);
-        if let Ok(place) = self.search_among(lane, &node.task.key) {
+        if let Ok(place) = self.place_among(lane, id) {
             let _ = lane.remove(place);
         }
     }
@@ -183,8 +188,7 @@ impl OrderedNodes {
         ensures place { IsPlaceOf id self.now.nodes result }
         ensures inside { result < length self.now.nodes }
     {
-        let node = self.entry(id);
-        match self.search(&node.task.key) {
+        match self.place_among(&self.order, id) {
             Ok(place) | Err(place) => place,
         }
     }
