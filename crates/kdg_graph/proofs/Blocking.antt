@@ -1,24 +1,29 @@
 -- A node is blocked where the first of the nodes at some location of its set is earlier.
-use Rattle.std.proofs.Common.{◌≡◌, ℕ, Bool, true, false, List, [], ◌∷◌, Option, Some, None, refl, sym, ◌∙◌, ap, subst, arith, inl, inr}
+use Rattle.std.proofs.Common.{◌≡◌, ◌==◌, not, ℕ, Bool, true, false, List, [], ◌∷◌, Option, Some, None, refl, sym, ◌∙◌, ap, subst, arith, inl, inr}
 use Rattle.std.specs.Prelude.{Contains}
 use Rattle.std.specs.List.{list_any}
 use Rattle.std.specs.Ordering.{is_lt}
 use Rattle.std.proofs.lemmas.Bool.{cases_eq, false≢true, or_cases, or_left, or_right}
 use Rattle.task_order.specs.declared.key.Key.{Key}
-use Rattle.task_order.specs.Key.{key_cmp_total}
+use Rattle.std.specs.declared.cmp.Ordering.TheVariants.{Less}
+use Rattle.task_order.specs.Key.{key_cmp, key_cmp_total}
 use Rattle.task_order.specs.TaskList.{IsAscending}
 use Rattle.rw_sets.specs.declared.access.Access.{Access}
 use Rattle.rw_sets.specs.AccessLaws.{access_first, access_other, absent_beyond, ascending_first, ascending_rest}
 use Rattle.rw_sets.specs.Accesses.{Accesses, Conflicts, IsAscending as IsAscendingSet, access_at, clash, conflicts_with}
 use Rattle.rw_sets.specs.Laws.{ConflictsAreDecided, ConflictsAreMutual}
 use Rattle.kdg_graph.specs.Edges.{is_blocked}
-use Rattle.kdg_graph.specs.Locations.{clashes_at, clashing_at, is_blocked_at, is_first_before}
+use Rattle.kdg_graph.specs.Locations.{IsLaneAmong, clashes_at, clashing_at, is_blocked_at, is_first_before}
+use Rattle.kdg_graph.specs.declared.node_id.NodeId.{NodeId}
+use Rattle.kdg_graph.specs.Lanes.{is_id_at}
 use Rattle.kdg_graph.specs.Node.{Node}
-use Rattle.kdg_graph.specs.Nodes.{earlier_than, tasks_of}
+use Rattle.kdg_graph.specs.Nodes.{IsGraph, earlier_than, ids_of, is_at, node_at, tasks_of}
 use Rattle.kdg_graph.proofs.Filtered.{ascending_filtered}
-use Rattle.kdg_graph.proofs.LookUps.{key_later}
+use Rattle.kdg_graph.proofs.LookUps.{ids_find_nodes, key_later}
 use Rattle.kdg_graph.proofs.Members.{cases, from_filter, here, in_filter, none, there}
-use Rattle.kdg_graph.proofs.Ordering.{Less_from_test, is_before}
+use Rattle.kdg_graph.proofs.Neighbours.{same_found}
+use Rattle.kdg_graph.proofs.Ordering.{Less_from_test, is_before, not_itself}
+use Rattle.kdg_graph.proofs.Places.{is_at-same, not_at}
 
 -- ---- some of a list
 
@@ -78,6 +83,26 @@ first_before key (first ∷ nodes) other up has is = elim (cases first other nod
 pub before_first : (key : Key) (nodes : List Node) → is_first_before key nodes ≡ true → (first : Node) × Contains nodes first × (is_before key first ≡ true)
 before_first key [] is = absurd (false≢true is)
 before_first key (first ∷ nodes) is = (first, here first nodes, is)
+
+-- a node that stands among some is behind another exactly where its id isn't the first
+pub behind_first : (nodes some : List Node) (ids : List NodeId) (id : NodeId) (node : Node) → IsGraph nodes → IsLaneAmong nodes some ids → node_at nodes id ≡ Some node → Contains some node → not (is_id_at id ids 0) ≡ is_first_before node.task.key some
+behind_first nodes [] ids id node graph among is has = absurd (none node has)
+behind_first nodes (first ∷ rest) [] id node graph among is has = absurd (let wrong : first.id ∷ ids_of rest ≡ [] = sym among.ids_are in cc)
+behind_first nodes (first ∷ rest) (top ∷ ids) id node graph among is has =
+    let top_is : top ≡ first.id = (let same : top ∷ ids ≡ first.id ∷ ids_of rest = among.ids_are in cc) in
+    let its_id : node.id ≡ id = (ids_find_nodes nodes id node is).1 in
+    elim (cases first node rest has) [
+      | inl same ↦
+          let here : is_at id first ≡ true = is_at-same id first (ap (λ (n : Node). n.id) same ∙ its_id) in
+          ap (λ (other : NodeId). not (other.at == id.at)) top_is ∙ ap not here ∙ sym (ap (λ (n : Node). is_before node.task.key n) same ∙ not_itself node.task.key)
+      | inr later ↦
+          let less : key_cmp first.task.key node.task.key ≡ Less = key_later first rest node among.ascending.0 later in
+          let apart : is_at id first ≡ false = not_at id first (λ same.
+          let is_node : first ≡ node = same_found nodes id node first graph among.there.0 same is in
+          let itself : is_before node.task.key node ≡ true = ap (is_before node.task.key) (sym is_node) ∙ ap is_lt less in
+          absurd (false≢true (sym (not_itself node.task.key) ∙ itself))) in
+          ap (λ (other : NodeId). not (other.at == id.at)) top_is ∙ ap not apart ∙ sym (ap is_lt less)
+    ]
 
 -- ---- the node is blocked at a location
 

@@ -58,6 +58,12 @@ set_at nodes id = option_map (λ node. node.set) (node_at nodes id)
 abbrev pub running_at : List Node → NodeId → Option Bool
 running_at nodes id = option_map (λ node. node.running) (node_at nodes id)
 
+-- the node with the id has this key
+pub record HasKey (nodes : List Node) (id : NodeId) (key : Key) : Type 0 where
+  pub node : Node
+  pub there : node_at nodes id ≡ Some node
+  pub key_is : node.task.key ≡ key
+
 -- the node whose task has the key, if there is one
 abbrev pub node_with_key : List Node → Key → Option Node
 node_with_key nodes key = find (λ node. is_eq (key_cmp node.task.key key)) nodes

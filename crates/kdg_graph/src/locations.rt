@@ -2,7 +2,7 @@ ghost use Rattle.std.specs.Prelude.{◌≡◌, ◌==◌, ◌-◌, ◌≤◌, ◌
 ghost use Rattle.rw_sets.specs.declared.access.Access.TheVariants.{Read};
 ghost use Rattle.rw_sets.specs.Accesses.{access_at, conflicts_with};
 ghost use Rattle.kdg_graph.specs.Exchange.{AreFiledWith, midway};
-ghost use Rattle.kdg_graph.specs.Nodes.{HasNode, IsGraph, ids_of, least_of, later_than, node_at};
+ghost use Rattle.kdg_graph.specs.Nodes.{HasKey, HasNode, IsGraph, ids_of, least_of, later_than, node_at};
 ghost use Rattle.kdg_graph.specs.Edges.{is_blocked};
 ghost use Rattle.kdg_graph.specs.Locations.{AreFiled, HasRoom, HaveNoLess, HaveSameLanes, clashing_at, front_after, is_first_before, lane_of, room_at, rooms_of};
 ghost use Rattle.kdg_graph.specs.Rewrite.{without};
@@ -138,7 +138,7 @@ impl Locations {
         let _graph = nodes.len();
         let node = nodes.entry(id);
         for pair in node.set.items() {
-            if self.is_blocked_at(nodes, pair.0, pair.1, &node.task.key) {
+            if self.is_blocked_at(nodes, id, &node.task.key, pair.0, pair.1) {
                 return true;
             }
         }
@@ -233,14 +233,28 @@ impl Locations {
         first
     }
 
-    /// Whether the first node that an access to a location clashes with is earlier than the key.
-    fn is_blocked_at(&self, nodes: &OrderedNodes, loc: u32, access: Access, key: &Key) -> bool
-        requires { AreFiled nodes.now.nodes self.now.locations.items }
+    /// Whether the first node that an access of a node to a location clashes with is earlier. Where the
+    /// node writes it is one of these itself, and its id tells whether it is the first.
+    fn is_blocked_at(
+        &self,
+        nodes: &OrderedNodes,
+        id: NodeId,
+        key: &Key,
+        loc: u32,
+        access: Access,
+    ) -> bool
+        requires key { HasKey nodes.now.nodes id key.now }
+        requires access { IfSome (node_at nodes.now.nodes id) (λ node. access_at node.set loc ≡ Some access) }
+        requires filed { AreFiled nodes.now.nodes self.now.locations.items }
         ensures { result ≡ is_first_before key.now (clashing_at loc access nodes.now.nodes) }
     {
-        match self.lane(loc, access) {
-            Some(lane) => nodes.starts_before(lane, key),
-            None => false,
+        let _graph = nodes.len();
+        let Some(lane) = self.lane(loc, access) else {
+            return false;
+        };
+        match access {
+            Access::Read => nodes.starts_before(lane, key),
+            Access::Write => !lane.starts_with(id),
         }
     }
 

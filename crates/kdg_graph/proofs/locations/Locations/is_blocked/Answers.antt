@@ -1,17 +1,32 @@
-use Rattle.std.proofs.Common.{◌≡◌, ℕ, ◌∙◌, List, Option, Some, true, false, ap, arith, get_or, length, subst, sym, take}
+use Rattle.std.proofs.Common.{◌≡◌, ℕ, ◌∙◌, List, Option, Some, true, false, ap, arith, get_or, length, refl, subst, sym, take}
 use Rattle.std.proofs.Math.Seq.{take-length}
 use Rattle.std.proofs.lemmas.List.Elements.{Contains-get_or}
-use Rattle.std.specs.Prelude.{IfSome}
+use Rattle.std.specs.Prelude.{Contains, IfSome}
 use Rattle.std.specs.List.{list_any}
 use Rattle.rw_sets.specs.declared.access.Access.{Access}
 use Rattle.rw_sets.specs.declared.access.Access.TheVariants.{Read}
-use Rattle.rw_sets.specs.Accesses.{Accesses}
+use Rattle.rw_sets.specs.Accesses.{Accesses, access_at}
 use Rattle.kdg_graph.specs.Edges.{is_blocked}
 use Rattle.kdg_graph.specs.Locations.{is_blocked_at}
 use Rattle.kdg_graph.specs.Node.{Node}
 use Rattle.kdg_graph.specs.Nodes.{node_at}
-use Rattle.kdg_graph.proofs.Blocking.{any_from, blocked_by_first}
+use Rattle.kdg_graph.proofs.Blocking.{access_of, any_from, blocked_by_first}
 use Rattle.kdg_graph.proofs.locations.Locations.is_blocked.Goals as goal
+
+pub is_blocked_at-requires-clause-key : goal.is_blocked_at-requires-clause-key
+is_blocked_at-requires-clause-key c =
+    let node : Node = record { id = c.node.inside.id; task = c.node.inside.task; set = c.node.inside.set; running = c.node.inside.running } in
+    record { node = node; there = c.entry-node.ensures ∙ ap (λ (n : Node). Some n) (sym c.node.view_is); key_is = refl }
+
+pub is_blocked_at-requires-clause-access : goal.is_blocked_at-requires-clause-access
+is_blocked_at-requires-clause-access c =
+    let nodes : List Node = c.args.nodes.now.nodes in
+    let node : Node = record { id = c.node.inside.id; task = c.node.inside.task; set = c.node.inside.set; running = c.node.inside.running } in
+    let found : node_at nodes c.args.id ≡ Some node = c.entry-node.ensures ∙ ap (λ (n : Node). Some n) (sym c.node.view_is) in
+    let ps : Accesses = c.items-pair-items.result.now in
+    let p : ℕ × Access = get_or ps c.loop-pair.pair-index (0, Read) in
+    let has : Contains node.set p = subst (λ (l : Accesses). Contains l p) c.items-pair-items.ensures.all (Contains-get_or ps c.loop-pair.pair-index (0, Read) c.loop-pair-test.true) in
+    subst (λ (o : Option Node). IfSome o (λ (n : Node). access_at n.set p.0 ≡ Some p.1)) (sym found) (access_of node.set p c.items-pair-items.ensures.ascending has)
 
 pub returns-then-is_blocked_at : goal.returns-then-is_blocked_at
 returns-then-is_blocked_at c =

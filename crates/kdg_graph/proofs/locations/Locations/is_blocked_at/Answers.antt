@@ -1,19 +1,35 @@
-use Rattle.std.proofs.Common.{◌≡◌, ◌∙◌, List, [], ap, sym}
-use Rattle.kdg_graph.specs.Locations.{clashing_at, is_first_before}
+use Rattle.std.proofs.Common.{◌≡◌, ◌∙◌, List, Option, Some, true, not, ap, subst, sym}
+use Rattle.std.specs.Prelude.{Contains, IfSome}
+use Rattle.rw_sets.specs.declared.access.Access.TheVariants.{Write}
+use Rattle.rw_sets.specs.Accesses.{access_at, clash}
+use Rattle.kdg_graph.specs.declared.node_id.NodeId.{NodeId}
+use Rattle.kdg_graph.specs.Locations.{clashes_at, clashing_at, is_first_before}
 use Rattle.kdg_graph.specs.Node.{Node}
 use Rattle.kdg_graph.specs.Nodes.{ids_of}
-use Rattle.kdg_graph.specs.declared.node_id.NodeId.{NodeId}
-use Rattle.kdg_graph.proofs.Filing.{filed_among, no_ids}
+use Rattle.kdg_graph.proofs.Blocking.{behind_first}
+use Rattle.kdg_graph.proofs.Filing.{filed_among}
+use Rattle.kdg_graph.proofs.LookUps.{ids_find_nodes}
+use Rattle.kdg_graph.proofs.Members.{in_filter}
 use Rattle.kdg_graph.proofs.locations.Locations.is_blocked_at.Goals as goal
 
-pub returns-in-Some : goal.returns-in-Some
-returns-in-Some c =
+pub returns-in-Read : goal.returns-in-Read
+returns-in-Read c =
     let nodes : List Node = c.args.nodes.now.nodes in
     let ids : List NodeId = c.in-Some.lane.now.ids.items in
-    let are : ids ≡ ids_of (clashing_at c.args.loc c.args.access nodes) = c.in-Some.ensures.kept ∙ c.requires c.args.loc c.args.access in
+    let are : ids ≡ ids_of (clashing_at c.args.loc c.args.access nodes) = c.in-Some.ensures.kept ∙ c.requires.filed c.args.loc c.args.access in
     c.starts_before.ensures.first (clashing_at c.args.loc c.args.access nodes) (filed_among nodes c.args.loc c.args.access ids c.starts_before.ensures.graph are)
 
-pub returns-in-None : goal.returns-in-None
-returns-in-None c =
-    let none : ids_of (clashing_at c.args.loc c.args.access c.args.nodes.now.nodes) ≡ [] = sym (c.requires c.args.loc c.args.access) ∙ c.in-None.ensures.beyond in
-    sym (ap (is_first_before c.args.key.now) (no_ids (clashing_at c.args.loc c.args.access c.args.nodes.now.nodes) none))
+pub returns-in-Write : goal.returns-in-Write
+returns-in-Write c =
+    let nodes : List Node = c.args.nodes.now.nodes in
+    let some : List Node = clashing_at c.args.loc c.args.access nodes in
+    let ids : List NodeId = c.in-Some.lane.now.ids.items in
+    let node : Node = c.requires.key.node in
+    let graph = c.len-graph.ensures.graph in
+    let are : ids ≡ ids_of some = c.in-Some.ensures.kept ∙ c.requires.filed c.args.loc c.args.access in
+    let access : access_at node.set c.args.loc ≡ Some c.args.access = subst (λ (o : Option Node). IfSome o (λ (n : Node). access_at n.set c.args.loc ≡ Some c.args.access)) c.requires.key.there c.requires.access in
+    let clashes : clashes_at c.args.loc c.args.access node ≡ true = ap (clash (Some c.args.access)) access ∙ ap (λ a. clash (Some a) (Some a)) c.in-Write.is in
+    let has : Contains some node = in_filter (clashes_at c.args.loc c.args.access) nodes node (ids_find_nodes nodes c.args.id node c.requires.key.there).0 clashes in
+    ap not c.starts_with.ensures
+    ∙ behind_first nodes some ids c.args.id node graph (filed_among nodes c.args.loc c.args.access ids graph are) c.requires.key.there has
+    ∙ ap (λ k. is_first_before k some) c.requires.key.key_is
