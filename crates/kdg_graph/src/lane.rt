@@ -24,11 +24,10 @@ const NEAR: usize = 8;
 #[derive(Drop)]
 pub(crate) struct Lane {
     ids: TieredList<NodeId>,
-    // where searches begin: behind the id that was put in last, where one was last taken out, and
-    // where either was last; should these be other places by now, a search takes longer
+    // where searches begin: behind the id that was put in last, and where one was last taken out;
+    // should these be other places by now, a search takes longer
     put_at: usize,
     taken_at: usize,
-    changed_at: usize,
 }
 
 impl Lane {
@@ -40,7 +39,6 @@ impl Lane {
             ids: TieredList::new(alloc),
             put_at: 0,
             taken_at: 0,
-            changed_at: 0,
         }
     }
 
@@ -104,7 +102,7 @@ impl Lane {
     }
 
     /// The place of an id that is among the few from a place on.
-    fn find_near(&self, start: usize, id: NodeId) -> Option<usize>
+    pub(crate) fn find_near(&self, start: usize, id: NodeId) -> Option<usize>
         ensures { IfSome result (λ place. is_id_at id self.now.ids.items place ≡ true) }
     {
         let end = start.saturating_add(NEAR).min(self.len());
@@ -133,13 +131,17 @@ impl Lane {
         }
     }
 
-    /// How many of the nodes are not later than the key, mostly that of the node that was put in or
-    /// taken out last: a search that begins there.
-    pub(crate) fn rank_past(&self, slots: &Slab<Entry>, key: &Key) -> usize
+    /// The place where an id was last put in, which may be another one's by now.
+    pub(crate) fn last_put(&self) -> usize {
+        self.put_at.saturating_sub(1)
+    }
+
+    /// How many of the nodes are not later than the key: a search that begins at a place.
+    pub(crate) fn rank_past(&self, slots: &Slab<Entry>, key: &Key, start: usize) -> usize
         ensures rank { (nodes : List Node) → IsLane slots.now nodes self.now.ids.items → IsRankPast key.now nodes result }
         ensures inside { result ≤ length self.now.ids.items }
     {
-        match self.search_near(slots, key, self.changed_at) {
+        match self.search_near(slots, key, start) {
             Ok(place) => place + 1,
             Err(place) => place,
         }
@@ -253,7 +255,6 @@ impl Lane {
         ensures len { length self.new.ids.items ≡ length self.old.ids.items + 1 }
     {
         self.put_at = place.saturating_add(1);
-        self.changed_at = place;
         if place <= self.taken_at {
             self.taken_at = self.taken_at.saturating_add(1);
         }
@@ -272,7 +273,6 @@ impl Lane {
             self.put_at -= 1;
         }
         self.taken_at = place;
-        self.changed_at = place;
         self.ids.remove(place)
     }
 }

@@ -4,6 +4,7 @@ ghost use Rattle.rw_sets.specs.Accesses.{access_at, conflicts_with};
 ghost use Rattle.kdg_graph.specs.Exchange.{AreFiledWith, midway};
 ghost use Rattle.kdg_graph.specs.Nodes.{HasKey, HasNode, IsGraph, ids_of, least_of, later_than, node_at};
 ghost use Rattle.kdg_graph.specs.Edges.{is_blocked};
+ghost use Rattle.kdg_graph.specs.Lanes.{IsRankPast};
 ghost use Rattle.kdg_graph.specs.Locations.{AreFiled, HasRoom, HaveNoLess, HaveSameLanes, clashing_at, front_after, is_first_before, lane_of, room_at, rooms_of};
 ghost use Rattle.kdg_graph.specs.Rewrite.{without};
 
@@ -146,8 +147,7 @@ impl Locations {
     }
 
     /// The places, among the nodes that an access to a location clashes with, of those later than the
-    /// key up to the first that writes the location, and this one. Where all of them write it, that is
-    /// the next one alone.
+    /// key up to the first that writes the location, and this one.
     pub(crate) fn front(
         &self,
         nodes: &OrderedNodes,
@@ -160,10 +160,57 @@ impl Locations {
         ensures inside { result.end ≤ length (lane_of self.now.locations.items loc access) }
         ensures ids { take (result.end - result.start) (drop result.start (lane_of self.now.locations.items loc access)) ≡ ids_of (front_after loc access key.now nodes.now.nodes) }
     {
-        let Some(lane) = self.lane(loc, access) else {
-            return 0..0;
-        };
-        let start = nodes.rank_past(lane, key);
+        match self.lane(loc, access) {
+            Some(lane) => {
+                self.front_from(nodes, lane, loc, access, key, nodes.rank_past(lane, key))
+            }
+            None => 0..0,
+        }
+    }
+
+    /// The same behind a node, which mostly was put in last.
+    pub(crate) fn front_behind(
+        &self,
+        nodes: &OrderedNodes,
+        id: NodeId,
+        loc: u32,
+        access: Access,
+        key: &Key,
+    ) -> Range<usize>
+        requires key { HasKey nodes.now.nodes id key.now }
+        requires filed { AreFiled nodes.now.nodes self.now.locations.items }
+        ensures ordered { result.start ≤ result.end }
+        ensures inside { result.end ≤ length (lane_of self.now.locations.items loc access) }
+        ensures ids { take (result.end - result.start) (drop result.start (lane_of self.now.locations.items loc access)) ≡ ids_of (front_after loc access key.now nodes.now.nodes) }
+    {
+        match self.lane(loc, access) {
+            Some(lane) => {
+                let start = nodes.rank_behind(lane, id, lane.last_put());
+                self.front_from(nodes, lane, loc, access, key, start)
+            }
+            None => 0..0,
+        }
+    }
+
+    /// The same, where so many are not later. Where all write the location, it is the next one alone.
+    fn front_from(
+        &self,
+        nodes: &OrderedNodes,
+        lane: &Lane,
+        loc: u32,
+        access: Access,
+        key: &Key,
+        start: usize,
+    ) -> Range<usize>
+        requires lane { lane.now.ids.items ≡ lane_of self.now.locations.items loc access }
+        requires rank { IsRankPast key.now (clashing_at loc access nodes.now.nodes) start }
+        requires inside { start ≤ length lane.now.ids.items }
+        requires filed { AreFiled nodes.now.nodes self.now.locations.items }
+        ensures ordered { result.start ≤ result.end }
+        ensures inside { result.end ≤ length (lane_of self.now.locations.items loc access) }
+        ensures ids { take (result.end - result.start) (drop result.start (lane_of self.now.locations.items loc access)) ≡ ids_of (front_after loc access key.now nodes.now.nodes) }
+    {
+        let _graph = nodes.len();
         if start == lane.len() {
             return start..start;
         }
@@ -171,7 +218,7 @@ impl Locations {
             return start..start + 1;
         }
         let end = match self.first_after(nodes, loc, Access::Read, key) {
-            Some(writer) => nodes.rank_past(lane, &nodes.entry(writer).task.key),
+            Some(writer) => nodes.rank_behind(lane, writer, start),
             None => lane.len(),
         };
         start..end

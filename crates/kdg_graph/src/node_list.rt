@@ -144,8 +144,7 @@ impl NodeList {
         self.locations.enter(&self.nodes, id);
         let node = self.nodes.entry(id);
         self.sources.refresh(&self.nodes, &self.locations, id);
-        self.sources
-            .forget_fronts(&self.nodes, &self.locations, &node.set, &node.task.key);
+        self.sources.forget_fronts(&self.nodes, &self.locations, id, &node.set, &node.task.key);
         id
     }
 

@@ -102,13 +102,31 @@ impl OrderedNodes {
         lane.rank(&self.slots, key)
     }
 
-    /// How many of some of the nodes, by their ids in key order, are not later than the key.
+    /// How many of some of the nodes, by their ids in key order, are not later than the key: mostly
+    /// none or few.
     pub(crate) fn rank_past(&self, lane: &Lane, key: &Key) -> usize
         ensures rank { (some : List Node) → IsLaneAmong self.now.nodes some lane.now.ids.items → IsRankPast key.now some result }
         ensures graph { IsGraph self.now.nodes }
         ensures inside { result ≤ length lane.now.ids.items }
     {
-        lane.rank_past(&self.slots, key)
+        lane.rank_past(&self.slots, key, 0)
+    }
+
+    /// How many of some of the nodes, by their ids in key order, are not later than a node, which mostly
+    /// is one of these and stands at a place or close behind it.
+    pub(crate) fn rank_behind(&self, lane: &Lane, id: NodeId, near: usize) -> usize
+        requires { HasNode self.now.nodes id }
+        ensures rank { (some : List Node) → IsLaneAmong self.now.nodes some lane.now.ids.items → IfSome (node_at self.now.nodes id) (λ node. IsRankPast node.task.key some result) }
+        ensures inside { result ≤ length lane.now.ids.items }
+        ensures graph { IsGraph self.now.nodes }
+    {
+        let _graph = self.len();
+        let _small = lane.len();
+        if let Some(place) = lane.find_near(near, id) {
+            return place + 1;
+        }
+        let node = self.entry(id);
+        lane.rank_past(&self.slots, &node.task.key, near)
     }
 
     /// The place of a node among some of the nodes, by their ids in key order, or else how many of these

@@ -1,7 +1,7 @@
 ghost use Rattle.std.specs.Prelude.{◌≡◌, ◌∷◌, ◌≤◌, ◌==◌, [], Bool, true, OnOk};
 ghost use Rattle.std.specs.List.{list_any};
 ghost use Rattle.kdg_graph.specs.Node.{Node};
-ghost use Rattle.kdg_graph.specs.Nodes.{HasNode, IsGraph, ids_of};
+ghost use Rattle.kdg_graph.specs.Nodes.{HasKey, HasNode, IsGraph, ids_of};
 ghost use Rattle.kdg_graph.specs.Fronts.{fronts_after};
 ghost use Rattle.kdg_graph.specs.Locations.{AreFiled, front_after};
 ghost use Rattle.kdg_graph.specs.Selected.{AreSelected, AreSome, forgotten, refreshed, retested};
@@ -181,16 +181,18 @@ impl SourceLane {
         }
     }
 
-    /// Takes the nodes of the front behind a key at one location out.
+    /// Takes the nodes of the front behind a node at one location out.
     fn forget_front(
         &mut self,
         nodes: &OrderedNodes,
         locations: &Locations,
+        id: NodeId,
         loc: u32,
         access: Access,
         key: &Key,
     )
         requires graph { IsGraph nodes.now.nodes }
+        requires key { HasKey nodes.now.nodes id key.now }
         requires filed { AreFiled nodes.now.nodes locations.now.locations.items }
         requires some { AreSome nodes.now.nodes self.old }
         ensures ids { (test : Node → Bool) → AreSelected nodes.now.nodes test self.old.ids
@@ -199,21 +201,23 @@ impl SourceLane {
         ensures room { self.old.room ≤ self.new.room }
         ensures marks { self.new.marks ≡ self.old.marks }
     {
-        let behind = locations.front(nodes, loc, access, key);
+        let behind = locations.front_behind(nodes, id, loc, access, key);
         for place in behind.start..behind.end {
             self.forget(nodes, locations.at(loc, access, place));
         }
     }
 
-    /// Takes the nodes of the fronts behind a key at the locations of a set out.
+    /// Takes the nodes of the fronts behind a node at the locations of a set out.
     pub(crate) fn forget_fronts(
         &mut self,
         nodes: &OrderedNodes,
         locations: &Locations,
+        id: NodeId,
         set: &RwSet,
         key: &Key,
     )
         requires graph { IsGraph nodes.now.nodes }
+        requires key { HasKey nodes.now.nodes id key.now }
         requires filed { AreFiled nodes.now.nodes locations.now.locations.items }
         requires some { AreSome nodes.now.nodes self.old }
         ensures ids { (test : Node → Bool) → AreSelected nodes.now.nodes test self.old.ids
@@ -223,7 +227,7 @@ impl SourceLane {
         ensures marks { self.new.marks ≡ self.old.marks }
     {
         for pair in set.items() {
-            self.forget_front(nodes, locations, pair.0, pair.1, key);
+            self.forget_front(nodes, locations, id, pair.0, pair.1, key);
         }
     }
 }

@@ -8,7 +8,7 @@ use Rattle.kdg_graph.proofs.source_lane.SourceLane.forget_front.Goals as goal
 
 pub loop-place-init : goal.loop-place-init
 loop-place-init c =
-    let start : ℕ = c.front-behind.result.start in
+    let start : ℕ = c.front_behind-behind.result.start in
     let none : start - start ≡ 0 = omega arith in
     record {
       ids = λ test selected. subst (λ (n : ℕ). AreSelected c.args.nodes.now.nodes (forgotten (take n (drop start (lane_of c.args.locations.now.locations.items c.args.loc c.args.access))) test) c.args.self.now.ids) (sym none) selected;
@@ -19,17 +19,17 @@ loop-place-init c =
 
 pub forget-requires-clause-there : goal.forget-requires-clause-there
 forget-requires-clause-there c =
-    let inside : c.loop-place.place < length (lane_of c.args.locations.now.locations.items c.args.loc c.args.access) = omega (arith, c.loop-place-test.true, c.front-behind.ensures.inside) in
+    let inside : c.loop-place.place < length (lane_of c.args.locations.now.locations.items c.args.loc c.args.access) = omega (arith, c.loop-place-test.true, c.front_behind-behind.ensures.inside) in
     lane_has c.args.nodes.now.nodes (clashes_at c.args.loc c.args.access) (lane_of c.args.locations.now.locations.items c.args.loc c.args.access) c.loop-place.place c.at.result c.requires.graph (c.requires.filed c.args.loc c.args.access) inside c.at.ensures
 
 pub loop-place-preserved : goal.loop-place-preserved
 loop-place-preserved c =
     let lane : List NodeId = lane_of c.args.locations.now.locations.items c.args.loc c.args.access in
-    let inside : c.loop-place.place < length lane = omega (arith, c.loop-place-test.true, c.front-behind.ensures.inside) in
+    let inside : c.loop-place.place < length lane = omega (arith, c.loop-place-test.true, c.front_behind-behind.ensures.inside) in
     record {
       ids = λ test selected.
-          front_done (λ _. false) c.args.nodes.now.nodes lane c.front-behind.result.start c.loop-place.place c.at.result test c.forget.new.self.ids c.loop-place.auto.place inside c.at.ensures
-          (c.forget.ensures.ids (forgotten (take (c.loop-place.place - c.front-behind.result.start) (drop c.front-behind.result.start lane)) test) (c.loop-place.invariant.ids test selected));
+          front_done (λ _. false) c.args.nodes.now.nodes lane c.front_behind-behind.result.start c.loop-place.place c.at.result test c.forget.new.self.ids c.loop-place.auto.place inside c.at.ensures
+          (c.forget.ensures.ids (forgotten (take (c.loop-place.place - c.front_behind-behind.result.start) (drop c.front_behind-behind.result.start lane)) test) (c.loop-place.invariant.ids test selected));
       some = c.forget.ensures.some;
       room = omega (arith, c.loop-place.invariant.room, c.forget.ensures.room);
       marks = c.forget.ensures.marks ∙ c.loop-place.invariant.marks;
@@ -39,6 +39,6 @@ pub returns-clause-ids : goal.returns-clause-ids
 returns-clause-ids c test selected =
     let lane : List NodeId = lane_of c.args.locations.now.locations.items c.args.loc c.args.access in
     let nodes : List Node = c.args.nodes.now.nodes in
-    let start : ℕ = c.front-behind.result.start in
-    let at_end : c.loop-place.place ≡ c.front-behind.result.end = omega (arith, c.loop-place-test.false, c.loop-place.auto.place-end c.front-behind.ensures.ordered) in
-    subst (λ (l : List NodeId). AreSelected nodes (forgotten l test) c.loop-place.self.ids) (ap (λ (n : ℕ). take (n - start) (drop start lane)) at_end ∙ c.front-behind.ensures.ids) (c.loop-place.invariant.ids test selected)
+    let start : ℕ = c.front_behind-behind.result.start in
+    let at_end : c.loop-place.place ≡ c.front_behind-behind.result.end = omega (arith, c.loop-place-test.false, c.loop-place.auto.place-end c.front_behind-behind.ensures.ordered) in
+    subst (λ (l : List NodeId). AreSelected nodes (forgotten l test) c.loop-place.self.ids) (ap (λ (n : ℕ). take (n - start) (drop start lane)) at_end ∙ c.front_behind-behind.ensures.ids) (c.loop-place.invariant.ids test selected)
