@@ -1,6 +1,6 @@
 -- The places of the nodes that one node may block alone.
 use Rattle.std.proofs.Common.{◌≡◌, ℕ, zero, suc, ◌+◌, ◌-◌, ◌<◌, ◌≤◌, Bool, true, false, cond, List, [], ◌∷◌, length, take, drop, get_or, Option, Some, None, refl, sym, ◌∙◌, ap, subst, arith}
-use Rattle.std.specs.Prelude.{Contains}
+use Rattle.std.specs.Prelude.{Contains, slice_get}
 use Rattle.std.specs.List.{AllByRecursion, filter}
 use Rattle.std.specs.declared.cmp.Ordering.TheVariants.{Less}
 use Rattle.std.specs.Ordering.{is_lt}
@@ -44,15 +44,12 @@ ids-take (suc place) [] = refl
 ids-take zero (node ∷ nodes) = refl
 ids-take (suc place) (node ∷ nodes) = ap (λ rest. node.id ∷ rest) (ids-take place nodes)
 
-pub first_dropped : (ids : List NodeId) (place : ℕ) (nodes : List Node) (id : NodeId) → ids ≡ ids_of nodes → place < length ids → id ≡ get_or ids place id → least_of (drop place nodes) ≡ Some id
-first_dropped [] place nodes id are inside at = absurd (omega (arith, inside))
-first_dropped (first ∷ ids) place [] id are inside at = absurd (let wrong : first ∷ ids ≡ [] = are in cc)
-first_dropped (first ∷ ids) zero (node ∷ nodes) id are inside at =
-    let head : first ≡ node.id = cc in
-    ap (λ (n : NodeId). Some n) (sym (at ∙ head))
-first_dropped (first ∷ ids) (suc place) (node ∷ nodes) id are inside at =
-    let rest : ids ≡ ids_of nodes = cc in
-    first_dropped ids place nodes id rest (omega (arith, inside)) at
+-- the id at a place is that of the first behind it
+pub first_from : (place : ℕ) (nodes : List Node) → slice_get (ids_of nodes) place ≡ least_of (drop place nodes)
+first_from zero [] = refl
+first_from (suc place) [] = refl
+first_from zero (node ∷ nodes) = refl
+first_from (suc place) (node ∷ nodes) = first_from place nodes
 
 pub none_dropped : (place : ℕ) (nodes : List Node) → length nodes ≤ place → drop place nodes ≡ []
 none_dropped zero [] beyond = refl

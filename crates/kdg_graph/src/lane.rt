@@ -1,4 +1,4 @@
-ghost use Rattle.std.specs.Prelude.{◌≡◌, ◌+◌, ◌^◌, ◌≤◌, ◌<◌, [], length, slice_index_or, true, IfSome, MatchResult, OnOk};
+ghost use Rattle.std.specs.Prelude.{◌≡◌, ◌+◌, ◌^◌, ◌≤◌, ◌<◌, [], length, slice_get, slice_index_or, true, IfSome, MatchResult, OnOk};
 ghost use Rattle.std.specs.List.{insert, remove};
 ghost use Rattle.kdg_graph.specs.Lanes.{IsBetween, IsEnded, IsLane, IsRank, IsRankPast, IsSearched, cmp_at, cmp_in, is_id_at};
 ghost use Rattle.kdg_graph.specs.Locations.{is_first_before};
@@ -59,6 +59,13 @@ impl Lane {
             Some(id) => *id,
             None => unreachable!(),
         }
+    }
+
+    /// The id at a place, if one is there.
+    pub(crate) fn get(&self, place: usize) -> Option<NodeId>
+        ensures { result ≡ slice_get self.now.ids.items place }
+    {
+        self.ids.get(place).copied()
     }
 
     /// Makes room for so many more ids.

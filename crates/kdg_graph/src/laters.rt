@@ -15,15 +15,18 @@ use task_order::Key;
 /// The ids of the later nodes whose recorded sets conflict with that of one node, in key order,
 /// seen as the list of those that are left.
 ///
-/// Each is found by halving among the nodes of one location of the set after another, up to the first
-/// location where the first of all that are left is found.
+/// Each is found among the nodes of one location of the set after another, up to the first location
+/// where the first of all that are left is found: behind the id of the one before, or else by a search.
 #[derive(Drop)]
 pub struct Laters<'g> {
     nodes: &'g OrderedNodes,
     locations: &'g Locations,
     set: &'g RwSet,
+    from: NodeId,
     after: &'g Key,
     place: usize,
+    // where that node mostly stands among those of a location
+    near: usize,
 }
 
 impl<'g> Model for Laters<'g> {
@@ -37,7 +40,7 @@ impl<'g> Model for Laters<'g> {
 
     ghost view = { λ l. ids_of (filter (λ other. conflicts_with l.set.now other.set) (later_than l.after.now l.nodes.now.nodes)) };
 
-    ghost invariant = { λ l. IsWalk l.nodes.now.nodes l.locations.now.locations.items l.after.now l.place };
+    ghost invariant = { λ l. IsWalk l.nodes.now.nodes l.locations.now.locations.items l.from l.after.now l.place };
 }
 
 impl<'g> Laters<'g> {
@@ -53,8 +56,10 @@ impl<'g> Laters<'g> {
             nodes,
             locations,
             set: &node.set,
+            from: id,
             after: &node.task.key,
             place: nodes.place_of(id) + 1,
+            near: 0,
         }
     }
 }
@@ -71,13 +76,15 @@ impl<'g> Iterator for Laters<'g> {
             return None;
         }
         let next = self.nodes.at(self.place).id;
-        let id = self
-            .locations
-            .first_in_conflict(self.nodes, self.set, self.after, next)?;
+        let id = self.locations.first_in_conflict(
+            self.nodes, self.set, self.from, self.after, self.near, next,
+        )?;
         let place = place_of(self.nodes, id, self.place);
         let node = self.nodes.at(place);
+        self.from = id;
         self.after = &node.task.key;
         self.place = place + 1;
+        self.near = self.near.saturating_add(1);
         Some(id)
     }
 }

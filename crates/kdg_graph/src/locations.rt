@@ -248,21 +248,45 @@ impl Locations {
     {
         let lane = self.lane(loc, access)?;
         let place = nodes.rank_past(lane, key);
-        if place == lane.len() {
-            return None;
-        }
-        Some(lane.at(place))
+        lane.get(place)
     }
 
-    /// The first node later than the key whose recorded set conflicts with a set. The first of all
-    /// nodes later than the key is given: none is earlier, so the search ends where it is found.
+    /// The same behind a node. Where the access writes, the node mostly is one of these, at a place or
+    /// close behind it.
+    fn first_behind(
+        &self,
+        nodes: &OrderedNodes,
+        id: NodeId,
+        key: &Key,
+        near: usize,
+        loc: u32,
+        access: Access,
+    ) -> Option<NodeId>
+        requires key { HasKey nodes.now.nodes id key.now }
+        requires filed { AreFiled nodes.now.nodes self.now.locations.items }
+        ensures { result ≡ least_of (clashing_at loc access (later_than key.now nodes.now.nodes)) }
+    {
+        if !access.is_write() {
+            return self.first_after(nodes, loc, access, key);
+        }
+        let lane = self.lane(loc, access)?;
+        let place = nodes.rank_behind(lane, id, near);
+        lane.get(place)
+    }
+
+    /// The first node later than a node whose recorded set conflicts with a set. The first of all later
+    /// nodes is given: none is earlier, so the search ends where it is found. The node mostly stands at
+    /// a place, or close behind it, among those of a location that the set writes.
     pub(crate) fn first_in_conflict(
         &self,
         nodes: &OrderedNodes,
         set: &RwSet,
+        id: NodeId,
         key: &Key,
+        near: usize,
         next: NodeId,
     ) -> Option<NodeId>
+        requires key { HasKey nodes.now.nodes id key.now }
         requires filed { AreFiled nodes.now.nodes self.now.locations.items }
         requires next { least_of (later_than key.now nodes.now.nodes) ≡ Some next }
         ensures first { result ≡ least_of (filter (λ other. conflicts_with set.now other.set) (later_than key.now nodes.now.nodes)) }
@@ -271,7 +295,7 @@ impl Locations {
         let _graph = nodes.len();
         let mut first = None;
         for pair in set.items() {
-            let other = self.first_after(nodes, pair.0, pair.1, key);
+            let other = self.first_behind(nodes, id, key, near, pair.0, pair.1);
             if other == Some(next) {
                 return other;
             }

@@ -1,4 +1,4 @@
-use Rattle.std.proofs.Common.{rules, ◌≡◌, ◌<◌, ◌∙◌, ◌∷◌, Bool, List, [], Some, add-one, ap, arith, get_or, length, subst, sym}
+use Rattle.std.proofs.Common.{rules, ◌≡◌, ◌<◌, ◌∙◌, ◌∷◌, Bool, List, [], Some, add-one, ap, arith, get_or, length, refl, subst, sym}
 use Rattle.std.specs.List.{filter}
 use Rattle.rw_sets.specs.Accesses.{conflicts_with}
 use Rattle.kdg_graph.specs.Node.{Node}
@@ -32,7 +32,8 @@ invariant_of-self c =
     let nodes : List Node = c.self.inside.nodes.now.nodes in
     let node : Node = record { id = c.node.inside.id; task = c.node.inside.task; set = c.node.inside.set; running = c.node.inside.running } in
     let at : node ≡ get_or nodes c.place_of-place.result node = subst (λ (n : Node). n ≡ get_or nodes c.place_of-place.result n) (sym c.node.view_is) c.at-node.ensures in
-    record { filed = c.self.invariant.filed; past = rw add-one (past_here nodes c.place_of-place.result node c.first_in_conflict.ensures.graph.ascending c.place_of-place.ensures.inside at) }
+    let found : node_at nodes c.in_ok-id.id ≡ Some node = found_here nodes c.in_ok-id.id c.place_of-place.result node c.place_of-place.ensures.place at in
+    record { key_of = record { node = node; there = found; key_is = refl }; filed = c.self.invariant.filed; past = rw add-one (past_here nodes c.place_of-place.result node c.first_in_conflict.ensures.graph.ascending c.place_of-place.ensures.inside at) }
 
 pub returns-clause-steps : goal.returns-clause-steps
 returns-clause-steps c =

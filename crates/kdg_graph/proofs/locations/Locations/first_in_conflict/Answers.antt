@@ -27,7 +27,7 @@ earlier-first-requires-clause-one c =
 pub earlier-first-requires-clause-other : goal.earlier-first-requires-clause-other
 earlier-first-requires-clause-other c =
     let p : ℕ × Access = get_or c.items-pair-items.result.now c.loop-pair.pair-index (0, Read) in
-    first_there c.args.nodes.now.nodes c.args.key.now (clashes_at p.0 p.1) c.first_after-other.result c.len-graph.ensures.graph c.first_after-other.ensures
+    first_there c.args.nodes.now.nodes c.args.key.now (clashes_at p.0 p.1) c.first_behind-other.result c.len-graph.ensures.graph c.first_behind-other.ensures
 
 pub loop-pair-preserved : goal.loop-pair-preserved
 loop-pair-preserved c =
@@ -37,7 +37,7 @@ loop-pair-preserved c =
     let p : ℕ × Access = get_or ps i (0, Read) in
     let at : p ≡ get_or ps i p = again ps i (0, Read) p inside in
     let later : List Node = later_than c.args.key.now c.args.nodes.now.nodes in
-    rw add-one (c.earlier-first.ensures later (clashes_so_far i ps) (clashes_at p.0 p.1) (later_among c.args.key.now c.args.nodes.now.nodes c.len-graph.ensures.graph) c.loop-pair.invariant c.first_after-other.ensures
+    rw add-one (c.earlier-first.ensures later (clashes_so_far i ps) (clashes_at p.0 p.1) (later_among c.args.key.now c.args.nodes.now.nodes c.len-graph.ensures.graph) c.loop-pair.invariant c.first_behind-other.ensures
     ∙ ap least_of (one_pair_more ps i p later inside at))
 
 pub returns-then-eq-clause-first : goal.returns-then-eq-clause-first
@@ -48,8 +48,8 @@ returns-then-eq-clause-first c =
     let p : ℕ × Access = get_or ps i (0, Read) in
     let at : get_or ps i p ≡ p = sym (again ps i (0, Read) p inside) in
     let has : Contains c.args.set.now p = subst (λ (l : Accesses). Contains l p) c.items-pair-items.ensures.all (i, inside, at) in
-    let met : c.first_after-other.result ≡ Some c.args.next = search rules in
-    met ∙ sym (first_met c.args.key.now c.args.nodes.now.nodes c.args.set.now p c.args.next c.len-graph.ensures.graph c.items-pair-items.ensures.ascending has c.requires.next (sym c.first_after-other.ensures ∙ met))
+    let met : c.first_behind-other.result ≡ Some c.args.next = search rules in
+    met ∙ sym (first_met c.args.key.now c.args.nodes.now.nodes c.args.set.now p c.args.next c.len-graph.ensures.graph c.items-pair-items.ensures.ascending has c.requires.next (sym c.first_behind-other.ensures ∙ met))
 
 pub returns-clause-first : goal.returns-clause-first
 returns-clause-first c =

@@ -1,0 +1,30 @@
+use Rattle.std.proofs.Common.{rules, ◌≡◌, ◌∙◌, List, [], None, Option, refl, subst, ap, sym}
+use Rattle.std.specs.Prelude.{IfSome, IsSome, slice_get}
+use Rattle.kdg_graph.specs.declared.node_id.NodeId.{NodeId}
+use Rattle.kdg_graph.specs.Lanes.{IsRankPast}
+use Rattle.kdg_graph.specs.Locations.{IsLaneAmong, clashing_at}
+use Rattle.kdg_graph.specs.Node.{Node}
+use Rattle.kdg_graph.specs.Nodes.{ids_of, least_of}
+use Rattle.kdg_graph.proofs.Filing.{filed_among, no_ids}
+use Rattle.kdg_graph.proofs.Fronting.{first_from, later_clashing, none_clashing}
+use Rattle.kdg_graph.proofs.locations.Locations.first_behind.Goals as goal
+
+pub rank_behind-place-requires : goal.rank_behind-place-requires
+rank_behind-place-requires c = subst IsSome (sym c.requires.key.there) refl
+
+pub returns-in_err-lane : goal.returns-in_err-lane
+returns-in_err-lane c =
+    let none : ids_of (clashing_at c.args.loc c.args.access c.args.nodes.now.nodes) ≡ [] = sym (c.requires.filed c.args.loc c.args.access) ∙ c.in_err-lane.ensures.beyond in
+    let result : c.from_residual.result ≡ None = search rules in
+    result ∙ sym (ap least_of (none_clashing c.args.key.now c.args.loc c.args.access c.args.nodes.now.nodes (no_ids (clashing_at c.args.loc c.args.access c.args.nodes.now.nodes) none)))
+
+pub returns : goal.returns
+returns c =
+    let nodes : List Node = c.args.nodes.now.nodes in
+    let some : List Node = clashing_at c.args.loc c.args.access nodes in
+    let ids : List NodeId = c.in_ok-lane.lane.now.ids.items in
+    let are : ids ≡ ids_of some = c.in_ok-lane.ensures.kept ∙ c.requires.filed c.args.loc c.args.access in
+    let among : IsLaneAmong nodes some ids = filed_among nodes c.args.loc c.args.access ids c.rank_behind-place.ensures.graph are in
+    let behind : IsRankPast c.requires.key.node.task.key some c.rank_behind-place.result = subst (λ (o : Option Node). IfSome o (λ (n : Node). IsRankPast n.task.key some c.rank_behind-place.result)) c.requires.key.there (c.rank_behind-place.ensures.rank some among) in
+    let rank : IsRankPast c.args.key.now some c.rank_behind-place.result = subst (λ k. IsRankPast k some c.rank_behind-place.result) c.requires.key.key_is behind in
+    c.get.ensures ∙ ap (λ (l : List NodeId). slice_get l c.rank_behind-place.result) are ∙ first_from c.rank_behind-place.result some ∙ ap least_of (later_clashing c.args.key.now c.args.loc c.args.access nodes c.rank_behind-place.result rank)
