@@ -234,6 +234,11 @@ pub some_first : (nodes : List Node) (id : NodeId) → least_of nodes ≡ Some i
 some_first [] id is = absurd (let wrong : None ≡ Some id = is in cc)
 some_first (node ∷ nodes) id is = (node, nodes, refl, (let same : Some node.id ≡ Some id = is in cc))
 
+-- where all that an access clashes with are later, so are all writers
+pub writers_later : (key : Key) (loc : ℕ) (access : Access) (nodes : List Node) → IsRankPast key (clashing_at loc access nodes) 0 → clashing_at loc Read nodes ≡ clashing_at loc Read (later_than key nodes)
+writers_later key loc access nodes rank =
+    sym (writers_within loc access nodes) ∙ ap (clashing_at loc Read) (later_clashing key loc access nodes 0 rank) ∙ writers_within loc access (later_than key nodes)
+
 -- the first writer behind a key is a node of the graph
 pub first_writer : (key : Key) (loc : ℕ) (nodes : List Node) (id : NodeId) → IsGraph nodes → least_of (clashing_at loc Read (later_than key nodes)) ≡ Some id
     → (writer : Node) × (rest : List Node) × (clashing_at loc Read (later_than key nodes) ≡ writer ∷ rest) × (node_at nodes id ≡ Some writer)

@@ -217,11 +217,32 @@ impl Locations {
         if self.all_write(loc, access) {
             return start..start + 1;
         }
-        let end = match self.first_after(nodes, loc, Access::Read, key) {
+        let end = match self.writer_behind(nodes, loc, access, key, start) {
             Some(writer) => nodes.rank_behind(lane, writer, start),
             None => lane.len(),
         };
         start..end
+    }
+
+    /// The first node later than the key that writes a location, where so many of those that an access
+    /// clashes with are not later. Where none is, it is the first of all that write it.
+    fn writer_behind(
+        &self,
+        nodes: &OrderedNodes,
+        loc: u32,
+        access: Access,
+        key: &Key,
+        start: usize,
+    ) -> Option<NodeId>
+        requires rank { IsRankPast key.now (clashing_at loc access nodes.now.nodes) start }
+        requires filed { AreFiled nodes.now.nodes self.now.locations.items }
+        ensures { result ≡ least_of (clashing_at loc Read (later_than key.now nodes.now.nodes)) }
+    {
+        if start > 0 {
+            return self.first_after(nodes, loc, Access::Read, key);
+        }
+        let writers = self.lane(loc, Access::Read)?;
+        writers.get(0)
     }
 
     /// The id at a place among the nodes that an access to a location clashes with.
