@@ -1,8 +1,6 @@
-use Rattle.std.proofs.Common.{◌≡◌, ◌∙◌, List, Option, [], ap, refl, subst, sym}
-use Rattle.std.specs.Prelude.{IfSome, IsSome}
+use Rattle.std.proofs.Common.{◌≡◌, ◌∙◌, List, [], ap, sym}
 use Rattle.kdg_graph.specs.declared.node_id.NodeId.{NodeId}
-use Rattle.kdg_graph.specs.Lanes.{IsRankPast}
-use Rattle.kdg_graph.specs.Locations.{IsLaneAmong, clashing_at, up_to_writer}
+use Rattle.kdg_graph.specs.Locations.{clashing_at, up_to_writer}
 use Rattle.kdg_graph.specs.Node.{Node}
 use Rattle.kdg_graph.specs.Nodes.{ids_of}
 use Rattle.kdg_graph.proofs.Filing.{filed_among, no_ids}

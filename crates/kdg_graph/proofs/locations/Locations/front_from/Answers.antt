@@ -1,9 +1,9 @@
-use Rattle.std.proofs.Common.{◌≡◌, ◌-◌, ◌∙◌, List, [], ◌∷◌, Option, Some, ap, arith, drop, eqb-true, length, refl, subst, sym, take}
+use Rattle.std.proofs.Common.{◌≡◌, ◌-◌, ◌∙◌, List, [], Option, Some, ap, arith, drop, eqb-true, length, refl, subst, sym, take}
 use Rattle.std.specs.Prelude.{IfSome, IsSome}
 use Rattle.rw_sets.specs.declared.access.Access.TheVariants.{Read}
 use Rattle.kdg_graph.specs.declared.node_id.NodeId.{NodeId}
 use Rattle.kdg_graph.specs.Lanes.{IsRankPast}
-use Rattle.kdg_graph.specs.Locations.{IsLaneAmong, clashing_at, lane_of, up_to_writer}
+use Rattle.kdg_graph.specs.Locations.{IsLaneAmong, clashing_at, lane_of}
 use Rattle.kdg_graph.specs.Node.{Node}
 use Rattle.kdg_graph.specs.Nodes.{ids_of, later_than, least_of}
 use Rattle.kdg_graph.proofs.Filing.{filed_among}

@@ -1,6 +1,5 @@
-use Rattle.std.proofs.Common.{◌≡◌, ◌∙◌, List, Option, Some, true, not, ap, subst, sym}
+use Rattle.std.proofs.Common.{◌≡◌, ◌∙◌, List, Option, Some, true, not, ap, subst}
 use Rattle.std.specs.Prelude.{Contains, IfSome}
-use Rattle.rw_sets.specs.declared.access.Access.TheVariants.{Write}
 use Rattle.rw_sets.specs.Accesses.{access_at, clash}
 use Rattle.kdg_graph.specs.declared.node_id.NodeId.{NodeId}
 use Rattle.kdg_graph.specs.Locations.{clashes_at, clashing_at, is_first_before}

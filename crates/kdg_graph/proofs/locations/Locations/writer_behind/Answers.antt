@@ -5,7 +5,7 @@ use Rattle.kdg_graph.specs.declared.node_id.NodeId.{NodeId}
 use Rattle.kdg_graph.specs.Lanes.{IsRankPast}
 use Rattle.kdg_graph.specs.Locations.{clashing_at}
 use Rattle.kdg_graph.specs.Node.{Node}
-use Rattle.kdg_graph.specs.Nodes.{ids_of, later_than, least_of}
+use Rattle.kdg_graph.specs.Nodes.{ids_of, least_of}
 use Rattle.kdg_graph.proofs.Filing.{no_ids}
 use Rattle.kdg_graph.proofs.Fronting.{first_from, writers_later}
 use Rattle.kdg_graph.proofs.locations.Locations.writer_behind.Goals as goal

@@ -1,6 +1,5 @@
 use Rattle.std.proofs.Common.{◌≡◌, ◌+◌, ◌<◌, ◌∙◌, add-one, arith, length, List, Option, Some, ap, subst, sym}
 use Rattle.std.specs.Prelude.{IfSome}
-use Rattle.kdg_graph.specs.declared.node_id.NodeId.{NodeId}
 use Rattle.kdg_graph.specs.Lanes.{IsRankPast}
 use Rattle.kdg_graph.specs.Locations.{IsLaneAmong}
 use Rattle.kdg_graph.specs.Node.{Node}

@@ -1,9 +1,8 @@
-use Rattle.std.proofs.Common.{◌≡◌, ◌∙◌, List, Option, Some, subst}
+use Rattle.std.proofs.Common.{◌∙◌, List, Option, subst}
 use Rattle.std.specs.Prelude.{IfSome}
 use Rattle.kdg_graph.specs.declared.node_id.NodeId.{NodeId}
 use Rattle.kdg_graph.specs.Lanes.{IsFound, IsGap}
 use Rattle.kdg_graph.specs.Node.{Node}
-use Rattle.kdg_graph.specs.Nodes.{node_at}
 use Rattle.kdg_graph.proofs.Among.{not_filed, unfiled}
 use Rattle.kdg_graph.proofs.Selecting.{found_node}
 use Rattle.kdg_graph.proofs.Sought.{id_apart, id_found, inside_among}
