@@ -291,8 +291,8 @@ impl Locations {
             return self.first_after(nodes, loc, access, key);
         }
         let lane = self.lane(loc, access)?;
-        let place = nodes.rank_behind(lane, id, near);
-        lane.get(place)
+        let next = nodes.rank_behind(lane, id, near);
+        lane.get(next)
     }
 
     /// The first node later than a node whose recorded set conflicts with a set. The first of all later

@@ -9,8 +9,8 @@ use Rattle.kdg_graph.proofs.Filing.{filed_among, no_ids}
 use Rattle.kdg_graph.proofs.Fronting.{first_from, later_clashing, none_clashing}
 use Rattle.kdg_graph.proofs.locations.Locations.first_behind.Goals as goal
 
-pub rank_behind-place-requires : goal.rank_behind-place-requires
-rank_behind-place-requires c = subst IsSome (sym c.requires.key.there) refl
+pub rank_behind-next-requires : goal.rank_behind-next-requires
+rank_behind-next-requires c = subst IsSome (sym c.requires.key.there) refl
 
 pub returns-in_err-lane : goal.returns-in_err-lane
 returns-in_err-lane c =
@@ -24,7 +24,7 @@ returns c =
     let some : List Node = clashing_at c.args.loc c.args.access nodes in
     let ids : List NodeId = c.in_ok-lane.lane.now.ids.items in
     let are : ids ≡ ids_of some = c.in_ok-lane.ensures.kept ∙ c.requires.filed c.args.loc c.args.access in
-    let among : IsLaneAmong nodes some ids = filed_among nodes c.args.loc c.args.access ids c.rank_behind-place.ensures.graph are in
-    let behind : IsRankPast c.requires.key.node.task.key some c.rank_behind-place.result = subst (λ (o : Option Node). IfSome o (λ (n : Node). IsRankPast n.task.key some c.rank_behind-place.result)) c.requires.key.there (c.rank_behind-place.ensures.rank some among) in
-    let rank : IsRankPast c.args.key.now some c.rank_behind-place.result = subst (λ k. IsRankPast k some c.rank_behind-place.result) c.requires.key.key_is behind in
-    c.get.ensures ∙ ap (λ (l : List NodeId). slice_get l c.rank_behind-place.result) are ∙ first_from c.rank_behind-place.result some ∙ ap least_of (later_clashing c.args.key.now c.args.loc c.args.access nodes c.rank_behind-place.result rank)
+    let among : IsLaneAmong nodes some ids = filed_among nodes c.args.loc c.args.access ids c.rank_behind-next.ensures.graph are in
+    let behind : IsRankPast c.requires.key.node.task.key some c.rank_behind-next.result = subst (λ (o : Option Node). IfSome o (λ (n : Node). IsRankPast n.task.key some c.rank_behind-next.result)) c.requires.key.there (c.rank_behind-next.ensures.rank some among) in
+    let rank : IsRankPast c.args.key.now some c.rank_behind-next.result = subst (λ k. IsRankPast k some c.rank_behind-next.result) c.requires.key.key_is behind in
+    c.get.ensures ∙ ap (λ (l : List NodeId). slice_get l c.rank_behind-next.result) are ∙ first_from c.rank_behind-next.result some ∙ ap least_of (later_clashing c.args.key.now c.args.loc c.args.access nodes c.rank_behind-next.result rank)
