@@ -11,7 +11,7 @@ use Rattle.task_order.specs.Key.{key_cmp}
 use Rattle.task_order.specs.TaskList.{IsAscending, is_earlier, tasks_before}
 use Rattle.task_order.specs.Blocks.{tasks_in, starts_by, IsGapless, block_at, IsPlace}
 use Rattle.task_order.proofs.Counts.{counts_earlier}
-use Rattle.task_order.proofs.Places.{ascending_parts, AreInTurn, block_ascends, blocks_partitioned, earlier_than_started, place_in_block}
+use Rattle.task_order.proofs.Places.{ascending_parts, AreInTurn, block_ascends, blocks_partitioned, earlier_than_started, place_at_front, place_in_block}
 use Rattle.task_order.proofs.Priorities.{started_from_some}
 
 all_at : (P : Task → Type 0) (tasks : List Task) (i : ℕ) (d : Task) → AllByRecursion P tasks → i < length tasks → P (get_or tasks i d)
@@ -68,3 +68,7 @@ place_near key blocks at place up gapless inside some found ends =
     subst (λ n. IsPlace key blocks at n) (sym found)
     (place_in_block key blocks at up inside (started_from_some key (block_at blocks at) (block_ascends blocks at up) (omega (arith, some, found)))
     (λ k d after below. no_start key blocks at place k d up gapless found ends after below))
+
+-- a key before the first task
+pub place_before_first : (key : Key) (blocks : List (List Task)) → IsAscending (tasks_in blocks) → IsGapless blocks → starts_by key (block_at blocks 0) ≡ false → IsPlace key blocks 0 0
+place_before_first key blocks up gapless late = place_at_front key blocks up (λ k d inside. no_start_from key blocks 0 k d _ gapless up late (omega arith) inside refl)

@@ -1,9 +1,11 @@
-ghost use Rattle.std.specs.Prelude.{◌≡◌, ◌+◌, ◌<◌, ◌≤◌, ◌-◌, ◌^◌, Some, [], ◌∷◌, ◌++◌, length, take, drop, slice_get, IfOk, IfSome, IfNone, OnOk, OnErr, IsTrue, ◌↔◌};
+ghost use Rattle.std.specs.Prelude.{◌≡◌, ◌+◌, ◌<◌, ◌≤◌, ◌-◌, ◌^◌, Some, [], ◌∷◌, ◌++◌, length, take, drop, slice_get, slice_index_or, IfOk, IfSome, IfNone, OnOk, OnErr, IsTrue, ◌↔◌};
+ghost use Rattle.std.specs.Bool.{OnTrue, OnFalse};
 ghost use Rattle.std.specs.List.{insert, remove};
 ghost use Rattle.std.specs.Map.Iter.{deref};
 ghost use Rattle.std.specs.Option.{option_map};
 ghost use Rattle.std.specs.VecDeque.{deque_len, deque_capacity};
 ghost use Rattle.std.specs.VecDeque.Iter.{deque_iter_rest};
+ghost use Rattle.task_order.specs.declared.task.Task.{Task};
 ghost use Rattle.task_order.specs.Key.{key_cmp};
 ghost use Rattle.task_order.specs.TaskList.{IsAscending, tasks_before};
 ghost use Rattle.task_order.specs.Blocks.{starts_by, starts_within, full_length, IsEndOfPriority, IsFirstPriority};
@@ -23,6 +25,9 @@ const STRIDE: usize = 8;
 
 /// How many tasks a search passes that begins near its end.
 const NEAR: usize = 8;
+
+/// How many tasks of its priority a key may come before, to be found from their end.
+const LAST: usize = 2;
 
 /// A part of a list of tasks.
 #[derive(Drop)]
@@ -166,29 +171,58 @@ impl Block {
         Some(place)
     }
 
-    /// The place of a key behind all tasks of at most its priority, where it is later than those.
-    pub(crate) fn place_behind_prio(&self, key: &Key) -> Option<usize>
+    /// The place of a key that is behind an earlier task, where at most a few tasks of its priority come
+    /// behind that place.
+    pub(crate) fn place_by_prio(&self, key: &Key) -> Option<usize>
         requires { IsAscending self.now }
         ensures place { IfSome result (λ place. place ≡ length (tasks_before key.now self.now)) }
         ensures some { IfSome result (λ place. 0 < place) }
     {
-        let place = self.up_to(key.prio);
-        if self.is_earlier_at(place.checked_sub(1)?, key) {
-            Some(place)
-        } else {
-            None
+        let end = self.up_to(key.prio);
+        let mut place = end;
+        while !self.is_earlier_at(place.checked_sub(1)?, key) {
+            if end - place >= LAST {
+                return None;
+            }
+            place -= 1;
         }
+        Some(place)
     }
 
     /// How many of the tasks have at most this priority. Often these are all.
     fn up_to(&self, prio: u64) -> usize
-        requires { IsAscending self.now }
         ensures { IsEndOfPriority prio self.now result }
     {
         match self.tasks.back() {
             Some(last) if last.key.prio <= prio => self.tasks.len(),
-            _ => self.tasks.partition_point(|task| task.key.prio <= prio),
+            _ => self.end_of_prio(prio),
         }
+    }
+
+    /// The same by a search, in strides as for a key.
+    fn end_of_prio(&self, prio: u64) -> usize
+        ensures { IsEndOfPriority prio self.now result }
+    {
+        let mut end: usize = 0;
+        while self.is_within_at(end.saturating_add(STRIDE - 1), prio) {
+            end += STRIDE;
+        }
+        while self.is_within_at(end, prio) {
+            end += 1;
+        }
+        end
+    }
+
+    /// Whether there is a task at a place that has at most this priority.
+    fn is_within_at(&self, place: usize, prio: u64) -> bool
+        ensures inside { OnTrue result (place < length self.now) }
+        ensures above { OnFalse result ((d : Task) → place < length self.now → prio < (slice_index_or self.now place d).key.prio) }
+        ensures small { length self.now < 2 ^ 64 }
+    {
+        if place >= self.len() {
+            return false;
+        }
+        self.tasks[place].key.prio <= prio
     }
 
     /// Whether there is a task at a place that is earlier than the key.

@@ -64,14 +64,17 @@ impl Blocks {
         }
     }
 
-    /// Where a key belongs, by its priority or else by a search.
+    /// Where a key belongs, which is the front, or else is found by the priority or by the whole key.
     fn place_among(&self, key: &Key) -> (usize, usize)
         requires ascending { IsAscending (tasks_in self.now) }
         requires gapless { IsGapless self.now }
         ensures { IsPlace key.now self.now result.0 result.1 }
     {
-        match self.end_of_prio(key) {
-            Some(end) => end,
+        if !self.is_started_at(0, key) {
+            return (0, 0);
+        }
+        match self.place_by_prio(key) {
+            Some(place) => place,
             None => self.search(key),
         }
     }
@@ -122,15 +125,15 @@ impl Blocks {
         }
     }
 
-    /// The end of the tasks of at most the key's priority, where the last of these is earlier than
-    /// the key.
-    fn end_of_prio(&self, key: &Key) -> Option<(usize, usize)>
+    /// Where a key belongs, where it comes behind an earlier task of its block, and before at most a few
+    /// tasks of its priority.
+    fn place_by_prio(&self, key: &Key) -> Option<(usize, usize)>
         requires ascending { IsAscending (tasks_in self.now) }
         requires gapless { IsGapless self.now }
-        ensures { IfSome result (λ end. IsPlace key.now self.now end.0 end.1) }
+        ensures { IfSome result (λ found. IsPlace key.now self.now found.0 found.1) }
     {
         let at = self.started_within(key.prio).checked_sub(1)?;
-        let place = self.blocks[at].place_behind_prio(key)?;
+        let place = self.blocks[at].place_by_prio(key)?;
         Some((at, place))
     }
 
