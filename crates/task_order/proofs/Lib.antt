@@ -15,3 +15,4 @@ pub mod Ends
 pub mod Priorities
 pub mod Near
 pub mod Rooms
+pub mod Strides

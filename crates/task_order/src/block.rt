@@ -163,7 +163,7 @@ impl Block {
         }
         let mut place = start;
         while self.is_earlier_at(place, key) {
-            if place - start >= NEAR {
+            if place == start && self.is_earlier_at(start.saturating_add(NEAR), key) {
                 return None;
             }
             place += 1;

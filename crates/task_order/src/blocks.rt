@@ -15,6 +15,9 @@ use std::alloc::Global;
 use std::collections::{VecDeque, vec_deque};
 use std::marker::Model;
 
+/// How many times as many blocks a step of a search passes as one that comes later.
+const BRANCH: usize = 8;
+
 /// How many tasks stay in a full block that is cut in two, at least.
 const HALF: usize = 32;
 
@@ -102,7 +105,8 @@ impl Blocks {
 
     /// Whether there is a block at a place whose first task is not later than the key.
     fn is_started_at(&self, at: usize, key: &Key) -> bool
-        ensures { result ≡ starts_by key.now (block_at self.now at) }
+        ensures starts { result ≡ starts_by key.now (block_at self.now at) }
+        ensures inside { OnTrue result (at < length self.now) }
     {
         match self.blocks.get(at) {
             Some(block) => block.starts_by(key),
@@ -137,15 +141,50 @@ impl Blocks {
         Some((at, place))
     }
 
-    /// How many blocks have a first task of at most this priority.
+    /// How many blocks have a first task of at most this priority: in strides that become shorter, since
+    /// a step that doesn't wait for the one before costs less than a step of a search by halves.
     fn started_within(&self, prio: u64) -> usize
         requires ascending { IsAscending (tasks_in self.now) }
         requires gapless { IsGapless self.now }
         ensures bound { result ≤ length self.now }
         ensures point { IsPartitionPoint (λ block. starts_within prio block ≡ true) (λ block. starts_within prio block ≡ false) self.now result }
     {
-        self.blocks
-            .partition_point(|block| block.starts_within(prio))
+        let mut count: usize = 0;
+        let mut stride = self.longest_stride();
+        while stride > 1 {
+            while self.is_started_within_at(count.saturating_add(stride - 1), prio) {
+                count += stride;
+            }
+            stride /= BRANCH;
+        }
+        while self.is_started_within_at(count, prio) {
+            count += 1;
+        }
+        count
+    }
+
+    /// How many blocks the first steps of a search pass.
+    fn longest_stride(&self) -> usize
+        ensures some { 1 ≤ result }
+        ensures small { length self.now < 2 ^ 64 }
+    {
+        let most = self.count() / BRANCH;
+        let mut stride = 1;
+        while stride < most {
+            stride *= BRANCH;
+        }
+        stride
+    }
+
+    /// Whether there is a block at a place whose first task has at most this priority.
+    fn is_started_within_at(&self, at: usize, prio: u64) -> bool
+        ensures starts { result ≡ starts_within prio (block_at self.now at) }
+        ensures inside { OnTrue result (at < length self.now) }
+    {
+        match self.blocks.get(at) {
+            Some(block) => block.starts_within(prio),
+            None => false,
+        }
     }
 
     /// Where a key belongs, by a search.
@@ -167,14 +206,25 @@ impl Blocks {
         self.blocks.len()
     }
 
-    /// How many blocks have a first task that is not later than the key.
+    /// How many blocks have a first task that is not later than the key, in the same way.
     fn started_by(&self, key: &Key) -> usize
         requires ascending { IsAscending (tasks_in self.now) }
         requires gapless { IsGapless self.now }
         ensures bound { result ≤ length self.now }
         ensures point { IsPartitionPoint (λ block. starts_by key.now block ≡ true) (λ block. starts_by key.now block ≡ false) self.now result }
     {
-        self.blocks.partition_point(|block| block.starts_by(key))
+        let mut count: usize = 0;
+        let mut stride = self.longest_stride();
+        while stride > 1 {
+            while self.is_started_at(count.saturating_add(stride - 1), key) {
+                count += stride;
+            }
+            stride /= BRANCH;
+        }
+        while self.is_started_at(count, key) {
+            count += 1;
+        }
+        count
     }
 
     /// Whether there is a block at a place that isn't full.

@@ -27,4 +27,4 @@ returns c =
     block_read c.self.inside.blocks.items c.args.self.now (at + 1) at c.index-block.result.now c.self.view_is c.index-block.ensures (omega arith) (omega arith) (omega (arith, c.count.ensures, c.if-at-count.false)) in
     place_near c.args.key.now c.args.self.now at c.in_ok-place.place c.requires.ascending c.requires.gapless (omega (arith, c.count.ensures, c.if-at-count.false)) c.in_ok-place.ensures.some
     (c.in_ok-place.ensures.place ∙ ap (λ block. length (tasks_before c.args.key.now block)) read)
-    (inr (sym c.is_started_at.ensures ∙ c.if-is_started_at.false))
+    (inr (sym c.is_started_at.ensures.starts ∙ c.if-is_started_at.false))

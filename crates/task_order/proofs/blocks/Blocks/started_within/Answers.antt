@@ -1,12 +1,22 @@
-use Rattle.std.proofs.Common.{rules, of_calls}
-use Rattle.std.proofs.lemmas.List.Sorted.{IsPartitionPoint-from_clause}
-use Rattle.task_order.specs.Blocks.{starts_within}
+use Rattle.std.proofs.Common.{◌≡◌, ◌+◌, ◌-◌, ◌≤◌, ◌∙◌, inr, true, sym, subst, length, arith}
+use Rattle.task_order.specs.Blocks.{block_at, starts_within}
 use Rattle.task_order.proofs.Priorities.{blocks_within}
+use Rattle.task_order.proofs.Strides.{point_from_ends}
 use Rattle.task_order.proofs.blocks.Blocks.started_within.Goals as goal
+
+pub overflow_add-count : goal.overflow_add-count
+overflow_add-count c = omega (arith, c.loop-count-test.ensures.inside, c.saturating_add.ensures, c.longest_stride-stride.ensures.small)
+
+pub loop-count-preserved : goal.loop-count-preserved
+loop-count-preserved c =
+    let inside : c.loop-count.count + c.loop-stride.stride ≤ length c.args.self.now = omega (arith, c.loop-count-test.ensures.inside, c.saturating_add.ensures, c.longest_stride-stride.ensures.small, c.loop-stride-test.true) in
+    let same : c.saturating_add.result ≡ c.loop-count.count + c.loop-stride.stride - 1 = omega (arith, c.loop-count-test.ensures.inside, c.saturating_add.ensures, c.longest_stride-stride.ensures.small, c.loop-stride-test.true) in
+    (inside, inr (subst (λ i. starts_within c.args.prio (block_at c.args.self.now i) ≡ true) same (sym c.loop-count-test.ensures.starts)))
+
+pub overflow_add-count-in-loop-count-2 : goal.overflow_add-count-in-loop-count-2
+overflow_add-count-in-loop-count-2 c = omega (arith, c.loop-count-2-test.ensures.inside, c.longest_stride-stride.ensures.small)
 
 pub returns-clause-point : goal.returns-clause-point
 returns-clause-point c =
-    let prio = c.args.prio in
-    let blocks = c.self.inside.blocks.items in
-    rw (← c.self.view_is)
-    (IsPartitionPoint-from_clause (starts_within prio) blocks c.partition_point.result c.partition_point.ensures.partitioned (blocks_within prio blocks (rw c.self.view_is c.requires.gapless) (rw c.self.view_is c.requires.ascending)) (λ a r f k. search (rules, of_calls)))
+    point_from_ends (starts_within c.args.prio) c.args.self.now c.loop-count-2.count (blocks_within c.args.prio c.args.self.now c.requires.gapless c.requires.ascending) c.loop-count-2.invariant.0 c.loop-count-2.invariant.1
+    (sym c.is_started_within_at-in-loop-count-2.ensures.starts ∙ c.loop-count-2-test.false)
