@@ -1,8 +1,9 @@
 -- Where a key belongs by its priority alone.
-use Rattle.std.proofs.Common.{◌≡◌, ℕ, zero, suc, ◌-◌, ◌<◌, ◌≤◌, ◌⊎◌, inl, inr, Bool, true, false, List, [], ◌∷◌, ◌++◌, length, get_or, refl, sym, ap, subst, arith}
+use Rattle.std.proofs.Common.{◌≡◌, ℕ, zero, suc, ◌+◌, ◌-◌, ◌<◌, ◌≤◌, ◌⊎◌, inl, inr, Bool, true, false, List, [], ◌∷◌, ◌++◌, length, get_or, refl, sym, ◌∙◌, ap, subst, arith, length-append}
 use Rattle.std.specs.Prelude.{nat_le}
 use Rattle.std.proofs.lemmas.Bool.{true≢false, cases_lt}
 use Rattle.std.proofs.lemmas.Bool.Decides.{nat_tests}
+use Rattle.std.proofs.lemmas.List.{get_or_append_left, get_or-append-add, get_or-append_right}
 use Rattle.std.specs.List.{AllByRecursion}
 use Rattle.std.specs.List.Sorted.{IsPartitionedBy, IsPartitionPoint}
 use Rattle.std.specs.Cmp.Lexicographic.{slice_cmp}
@@ -118,3 +119,22 @@ place_at_prio key blocks count at place up one is inside point some found =
     subst (λ n. IsPlace key blocks at n) (sym found)
     (place_in_block key blocks at up (omega (arith, one, is, inside)) (started_from_some key (block_at blocks at) (block_ascends blocks at up) (omega (arith, some, found)))
     (λ k d after below. not_started key (get_or blocks k d) (point.1 k d (omega (arith, one, is, after)) below)))
+
+-- ---- the two parts of a block
+
+end_in_front_by : (prio : ℕ) (front back : List Task) (place : ℕ) (d : Task) → IsEndOfPriority prio front place → ((d : Task) → 0 < length back → prio < (get_or back 0 d).key.prio) → place < length (front ++ back)
+    → (place < length front) ⊎ (length front ≤ place) → prio < (get_or (front ++ back) place d).key.prio
+end_in_front_by prio front back place d end above below (inl inside) = subst (λ (t : Task). prio < t.key.prio) (sym (get_or_append_left front back d place inside)) (end.1 d inside)
+end_in_front_by prio front back place d end above below (inr outside) =
+    let same : place - length front ≡ 0 = omega (arith, end.0, outside) in
+    subst (λ (t : Task). prio < t.key.prio) (sym (get_or-append_right front back (length front) place d refl outside ∙ ap (λ n. get_or back n d) same)) (above d (omega (arith, below, outside, end.0, length-append front back)))
+
+-- the end in the first part, where the second has none or starts above
+pub end_in_front : (prio : ℕ) (front back : List Task) (place : ℕ) → IsEndOfPriority prio front place → ((d : Task) → 0 < length back → prio < (get_or back 0 d).key.prio) → IsEndOfPriority prio (front ++ back) place
+end_in_front prio front back place end above = (omega (arith, end.0, length-append front back), λ d below. end_in_front_by prio front back place d end above below (cases_lt place (length front)))
+
+-- the end in the second part
+pub end_in_back : (prio : ℕ) (front back : List Task) (place : ℕ) → IsEndOfPriority prio back place → IsEndOfPriority prio (front ++ back) (length front + place)
+end_in_back prio front back place end =
+    (omega (arith, end.0, length-append front back),
+    λ d below. subst (λ (t : Task). prio < t.key.prio) (sym (get_or-append-add front back place d)) (end.1 d (omega (arith, below, length-append front back))))

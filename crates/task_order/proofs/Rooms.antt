@@ -157,3 +157,22 @@ gapless_with_one blocks at block (inr all) filled = inr (all_with_one blocks at 
 
 pub length-insert : (tasks : List Task) (place : ℕ) (task : Task) → place ≤ length tasks → length (insert tasks place task) ≡ suc (length tasks)
 length-insert tasks place task within = omega (arith, length-append (take place tasks) (task ∷ drop place tasks), length-take place tasks, length-drop place tasks, within)
+
+-- ---- an empty block before all
+
+later_than : (key : Key) (blocks : List (List Task)) → IsPlace key blocks 0 0 → IsNewKey key (tasks_in blocks) → AllByRecursion (λ task. key_cmp key task.key ≡ Less) (tasks_in blocks)
+later_than key [] found new = tt
+later_than key (block ∷ blocks) found new = All-append (λ task. key_cmp key task.key ≡ Less) block (tasks_in blocks) (later_in_block key (block ∷ blocks) 0 0 found new) found.later
+
+-- a new key before all tasks belongs to an empty block there
+pub place_in_first : (key : Key) (blocks : List (List Task)) → IsPlace key blocks 0 0 → IsNewKey key (tasks_in blocks) → IsPlace key (insert blocks 0 []) 0 0
+place_in_first key blocks found new =
+    place_between key [] blocks [] 0 0 (omega arith) (record {
+      within = omega arith;
+      earlier = tt;
+      not_earlier = tt;
+      later = later_than key blocks found new;
+    })
+
+pub free_first : (blocks : List (List Task)) → AllByRecursion IsFilled blocks → IsFree (insert blocks 0 []) 0
+free_first blocks filled = free_between [] blocks [] 0 (omega arith) (omega arith) tt filled

@@ -60,7 +60,7 @@ fn prio_of_first(tasks: &VecDeque<Task>) -> u64
     }
 }
 
-/// Puts a task at a place, which usually is the end, where there is room for it.
+/// Puts a task at a place, which usually is an end, where there is room for it.
 fn put_at(tasks: &mut VecDeque<Task>, place: usize, task: Task)
     requires place { place ≤ length tasks.old.items }
     requires room { deque_len tasks.old < deque_capacity tasks.old }
@@ -69,6 +69,10 @@ fn put_at(tasks: &mut VecDeque<Task>, place: usize, task: Task)
 {
     if place == tasks.len() {
         tasks.push_back_reserved(task);
+        return;
+    }
+    if place == 0 {
+        tasks.push_front_reserved(task);
         return;
     }
     match tasks.insert(place, task) {
@@ -93,6 +97,33 @@ fn move_end(tasks: &mut VecDeque<Task>, place: usize, end: &mut VecDeque<Task>)
         };
         end.push_front_reserved(task);
     }
+}
+
+/// How many of the first tasks have at most this priority: in strides, and then one by one, since a step
+/// that doesn't wait for the one before costs less than a step of a search by halves.
+fn end_in(tasks: &[Task], prio: u64) -> usize
+    ensures { IsEndOfPriority prio tasks.now result }
+{
+    let mut end: usize = 0;
+    while is_within_at(tasks, end.saturating_add(STRIDE - 1), prio) {
+        end += STRIDE;
+    }
+    while is_within_at(tasks, end, prio) {
+        end += 1;
+    }
+    end
+}
+
+/// Whether there is a task at a place that has at most this priority.
+fn is_within_at(tasks: &[Task], place: usize, prio: u64) -> bool
+    ensures inside { OnTrue result (place < length tasks.now) }
+    ensures above { OnFalse result ((d : Task) → place < length tasks.now → prio < (slice_index_or tasks.now place d).key.prio) }
+    ensures small { length tasks.now < 2 ^ 63 }
+{
+    if place >= tasks.len() {
+        return false;
+    }
+    tasks[place].key.prio <= prio
 }
 
 impl Block {
@@ -136,8 +167,7 @@ impl Block {
         self.tasks.iter()
     }
 
-    /// How many of the tasks are earlier than the key: in strides, and then one by one, since a step
-    /// that doesn't wait for the one before costs less than a step of a search by halves.
+    /// How many of the tasks are earlier than the key: in strides, and then one by one.
     pub(crate) fn rank(&self, key: &Key) -> usize
         requires { IsAscending self.now }
         ensures { result ≡ length (tasks_before key.now self.now) }
@@ -199,30 +229,16 @@ impl Block {
         }
     }
 
-    /// The same by a search, in strides as for a key.
+    /// The same by a search in one of the two parts of the queue.
     fn end_of_prio(&self, prio: u64) -> usize
         ensures { IsEndOfPriority prio self.now result }
     {
-        let mut end: usize = 0;
-        while self.is_within_at(end.saturating_add(STRIDE - 1), prio) {
-            end += STRIDE;
+        let (front, back) = self.tasks.as_slices();
+        if is_within_at(back, 0, prio) {
+            front.len() + end_in(back, prio)
+        } else {
+            end_in(front, prio)
         }
-        while self.is_within_at(end, prio) {
-            end += 1;
-        }
-        end
-    }
-
-    /// Whether there is a task at a place that has at most this priority.
-    fn is_within_at(&self, place: usize, prio: u64) -> bool
-        ensures inside { OnTrue result (place < length self.now) }
-        ensures above { OnFalse result ((d : Task) → place < length self.now → prio < (slice_index_or self.now place d).key.prio) }
-        ensures small { length self.now < 2 ^ 64 }
-    {
-        if place >= self.len() {
-            return false;
-        }
-        self.tasks[place].key.prio <= prio
     }
 
     /// Whether there is a task at a place that is earlier than the key.

@@ -239,7 +239,7 @@ impl Blocks {
     }
 
     /// Where a task with a new key comes into a block that isn't full. A full one is cut in two for
-    /// it, or has a new one put behind it.
+    /// it, or has a new one put before or behind it.
     pub(crate) fn make_place(&mut self, key: &Key) -> Result<(usize, usize), NoRoom>
         requires ascending { IsAscending (tasks_in self.old) }
         requires gapless { IsGapless self.old }
@@ -254,6 +254,10 @@ impl Blocks {
             return Ok((at, place));
         }
         if self.blocks.is_empty() {
+            self.insert_block(0)?;
+            return Ok((0, 0));
+        }
+        if at == 0 && place == 0 {
             self.insert_block(0)?;
             return Ok((0, 0));
         }
