@@ -67,7 +67,9 @@ impl Blocks {
         }
     }
 
-    /// Where a key belongs, which is the front, or else is found by the priority or by the whole key.
+    /// Where a key belongs, which is the front, or else is found by the priority or by the whole key. It
+    /// stays a call, so that the usual ways are short.
+    #[inline(never)]
     fn place_among(&self, key: &Key) -> (usize, usize)
         requires ascending { IsAscending (tasks_in self.now) }
         requires gapless { IsGapless self.now }
