@@ -135,6 +135,7 @@ end_in_front prio front back place end above = (omega (arith, end.0, length-appe
 
 -- the end in the second part
 pub end_in_back : (prio : ℕ) (front back : List Task) (place : ℕ) → IsEndOfPriority prio back place → IsEndOfPriority prio (front ++ back) (length front + place)
-end_in_back prio front back place end =
-    (omega (arith, end.0, length-append front back),
-    λ d below. subst (λ (t : Task). prio < t.key.prio) (sym (get_or-append-add front back place d)) (end.1 d (omega (arith, below, length-append front back))))
+end_in_back prio front back place end = (
+  omega (arith, end.0, length-append front back),
+  λ d below. subst (λ (t : Task). prio < t.key.prio) (sym (get_or-append-add front back place d)) (end.1 d (omega (arith, below, length-append front back))),
+)

@@ -1,4 +1,4 @@
-ghost use Rattle.std.specs.Prelude.{◌≡◌, ◌+◌, ◌<◌, ◌≤◌, ◌⊎◌, ◌^◌, suc, true, false, [], ◌∷◌, ◌++◌, length, take, drop, slice_get, IfOk, IfErr, Some, IfSome, IfNone, OnOk, OnErr, slice_set};
+ghost use Rattle.std.specs.Prelude.{◌≡◌, ◌+◌, ◌-◌, ◌<◌, ◌≤◌, ◌⊎◌, ◌^◌, suc, true, false, [], ◌∷◌, ◌++◌, length, take, drop, slice_get, IfOk, IfErr, Some, IfSome, IfNone, OnOk, OnErr, slice_set};
 ghost use Rattle.std.specs.Bool.{OnTrue, OnFalse};
 ghost use Rattle.std.specs.List.{AllByRecursion, insert, remove};
 ghost use Rattle.std.specs.List.Sorted.{IsPartitionPoint};
@@ -38,6 +38,49 @@ impl Model for Blocks {
     ghost Value = { List (List Task) };
 
     ghost view = { λ blocks. blocks.blocks.items };
+}
+
+/// How many of the first blocks have a first task of at most this priority: in strides that become
+/// shorter, since a step that doesn't wait for the one before costs less than a step of a search by
+/// halves.
+fn started_in(blocks: &[Block], prio: u64) -> usize
+    ensures bound { result ≤ length blocks.now }
+    ensures last { (result ≡ 0) ⊎ (starts_within prio (block_at blocks.now (result - 1)) ≡ true) }
+    ensures next { starts_within prio (block_at blocks.now result) ≡ false }
+{
+    let mut count: usize = 0;
+    let mut stride = longest_stride(blocks.len());
+    while stride > 1 {
+        while is_started_within_at(blocks, count.saturating_add(stride - 1), prio) {
+            count += stride;
+        }
+        stride /= BRANCH;
+    }
+    while is_started_within_at(blocks, count, prio) {
+        count += 1;
+    }
+    count
+}
+
+/// How many of so many blocks the first steps of a search pass.
+fn longest_stride(count: usize) -> usize
+    ensures { 1 ≤ result }
+{
+    let most = count / BRANCH;
+    let mut stride = 1;
+    while stride < most {
+        stride *= BRANCH;
+    }
+    stride
+}
+
+/// Whether there is a block at a place whose first task has at most this priority.
+fn is_started_within_at(blocks: &[Block], at: usize, prio: u64) -> bool
+    ensures starts { result ≡ starts_within prio (block_at blocks.now at) }
+    ensures inside { OnTrue result (at < length blocks.now) }
+    ensures small { length blocks.now < 2 ^ 63 }
+{
+    at < blocks.len() && blocks[at].starts_within(prio)
 }
 
 impl Blocks {
@@ -143,49 +186,19 @@ impl Blocks {
         Some((at, place))
     }
 
-    /// How many blocks have a first task of at most this priority: in strides that become shorter, since
-    /// a step that doesn't wait for the one before costs less than a step of a search by halves.
+    /// How many blocks have a first task of at most this priority, by a search in one of the two parts of
+    /// the queue.
     fn started_within(&self, prio: u64) -> usize
         requires ascending { IsAscending (tasks_in self.now) }
         requires gapless { IsGapless self.now }
         ensures bound { result ≤ length self.now }
         ensures point { IsPartitionPoint (λ block. starts_within prio block ≡ true) (λ block. starts_within prio block ≡ false) self.now result }
     {
-        let mut count: usize = 0;
-        let mut stride = self.longest_stride();
-        while stride > 1 {
-            while self.is_started_within_at(count.saturating_add(stride - 1), prio) {
-                count += stride;
-            }
-            stride /= BRANCH;
-        }
-        while self.is_started_within_at(count, prio) {
-            count += 1;
-        }
-        count
-    }
-
-    /// How many blocks the first steps of a search pass.
-    fn longest_stride(&self) -> usize
-        ensures some { 1 ≤ result }
-        ensures small { length self.now < 2 ^ 64 }
-    {
-        let most = self.count() / BRANCH;
-        let mut stride = 1;
-        while stride < most {
-            stride *= BRANCH;
-        }
-        stride
-    }
-
-    /// Whether there is a block at a place whose first task has at most this priority.
-    fn is_started_within_at(&self, at: usize, prio: u64) -> bool
-        ensures starts { result ≡ starts_within prio (block_at self.now at) }
-        ensures inside { OnTrue result (at < length self.now) }
-    {
-        match self.blocks.get(at) {
-            Some(block) => block.starts_within(prio),
-            None => false,
+        let (front, back) = self.blocks.as_slices();
+        if is_started_within_at(back, 0, prio) {
+            front.len() + started_in(back, prio)
+        } else {
+            started_in(front, prio)
         }
     }
 
@@ -216,7 +229,7 @@ impl Blocks {
         ensures point { IsPartitionPoint (λ block. starts_by key.now block ≡ true) (λ block. starts_by key.now block ≡ false) self.now result }
     {
         let mut count: usize = 0;
-        let mut stride = self.longest_stride();
+        let mut stride = longest_stride(self.count());
         while stride > 1 {
             while self.is_started_at(count.saturating_add(stride - 1), key) {
                 count += stride;

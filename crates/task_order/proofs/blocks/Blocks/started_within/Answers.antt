@@ -1,22 +1,31 @@
-use Rattle.std.proofs.Common.{◌≡◌, ◌+◌, ◌-◌, ◌≤◌, ◌∙◌, inr, true, sym, subst, length, arith}
+use Rattle.std.proofs.Common.{◌≡◌, ◌+◌, ◌∙◌, length, true, false, sym, subst}
 use Rattle.task_order.specs.Blocks.{block_at, starts_within}
 use Rattle.task_order.proofs.Priorities.{blocks_within}
-use Rattle.task_order.proofs.Strides.{point_from_ends}
+use Rattle.task_order.proofs.Strides.{IsEnd, end_in_front, end_in_back, point_from_end}
 use Rattle.task_order.proofs.blocks.Blocks.started_within.Goals as goal
 
-pub overflow_add-count : goal.overflow_add-count
-overflow_add-count c = omega (arith, c.loop-count-test.ensures.inside, c.saturating_add.ensures, c.longest_stride-stride.ensures.small)
+pub returns-then-is_started_within_at : goal.returns-then-is_started_within_at
+returns-then-is_started_within_at c =
+    let p = starts_within c.args.prio in
+    let blocks = c.args.self.now in
+    let front = c.as_slices.result.0.now in
+    let back = c.as_slices.result.1.now in
+    let found = c.started_in.result in
+    let ends = c.started_in.ensures in
+    let first : starts_within c.args.prio (block_at back 0) ≡ true = sym c.is_started_within_at.ensures.starts ∙ c.if-is_started_within_at.true in
+    let end : IsEnd (starts_within c.args.prio) blocks (length front + found) = subst (λ l. IsEnd p l (length front + found)) (c.as_slices.ensures.items ∙ c.self.view_is)
+    (end_in_back p front back found (record { bound = ends.bound; last = ends.last; next = ends.next }) first) in
+    record { bound = end.bound; point = point_from_end p blocks (length front + found) (blocks_within c.args.prio blocks c.requires.gapless c.requires.ascending) end }
 
-pub loop-count-preserved : goal.loop-count-preserved
-loop-count-preserved c =
-    let inside : c.loop-count.count + c.loop-stride.stride ≤ length c.args.self.now = omega (arith, c.loop-count-test.ensures.inside, c.saturating_add.ensures, c.longest_stride-stride.ensures.small, c.loop-stride-test.true) in
-    let same : c.saturating_add.result ≡ c.loop-count.count + c.loop-stride.stride - 1 = omega (arith, c.loop-count-test.ensures.inside, c.saturating_add.ensures, c.longest_stride-stride.ensures.small, c.loop-stride-test.true) in
-    (inside, inr (subst (λ i. starts_within c.args.prio (block_at c.args.self.now i) ≡ true) same (sym c.loop-count-test.ensures.starts)))
-
-pub overflow_add-count-in-loop-count-2 : goal.overflow_add-count-in-loop-count-2
-overflow_add-count-in-loop-count-2 c = omega (arith, c.loop-count-2-test.ensures.inside, c.longest_stride-stride.ensures.small)
-
-pub returns-clause-point : goal.returns-clause-point
-returns-clause-point c =
-    point_from_ends (starts_within c.args.prio) c.args.self.now c.loop-count-2.count (blocks_within c.args.prio c.args.self.now c.requires.gapless c.requires.ascending) c.loop-count-2.invariant.0 c.loop-count-2.invariant.1
-    (sym c.is_started_within_at-in-loop-count-2.ensures.starts ∙ c.loop-count-2-test.false)
+pub returns-else-is_started_within_at : goal.returns-else-is_started_within_at
+returns-else-is_started_within_at c =
+    let p = starts_within c.args.prio in
+    let blocks = c.args.self.now in
+    let front = c.as_slices.result.0.now in
+    let back = c.as_slices.result.1.now in
+    let found = c.started_in-else-is_started_within_at.result in
+    let ends = c.started_in-else-is_started_within_at.ensures in
+    let first : starts_within c.args.prio (block_at back 0) ≡ false = sym c.is_started_within_at.ensures.starts ∙ c.if-is_started_within_at.false in
+    let end : IsEnd (starts_within c.args.prio) blocks found = subst (λ l. IsEnd p l found) (c.as_slices.ensures.items ∙ c.self.view_is)
+    (end_in_front p front back found (record { bound = ends.bound; last = ends.last; next = ends.next }) first) in
+    record { bound = end.bound; point = point_from_end p blocks found (blocks_within c.args.prio blocks c.requires.gapless c.requires.ascending) end }

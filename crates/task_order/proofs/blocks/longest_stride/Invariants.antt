@@ -1,5 +1,5 @@
 use Rattle.std.proofs.Common.{◌-◌, ◌≤◌}
-use Rattle.task_order.proofs.blocks.Blocks.longest_stride.Given as goal
+use Rattle.task_order.proofs.blocks.longest_stride.Given as goal
 
 abbrev pub invariant-loop-stride : goal.invariant-loop-stride
 invariant-loop-stride l = 1 ≤ l.stride
