@@ -40,24 +40,8 @@ le_before m n top upto within = grind (arith, nat_tests)
 
 -- ---- the tasks of a block
 
-first_within : (prio : ℕ) (task : Task) (tasks : List Task) → AllByRecursion (λ other. key_cmp task.key other.key ≡ Less) tasks → (j : ℕ) (d : Task) → j < length tasks → nat_le (get_or tasks j d).key.prio prio ≡ true → nat_le task.key.prio prio ≡ true
-first_within prio task [] all j d inside within = absurd (omega (arith, inside))
-first_within prio task (other ∷ tasks) all zero d inside within = le_before task.key.prio other.key.prio prio (prio_upto task.key other.key all.0) within
-first_within prio task (other ∷ tasks) all (suc j) d inside within = first_within prio task tasks all.1 j d (omega (arith, inside)) within
-
-pub tasks_partitioned : (prio : ℕ) (tasks : List Task) → IsAscending tasks → IsPartitionedBy (λ task. nat_le task.key.prio prio) tasks
-tasks_partitioned prio [] up i j d ordered inside within = absurd (omega (arith, inside))
-tasks_partitioned prio (task ∷ tasks) up zero zero d ordered inside within = within
-tasks_partitioned prio (task ∷ tasks) up zero (suc j) d ordered inside within = first_within prio task tasks up.0 j d (omega (arith, inside)) within
-tasks_partitioned prio (task ∷ tasks) up (suc i) zero d ordered inside within = absurd (omega (arith, ordered))
-tasks_partitioned prio (task ∷ tasks) up (suc i) (suc j) d ordered inside within = tasks_partitioned prio tasks up.1 i j d (omega (arith, ordered)) (omega (arith, inside)) within
-
 above_from_test : (m n : ℕ) → nat_le m n ≡ false → n < m
 above_from_test m n not_within = grind (arith, nat_tests)
-
-pub end_from_point : (prio : ℕ) (tasks : List Task) (place : ℕ) → place ≤ length tasks → IsPartitionPoint (λ (task : Task). nat_le task.key.prio prio ≡ true) (λ (task : Task). nat_le task.key.prio prio ≡ false) tasks place
-    → IsEndOfPriority prio tasks place
-end_from_point prio tasks place inside point = (inside, λ d below. above_from_test _ _ (point.1 place d (omega arith) below))
 
 -- no more tasks are earlier
 end_bounds_by : (key : Key) (tasks : List Task) (place : ℕ) → IsAscending tasks → IsEndOfPriority key.prio tasks place → (place < length tasks) ⊎ (length tasks ≤ place) → length (tasks_before key tasks) ≤ place
