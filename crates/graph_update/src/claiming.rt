@@ -17,6 +17,7 @@ impl<'a, A: App> Engine<'a, A> {
     ///
     /// Where a mark stands, or no task is pending, it says so without taking memory. While nothing
     /// is running some node is clear, unless none is there. After `NoRoom` all is as it was.
+    #[inline(always)]
     pub fn claim(&mut self, pick: u64) -> Result<Claim<A::Val>, NoRoom>
         ensures app { self.new.app ≡ self.old.app }
         ensures answer { IfOk result (IsClaimAnswer (A.meaning self.old.app) self.old.progress pick self.new.progress) }

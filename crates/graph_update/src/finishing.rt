@@ -21,6 +21,7 @@ impl<'a, A: App> Engine<'a, A> {
     /// Then all memory is taken before anything changes that stays: after `NoRoom` all is as it was,
     /// and the same task may be finished again. Each later node in conflict with the ended one is
     /// asked for its set at most once, and none is where the sets are fixed.
+    #[inline(always)]
     pub fn finish<L: Ledger>(
         &mut self,
         done: Done<A::Val>,
@@ -60,6 +61,7 @@ impl<'a, A: App> Engine<'a, A> {
     ///
     /// The new values are home while sets are asked for. They are taken out again where the graph
     /// finds no memory.
+    #[inline(always)]
     fn end_task<L: Ledger>(
         &mut self,
         done: Done<A::Val>,

@@ -10,6 +10,7 @@ use outer_edge::Gate;
 
 /// Performs a claimed task on its bundle, once the gate lets the worker pass. Where memory runs out,
 /// the job comes back as it was.
+#[inline(always)]
 pub fn perform<A: App, G: Gate>(
     app: &A,
     job: Job<A::Val>,

@@ -47,6 +47,7 @@ impl Ready {
     }
 
     /// Looks at the sources, unless all clear nodes are known. After `NoRoom` all is as it was.
+    #[inline(always)]
     pub(crate) fn look<A: App>(&mut self, app: &A, graph: &Graph) -> Result<(), NoRoom>
         requires fit { AreFitTasks (A.meaning app.now) (tasks_of graph.now) }
         requires ready { AreReady (A.meaning app.now) graph.now self.old }
@@ -62,6 +63,7 @@ impl Ready {
     }
 
     /// The id at the remainder of a pick, where there is one.
+    #[inline(always)]
     pub(crate) fn picked(&self, pick: u64) -> Option<NodeId>
         ensures { result ≡ slice_get self.now.ids (pick % length self.now.ids) }
     {
@@ -70,6 +72,7 @@ impl Ready {
     }
 
     /// That id is there no more.
+    #[inline(always)]
     pub(crate) fn take(&mut self, pick: u64)
         requires { 0 < length self.old.ids }
         ensures ids { self.new.ids ≡ remove self.old.ids (pick % length self.old.ids) }

@@ -24,6 +24,7 @@ use task_order::{Key, Task};
 /// its recorded set conflicts with, over the cells after it, and puts the fresh tasks in. After
 /// `NoRoom` the graph is as it was. Each of these later nodes takes one step at most, and none where
 /// the sets are fixed.
+#[inline(always)]
 pub(crate) fn end_node<A: App, L: Ledger>(
     alloc: Global,
     app: &A,
@@ -55,6 +56,7 @@ pub(crate) fn end_node<A: App, L: Ledger>(
 }
 
 /// The children of a task as fresh tasks, with their keys and copies of their sets.
+#[inline(always)]
 pub(crate) fn fresh_tasks(
     alloc: Global,
     parent: &Key,
@@ -78,6 +80,7 @@ pub(crate) fn fresh_tasks(
 
 /// What the end of a node changes of the recorded sets: the renewals, and nothing where the sets are
 /// fixed, since each set would be replaced by itself.
+#[inline(always)]
 fn set_changes<A: App, L: Ledger>(
     alloc: Global,
     app: &A,
