@@ -23,9 +23,9 @@ use task_order::{ascending_laws, earlier_laws};
 
 /// From so many cells on, which the jobs of a round have in all, a thread is started for each worker.
 /// A start took 21, 39 and 57 microseconds for 2, 3 and 4 workers, but each job and what was done also
-/// go to another processor and back. On circuits, meshes and matrices, whose jobs take 0.1 to 30
-/// microseconds, four workers took a tenth to a half longer than one in rounds of 3,500 to 8,192 cells,
-/// and no input that was measured has larger rounds.
+/// go to another processor and back. In rounds of 3,500 to 8,192 cells four workers took from nothing
+/// (matrices) to a tenth (pairs of nodes) longer than one, and in rounds of 16,400 cells as long or a
+/// twentieth less.
 const MANY_CELLS: usize = 16_384;
 
 /// Performs the jobs of a round, and orders what was done by its keys: job number `i` is worker
