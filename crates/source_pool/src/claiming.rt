@@ -12,23 +12,36 @@ use app_laws::App;
 use graph_update::{Claim, Engine, Job};
 use kdg_text::NoRoom;
 use outer_edge::Gate;
+use std::alloc::Global;
 use std::collections::VecDeque;
+
+/// For how many turns a gate is asked at once.
+const AHEAD: usize = 64;
 
 /// What a gate chooses for worker 0, turn by turn.
 #[derive(Drop)]
 pub(crate) struct Picks<'g, G: Gate> {
     gate: &'g G,
     seed: u64,
+    /// The turn that the gate is asked for next.
     turn: u64,
+    /// What it chose last, and how many of these picks are used.
+    picks: [u64; AHEAD],
+    used: usize,
+    /// The picks since a round began, unless there was no memory for them.
+    of_round: Vec<u64>,
 }
 
 impl<'g, G: Gate> Picks<'g, G> {
     /// The picks from turn 0 on.
-    pub(crate) fn new(gate: &'g G, seed: u64) -> Picks<'g, G> {
+    pub(crate) fn new(alloc: Global, gate: &'g G, seed: u64) -> Picks<'g, G> {
         Picks {
             gate,
             seed,
             turn: 0,
+            picks: [0; AHEAD],
+            used: AHEAD,
+            of_round: Vec::new(alloc),
         }
     }
 
@@ -37,11 +50,42 @@ impl<'g, G: Gate> Picks<'g, G> {
         self.gate
     }
 
+    /// The picks since the round began. They may lack some, and be too many.
+    pub(crate) fn of_round(&self) -> &[u64] {
+        &self.of_round
+    }
+
+    /// Begins a round.
+    fn begin_round(&mut self) {
+        self.of_round.clear();
+    }
+
     /// The pick of the next turn.
+    #[inline(always)]
     fn next(&mut self) -> u64 {
-        let pick = self.gate.choose(self.seed, 0, self.turn);
-        self.turn = self.turn.saturating_add(1);
+        let pick = self.take_next();
+        // Where there is no memory for it, the order of the turns is found by the keys.
+        let _ = self.of_round.push(pick);
         pick
+    }
+
+    /// The next of the picks that the gate chose ahead.
+    #[inline(always)]
+    fn take_next(&mut self) -> u64 {
+        if let Some(pick) = self.picks.get(self.used) {
+            self.used += 1;
+            return *pick;
+        }
+        self.choose_ahead()
+    }
+
+    /// Asks the gate for more, and gives the first of these.
+    fn choose_ahead(&mut self) -> u64 {
+        self.gate
+            .choose_ahead(self.seed, 0, self.turn, &mut self.picks);
+        self.turn = self.turn.saturating_add(AHEAD as u64);
+        self.used = 1;
+        self.picks[0]
     }
 }
 
@@ -62,6 +106,7 @@ pub(crate) fn draw<A: App, G: Gate>(
 {
     drawing_laws::<A>();
     jobs.clear();
+    picks.begin_round();
     while let Claim::Job(job) = engine.claim(picks.next())? {
         jobs.push_back(job)?;
     }

@@ -1,6 +1,6 @@
 //! How the jobs of a round end.
 
-ghost use Rattle.std.specs.Prelude.{◌≡◌, ◌+◌, length, None, slice_set, IfErr, OnOk};
+ghost use Rattle.std.specs.Prelude.{◌≡◌, ◌+◌, ◌%◌, ◌<◌, ◌≤◌, length, None, slice_get, slice_set, IfErr, IfSome, OnOk};
 ghost use Rattle.std.specs.Option.{option_cmp, option_map};
 ghost use Rattle.task_order.specs.Key.{key_cmp};
 ghost use Rattle.cell_store.specs.Values.{values_of};
@@ -18,20 +18,44 @@ use std::cmp::Ordering;
 use std::sync::ledger::Ledger;
 use task_order::Key;
 
+/// Up to so many jobs are put in order by their picks. Among more of them it takes less to compare
+/// the keys than to make way for a place.
+const MOST_BY_PICK: usize = 1024;
+
 /// Orders what was performed by its keys. The list of turns then has its places, that of the
 /// earliest first; what was in it is dropped.
+///
+/// Where the jobs were drawn by these picks and performed in that order, the keys are only compared
+/// to find that the order is right.
 pub(crate) fn order_turns<V: Held>(
     dones: &[Option<Done<V>>],
+    picks: &[u64],
     turns: &mut Vec<usize>,
 ) -> Result<(), NoRoom>
     ensures { OnOk result (AreTurns dones.now turns.new.items) }
 {
     turns.clear();
-    for place in 0..dones.len() {
-        turns.push(place)?;
+    let mut place = dones.len();
+    while place > 0 {
+        place -= 1;
+        turns.insert(turn_of(picks, place, turns.len()), place)?;
     }
     turns.sort_unstable_by(|one, other| compare_at(dones, *one, *other));
     Ok(())
+}
+
+/// The turn of a job among itself and so many that were drawn after it: its pick was made among
+/// these, in the order of their keys.
+fn turn_of(picks: &[u64], place: usize, later: usize) -> usize
+    ensures inside { result ≤ later }
+    ensures by_pick { IfSome (slice_get picks.now place) (λ pick. place + later < MOST_BY_PICK → result ≡ pick % (later + 1)) }
+{
+    match picks.get(place) {
+        Some(pick) if place < MOST_BY_PICK && later < MOST_BY_PICK - place => {
+            (*pick % (later as u64 + 1)) as usize
+        }
+        _ => later,
+    }
 }
 
 /// How the keys compare of what was performed in these two places. Where there is none comes first.
@@ -78,6 +102,7 @@ pub(crate) fn end_all<A: App, L: Ledger>(
 }
 
 /// Takes what was performed in this place, if it is there.
+#[inline(always)]
 fn take_at<V: Held>(dones: &mut [Option<Done<V>>], place: usize) -> Option<Done<V>>
     ensures given { result ≡ slot_at dones.old place }
     ensures left { dones.new ≡ slice_set dones.old place None }

@@ -30,12 +30,13 @@ const MANY_CELLS: usize = 16_384;
 
 /// Performs the jobs of a round, and orders what was done by its keys: job number `i` is worker
 /// `i mod workers`'s, and each worker performs its jobs in order. The lists then have what was done
-/// and its turns.
+/// and its turns. The picks are those by which the jobs were drawn, as far as they are known.
 pub(crate) fn perform_jobs<R: Threads + Sync, A: App + Sync, G: Gate + Sync>(
     rt: &R,
     app: &A,
     gate: &G,
     workers: u32,
+    picks: &[u64],
     lists: &mut RoundLists<A::Val>,
 ) -> Result<(), NoRoom>
     requires workers { 1 ≤ workers }
@@ -47,7 +48,7 @@ pub(crate) fn perform_jobs<R: Threads + Sync, A: App + Sync, G: Gate + Sync>(
     ascending_laws();
     earlier_laws();
     perform_each(rt, app, gate, workers, lists)?;
-    order_turns(&lists.dones, &mut lists.turns)
+    order_turns(&lists.dones, picks, &mut lists.turns)
 }
 
 /// Performs each job. A round with few cells, or one worker, starts no thread: the caller performs
@@ -83,6 +84,7 @@ fn cells_in<V: Held>(jobs: &VecDeque<Job<V>>) -> usize
 
 /// Performs the jobs in order, as these workers in turn. The list then has what was done, in that
 /// order; what was in it is dropped.
+#[inline(always)]
 pub(crate) fn perform_in_turn<A: App, G: Gate>(
     app: &A,
     gate: &G,
@@ -106,6 +108,7 @@ pub(crate) fn perform_in_turn<A: App, G: Gate>(
 }
 
 /// Who of the workers from `first` on, and before `end`, comes after this one.
+#[inline(always)]
 fn next_worker(worker: u32, first: u32, end: u32) -> u32
     ensures next { worker + 1 < end → result ≡ worker + 1 }
     ensures again { end ≤ worker + 1 → result ≡ first }

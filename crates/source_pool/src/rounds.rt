@@ -112,7 +112,7 @@ fn counted_rounds<'a, R: Threads + Sync, A: App + Sync, G: Gate + Sync, L: Ledge
 {
     rounds_laws::<A>();
     let mut steps = Steps::<L>::new(blank);
-    let mut picks = Picks::new(gate, seed);
+    let mut picks = Picks::new(alloc, gate, seed);
     let mut lists = RoundLists::new(alloc);
     let mut text = Text::new(alloc);
     let mut rounds = 0u64;
@@ -158,7 +158,14 @@ fn play_round<R: Threads + Sync, A: App + Sync, G: Gate + Sync, L: Ledger>(
 {
     drawing_laws::<A>();
     draw(engine, picks, &mut lists.jobs)?;
-    perform_jobs(rt, engine.app(), picks.gate(), workers, lists)?;
+    perform_jobs(
+        rt,
+        engine.app(),
+        picks.gate(),
+        workers,
+        picks.of_round(),
+        lists,
+    )?;
     end_all(engine, &mut lists.dones, &lists.turns, steps)?;
     drain(engine, text)?;
     Ok(())
