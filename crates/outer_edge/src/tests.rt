@@ -8,6 +8,7 @@ use std::io::{Error, ErrorKind, Read, Write};
 use std::marker::Brand;
 use std::sync::ledger::{Blank, Ledger};
 use std::test::Fail;
+use task_order::Key;
 
 fn input(alloc: Global, bytes: &[u8], fails: &[u64]) -> Result<MemSource, NoRoom> {
     let source = MemSource::new(bytes.to_vec(alloc)?, 2, fails.to_vec(alloc)?);
@@ -199,6 +200,36 @@ fn a_seed_gives_its_words(rt: HostRuntime) -> Result<(), Fail> {
     }
     assert_eq!(rt; choice(&Still, 42, 54, 3), 0);
     Ok(())
+}
+
+/// A gate gives for many turns at once what it gives for each: by a body of its own, and by the one
+/// that it has from the trait.
+#[test]
+fn turns_ahead_have_their_own_words(rt: HostRuntime) {
+    assert_eq!(rt;
+        four_ahead(&Seeded, 42, 54, 1),
+        [0x7b47f409, 0xba1d3330, 0x83d2f293, 0xbfa4784b]
+    );
+    assert_eq!(rt; four_ahead(&Still, 42, 54, 1), [0, 0, 0, 0]);
+    assert_eq!(rt; four_ahead(&Turns, 42, 54, 1), [1, 2, 3, 4]);
+}
+
+/// A gate that chooses the number of the turn.
+#[derive(Clone, Copy)]
+struct Turns;
+
+impl Gate for Turns {
+    fn choose(&self, _seed: u64, _worker: u32, turn: u64) -> u64 {
+        turn
+    }
+
+    fn pass(&self, _worker: u32, _key: &Key) {}
+}
+
+fn four_ahead<G: Gate>(gate: &G, seed: u64, worker: u32, turn: u64) -> [u64; 4] {
+    let mut picks = [9; 4];
+    gate.choose_ahead(seed, worker, turn, &mut picks);
+    picks
 }
 
 fn choice<G: Gate>(gate: &G, seed: u64, worker: u32, turn: u64) -> u64 {
