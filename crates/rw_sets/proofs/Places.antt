@@ -1,9 +1,10 @@
 -- What a search finds in an ascending list, and what an access that is put in there leaves.
-use Rattle.std.proofs.Common.{◌≡◌, ℕ, zero, suc, ◌-◌, ◌<◌, ◌≤◌, [], ◌∷◌, length, get_or, set, Some, None, Result, Ok, Err, IfOk, IfErr, OnOk, OnErr, refl, sym, ap, ◌∙◌, arith}
+use Rattle.std.proofs.Common.{◌≡◌, ℕ, zero, suc, ◌-◌, ◌<◌, ◌≤◌, [], ◌∷◌, length, get_or, set, take, Some, None, Result, Ok, Err, IfOk, IfErr, OnOk, OnErr, refl, sym, ap, ◌∙◌, arith}
 use Rattle.std.specs.List.{insert}
 use Rattle.std.specs.List.Sorted.{IsSearchInRange, IsBinarySearchResult, IsNonDecreasingBy}
 use Rattle.std.specs.Ordering.{nat_cmp, ordering_index}
 use Rattle.std.proofs.lemmas.Cmp.{ranked}
+use Rattle.std.proofs.lemmas.List.{get_or-take, length-take-le}
 use Rattle.std.proofs.lemmas.List.Sorted.{IsNonDecreasingBy-from_default}
 use Rattle.std.proofs.lemmas.Bool.Decides.{nat_tests}
 use Rattle.rw_sets.specs.declared.access.Access.{Access}
@@ -96,6 +97,33 @@ absent_in_gap (q ∷ l) loc zero h =
 absent_in_gap (q ∷ l) loc (suc i) h =
     let below : q.0 < loc = h.lower_before 0 (omega arith) in
     access_other q l loc (λ e. omega arith) ∙ absent_in_gap l loc i (gap_tail q l loc i h)
+
+-- the first places of a longer list
+location_in_front : (n : ℕ) (l : Accesses) (i : ℕ) → i < n → location_at (take n l) i ≡ location_at l i
+location_in_front n l i lt = ap (λ pair. pair.0) (get_or-take n l i (0, Read) lt)
+
+pub at_in_front : (n : ℕ) (l : Accesses) (loc i : ℕ) → n ≤ length l → i < n → location_at l i ≡ loc → IsAt (take n l) loc i
+at_in_front n l loc i some lt here = record { in_range = omega (arith, length-take-le n l some); here = location_in_front n l i lt ∙ here }
+
+pub in_front_at : (n : ℕ) (l : Accesses) (loc i : ℕ) → i < n → IsAt (take n l) loc i → location_at l i ≡ loc
+in_front_at n l loc i lt at = sym (location_in_front n l i lt) ∙ at.here
+
+-- a location that is at none of a few places isn't there
+absent_everywhere : (l : Accesses) (loc : ℕ) → ((i : ℕ) → IsAt l loc i → ⊥) → access_at l loc ≡ None
+absent_everywhere [] loc nowhere = refl
+absent_everywhere (q ∷ l) loc nowhere =
+    access_other q l loc (λ e. nowhere 0 (record { in_range = omega arith; here = e }))
+    ∙ absent_everywhere l loc (λ i at. nowhere (suc i) (record { in_range = omega (arith, at.in_range); here = at.here }))
+
+pub absent_from_few : (l : Accesses) (loc : ℕ) → length l ≤ 4 → (IsAt l loc 0 → ⊥) → (IsAt l loc 1 → ⊥) → (IsAt l loc 2 → ⊥) → (IsAt l loc 3 → ⊥) → access_at l loc ≡ None
+absent_from_few l loc few not-first not-second not-third not-fourth = absent_everywhere l loc nowhere
+  where
+    nowhere : (i : ℕ) → IsAt l loc i → ⊥
+    nowhere zero at = not-first at
+    nowhere (suc zero) at = not-second at
+    nowhere (suc (suc zero)) at = not-third at
+    nowhere (suc (suc (suc zero))) at = not-fourth at
+    nowhere (suc (suc (suc (suc i)))) at = absurd (omega (arith, few, at.in_range))
 
 -- the pair at the place is written over
 pub put_at_place : (l : Accesses) (p : ℕ × Access) (i : ℕ) → IsAscending l → IsAt l p.0 i → put_access l p ≡ set l i (p.0, stronger (access_in l i) p.1)

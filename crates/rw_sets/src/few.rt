@@ -12,8 +12,10 @@ pub(crate) struct Few {
 }
 
 impl Few {
-    ghost use Rattle.std.specs.Prelude.{◌<◌, ◌↔◌, [], IsTrue, slice_set};
+    ghost use Rattle.std.specs.Prelude.{◌<◌, ◌↔◌, [], ◌∷◌, IfNone, IfSome, IsTrue, slice_set};
     ghost use Rattle.std.specs.List.{insert};
+    ghost use Rattle.rw_sets.specs.Accesses.{access_at};
+    ghost use Rattle.rw_sets.specs.Places.{IsAt};
     ghost use Rattle.rw_sets.specs.Storage.{items_of};
 
     pub(crate) const ROOM: usize = 4;
@@ -25,6 +27,17 @@ impl Few {
         Few {
             pairs: [(0, Access::Read); Few::ROOM],
             len: 0,
+        }
+    }
+
+    #[inline(always)]
+    pub(crate) fn of_two(first: (u32, Access), second: (u32, Access)) -> Few
+        ensures { items_of result ≡ first ∷ second ∷ [] }
+    {
+        let unused = (0, Access::Read);
+        Few {
+            pairs: [first, second, unused, unused],
+            len: 2,
         }
     }
 
@@ -45,6 +58,33 @@ impl Few {
         ensures { result.now ≡ items_of self.now }
     {
         &self.pairs[..self.len]
+    }
+
+    /// Where a location is. Each place is looked at in turn and without a loop, so that nothing is
+    /// left to do where the compiler sees what the set has.
+    #[inline(always)]
+    pub(crate) fn position_of(&self, loc: u32) -> Option<usize>
+        ensures place { IfSome result (IsAt (items_of self.now) loc) }
+        ensures absent { IfNone result (access_at (items_of self.now) loc ≡ None) }
+    {
+        if self.is_at(0, loc) {
+            Some(0)
+        } else if self.is_at(1, loc) {
+            Some(1)
+        } else if self.is_at(2, loc) {
+            Some(2)
+        } else if self.is_at(3, loc) {
+            Some(3)
+        } else {
+            None
+        }
+    }
+
+    #[inline(always)]
+    fn is_at(&self, place: usize, loc: u32) -> bool
+        ensures { IsTrue result ↔ IsAt (items_of self.now) loc place }
+    {
+        place < self.len && self.pairs[place].0 == loc
     }
 
     pub(crate) fn is_full(&self) -> bool

@@ -1,10 +1,11 @@
-ghost use Rattle.std.specs.Prelude.{◌≡◌, ◌↔◌, [], ◌∷◌, IsTrue, IfSome, IfNone, IfOk, IfErr, OnOk, OnErr};
+ghost use Rattle.std.specs.Prelude.{◌≡◌, ◌≢◌, ◌<◌, ◌↔◌, [], ◌∷◌, IsTrue, IfSome, IfNone, IfOk, IfErr, OnOk, OnErr};
 ghost use Rattle.rw_sets.specs.Accesses.{IsAscending, access_at, Conflicts, conflicts_with, merged, same_accesses};
 ghost use Rattle.std.proofs.Common.{rules};
 ghost use Rattle.std.specs.Cmp.Rules.{comparing};
 ghost use Rattle.rw_sets.specs.Places.{IsAt, IsGapFor};
 
 use crate::Access;
+use crate::few::Few;
 use crate::pairs::Pairs;
 use crate::walk::{join_repeats, merge_pairs, pairs_conflict};
 use kdg_text::NoRoom;
@@ -51,6 +52,31 @@ impl RwSet {
     {
         RwSet {
             pairs: Pairs::new(),
+            alloc,
+        }
+    }
+
+    /// The set of the accesses to two locations that differ, which takes no memory.
+    #[inline(always)]
+    pub fn of_two(alloc: Global, first: (u32, Access), second: (u32, Access)) -> RwSet
+        requires { first.0 ≢ second.0 }
+        ensures { result ≡ merged [] (first ∷ second ∷ []) }
+    {
+        if first.0 < second.0 {
+            RwSet::in_order(alloc, first, second)
+        } else {
+            RwSet::in_order(alloc, second, first)
+        }
+    }
+
+    /// The same, where the first location is the lower one.
+    #[inline(always)]
+    fn in_order(alloc: Global, first: (u32, Access), second: (u32, Access)) -> RwSet
+        requires { first.0 < second.0 }
+        ensures { result ≡ first ∷ second ∷ [] }
+    {
+        RwSet {
+            pairs: Pairs::InPlace(Few::of_two(first, second)),
             alloc,
         }
     }
@@ -108,7 +134,10 @@ impl RwSet {
         ensures place { IfSome result (IsAt self.now loc) }
         ensures absent { IfNone result (access_at self.now loc ≡ None) }
     {
-        self.place_of(loc).ok()
+        match &self.pairs {
+            Pairs::InPlace(few) => few.position_of(loc),
+            Pairs::InMemory(_) => self.place_of(loc).ok(),
+        }
     }
 
     /// Whether the sets share a location that at least one of them writes.

@@ -1,4 +1,4 @@
-ghost use Rattle.std.specs.Prelude.{◌≡◌, ◌+◌, ◌<◌, ◌≤◌, ◌^◌, ◌++◌, length, IfOk, IfErr, OnOk};
+ghost use Rattle.std.specs.Prelude.{◌≡◌, ◌≢◌, ◌+◌, ◌<◌, ◌≤◌, ◌^◌, ◌++◌, length, IfOk, IfErr, OnOk};
 ghost use Rattle.app_laws.specs.Applications.{AreFitStarts};
 ghost use Rattle.cell_store.specs.Values.{AreAllHome, values_of};
 ghost use Rattle.spring_mesh.specs.Files.{IsMesh, IsNode};
@@ -180,7 +180,7 @@ impl App for Mesh {
     ) -> Result<SetAnswer, NoRoom> {
         steps.tick();
         let spring = self.spring(body);
-        Ok(SetAnswer::Known(ends_of(self.alloc, spring)?))
+        Ok(SetAnswer::Known(ends_of(self.alloc, spring)))
     }
 
     fn sets_are_fixed(&self) -> bool {
@@ -248,13 +248,15 @@ impl App for Mesh {
 
 /// Both ends of a spring, written. The set stands in place.
 #[inline(always)]
-fn ends_of(alloc: Global, spring: &Spring) -> Result<RwSet, NoRoom>
-    ensures { IfOk result (λ set. set ≡ ends_of spring.now) }
+fn ends_of(alloc: Global, spring: &Spring) -> RwSet
+    requires { spring.now.a ≢ spring.now.b }
+    ensures { result ≡ ends_of spring.now }
 {
-    let mut set = RwSet::new(alloc);
-    set.add(spring.a, Access::Write)?;
-    set.add(spring.b, Access::Write)?;
-    Ok(set)
+    RwSet::of_two(
+        alloc,
+        (spring.a, Access::Write),
+        (spring.b, Access::Write),
+    )
 }
 
 /// The spring's next step with its set, unless it would come after the end.
@@ -262,6 +264,7 @@ fn ends_of(alloc: Global, spring: &Spring) -> Result<RwSet, NoRoom>
 fn children(alloc: Global, end: u64, task: &Task, spring: &Spring) -> Result<ChildList, NoRoom>
     requires time { task.now.key.prio ≤ latest }
     requires period { spring.now.h ≤ latest }
+    requires two { spring.now.a ≢ spring.now.b }
     ensures { IfOk result (λ children. children ≡ children_of end task.now.key.prio task.now.body spring.now) }
 {
     let mut children = ChildList::new(alloc);
@@ -270,7 +273,7 @@ fn children(alloc: Global, end: u64, task: &Task, spring: &Spring) -> Result<Chi
         let child = Child {
             prio,
             body: task.body,
-            set: ends_of(alloc, spring)?,
+            set: ends_of(alloc, spring),
         };
         children.push(child).map_err(|_| NoRoom)?;
     }

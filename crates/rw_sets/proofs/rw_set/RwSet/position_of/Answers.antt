@@ -9,5 +9,5 @@ absent : {A : Type 0} (l : Accesses) (loc : ℕ) (r : Result A ℕ) → IfErr r 
 absent l loc (Ok at) h = tt
 absent l loc (Err at) h = absent_in_gap l loc at h
 
-pub returns-clause-absent : goal.returns-clause-absent
-returns-clause-absent c = rw c.ok.ensures.value (absent _ _ _ c.place_of.ensures.absent)
+pub returns-in-InMemory-clause-absent : goal.returns-in-InMemory-clause-absent
+returns-in-InMemory-clause-absent c = rw c.ok.ensures.value (absent _ _ _ c.place_of.ensures.absent)

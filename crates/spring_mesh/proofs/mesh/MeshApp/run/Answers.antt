@@ -1,5 +1,5 @@
 use Rattle.std.proofs.Common.{◌≡◌, ◌∙◌, length, ap, subst, sym}
-use Rattle.std.specs.Prelude.{IsSome, IsTrue}
+use Rattle.std.specs.Prelude.{◌≢◌, IsSome, IsTrue}
 use Rattle.rw_sets.specs.Accesses.{access_at, writes}
 use Rattle.cell_store.specs.declared.cell.Cell.TheVariants.{Home}
 use Rattle.cell_store.specs.Cells.{cell_in}
@@ -13,6 +13,11 @@ use Rattle.spring_mesh.specs.Lawful.{mass_at-fits}
 use Rattle.spring_mesh.proofs.Held.{effect_found, first-in_bundle, first-named_in_bundle, first_fits, from_taken, in_time, second-in_bundle, second-named_in_bundle, second_fits, spring_fits}
 use Rattle.spring_mesh.proofs.Wide.{narrow_mass}
 use Rattle.spring_mesh.proofs.mesh.MeshApp.run.Goals as goal
+
+pub children-requires-clause-two : goal.children-requires-clause-two
+children-requires-clause-two c =
+    let held = from_taken c.location_laws.ensures.parts c.value_laws.ensures.homes c.requires.fit c.requires.cells in
+    subst (λ (s : Spring). s.a ≢ s.b) (sym c.spring-spring.ensures) (spring_fits held).two
 
 pub get-requires : goal.get-requires
 get-requires c =
