@@ -2,9 +2,10 @@ ghost use Rattle.std.specs.Prelude.{◌≡◌, length, IsTrue, IsSome};
 ghost use Rattle.std.specs.Borrow.{sem};
 ghost use Rattle.rw_sets.specs.Accesses.{access_at, writes};
 ghost use Rattle.cell_store.specs.declared.cell.Cell.TheVariants.{Home};
-ghost use Rattle.cell_store.specs.Cells.{cell_in, IsBundle};
+ghost use Rattle.cell_store.specs.Cells.{cell_in, with_value, IsBundle};
 ghost use Rattle.cell_store.specs.Lends.{LendsValue};
 
+use crate::cell::Cell;
 use crate::cell_list::CellList;
 use rw_sets::RwSet;
 use std::marker::Model;
@@ -59,6 +60,35 @@ impl<V> Bundle<V> {
     {
         match self.set.position_of(loc) {
             Some(at) => self.cells.at_mut(at).value_mut(),
+            None => unreachable!(),
+        }
+    }
+}
+
+impl<V: Drop> Bundle<V> {
+    /// Puts another value at a location that the set writes. A write that needs no borrow leaves the
+    /// compiler free to keep the bundle in registers.
+    #[inline(always)]
+    pub fn put(&mut self, loc: u32, value: V)
+        requires { IsTrue (writes self.old.set loc) }
+        ensures { self.new ≡ with_value self.old loc value }
+    {
+        match self.set.position_of(loc) {
+            Some(at) => self.cells.put_at(at, Cell::Home(value)),
+            None => unreachable!(),
+        }
+    }
+}
+
+impl<V: Copy> Bundle<V> {
+    /// A copy of the value at a location of the set.
+    #[inline(always)]
+    pub fn value(&self, loc: u32) -> V
+        requires { IsSome (access_at self.now.set loc) }
+        ensures { cell_in self.now loc ≡ Home result }
+    {
+        match self.set.position_of(loc) {
+            Some(at) => self.cells.value_at(at),
             None => unreachable!(),
         }
     }

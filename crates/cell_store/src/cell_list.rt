@@ -1,6 +1,8 @@
 ghost use Rattle.std.specs.Prelude.{◌≡◌, ◌<◌, length, slice_index_or};
 ghost use Rattle.std.specs.Borrow.{sem};
-ghost use Rattle.cell_store.specs.Storage.{cells_of};
+ghost use Rattle.cell_store.specs.declared.cell.Cell.TheVariants.{Home, Out};
+ghost use Rattle.cell_store.specs.Home.{IsHome};
+ghost use Rattle.cell_store.specs.Storage.{cells_of, with_cell_at};
 ghost use Rattle.cell_store.specs.StorageLends.{LendsCell};
 
 use crate::cell::Cell;
@@ -43,6 +45,35 @@ impl<V> CellList<V> {
         match self {
             CellList::InPlace(few) => few.at_mut(i),
             CellList::InMemory(cells) => &mut cells[i],
+        }
+    }
+}
+
+impl<V: Drop> CellList<V> {
+    /// Puts another cell at a place.
+    #[inline(always)]
+    pub(crate) fn put_at(&mut self, i: usize, cell: Cell<V>)
+        requires { i < length (cells_of self.old) }
+        ensures { self.new ≡ with_cell_at self.old i cell }
+    {
+        match self {
+            CellList::InPlace(few) => few.put_at(i, cell),
+            CellList::InMemory(cells) => cells[i] = cell,
+        }
+    }
+}
+
+impl<V: Copy> CellList<V> {
+    /// The value at a place.
+    #[inline(always)]
+    pub(crate) fn value_at(&self, i: usize) -> V
+        requires in_range { i < length (cells_of self.now) }
+        requires home { IsHome (slice_index_or (cells_of self.now) i Out) }
+        ensures { slice_index_or (cells_of self.now) i Out ≡ Home result }
+    {
+        match self {
+            CellList::InPlace(few) => few.value_at(i),
+            CellList::InMemory(cells) => *cells[i].value(),
         }
     }
 }

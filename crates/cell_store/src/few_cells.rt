@@ -78,6 +78,47 @@ impl<V> FewCells<V> {
     }
 }
 
+impl<V: Drop> FewCells<V> {
+    ghost use Rattle.std.specs.Prelude.{◌≡◌, ◌<◌};
+    ghost use Rattle.cell_store.specs.Storage.{with_cell};
+
+    /// Puts another cell at a place.
+    #[inline(always)]
+    pub(crate) fn put_at(&mut self, i: usize, cell: Cell<V>)
+        requires { i < self.old.len }
+        ensures { self.new ≡ with_cell self.old i cell }
+    {
+        match i {
+            0 => self.first = cell,
+            1 => self.second = cell,
+            2 => self.third = cell,
+            _ => self.fourth = cell,
+        }
+    }
+}
+
+impl<V: Copy> FewCells<V> {
+    ghost use Rattle.std.specs.Prelude.{◌≡◌, ◌<◌, slice_index_or};
+    ghost use Rattle.cell_store.specs.declared.cell.Cell.TheVariants.{Home, Out};
+    ghost use Rattle.cell_store.specs.Home.{IsHome};
+    ghost use Rattle.cell_store.specs.Storage.{cells_in};
+
+    /// The value at a place.
+    #[inline(always)]
+    pub(crate) fn value_at(&self, i: usize) -> V
+        requires in_range { i < self.now.len }
+        requires home { IsHome (slice_index_or (cells_in self.now) i Out) }
+        ensures { slice_index_or (cells_in self.now) i Out ≡ Home result }
+    {
+        match i {
+            0 => *self.first.value(),
+            1 => *self.second.value(),
+            2 => *self.third.value(),
+            _ => *self.fourth.value(),
+        }
+    }
+}
+
 impl<V: Held> FewCells<V> {
     ghost use Rattle.std.specs.Prelude.{◌≡◌, length, map, IfOk};
     ghost use Rattle.cell_store.specs.Cells.{AreHome, read_copy};

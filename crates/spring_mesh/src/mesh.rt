@@ -211,11 +211,11 @@ impl App for Mesh {
         };
         let masses = (self.mass(spring.a), self.mass(spring.b));
         let mut bundle = bundle;
-        let first = brought_to(bundle.get(spring.a), time);
-        let second = brought_to(bundle.get(spring.b), time);
+        let first = brought_to(&bundle.value(spring.a), time);
+        let second = brought_to(&bundle.value(spring.b), time);
         let (first, second) = ends_after(spring, masses, &first, &second);
-        *bundle.get_mut(spring.a) = first;
-        *bundle.get_mut(spring.b) = second;
+        bundle.put(spring.a, first);
+        bundle.put(spring.b, second);
         Ok(Effect {
             bundle,
             children,
