@@ -109,8 +109,20 @@ fn change_by(given: i64, mass: i64) -> i64
 {
     // The sign changes from step to step, so it is no branch.
     let size = if given < 0 { !given } else { given };
-    let change = size.div_euclid(mass);
+    let change = quotient(size, mass);
     if given < 0 { !change } else { change }
+}
+
+/// A number divided by a mass. What fits into 32 bits is divided there, in half the time or less.
+#[inline(always)]
+fn quotient(number: i64, mass: i64) -> i64
+    requires { IsMass mass }
+    ensures { result ≡ change_by number mass }
+{
+    match u32::try_from(number) {
+        Ok(number) => i64::from(number / mass as u32),
+        Err(_) => number.div_euclid(mass),
+    }
 }
 
 /// A speed that has grown by so much.
