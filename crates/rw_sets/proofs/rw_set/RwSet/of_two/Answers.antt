@@ -1,4 +1,4 @@
-use Rattle.std.proofs.Common.{[], ◌∷◌, ◌∙◌, sym, arith}
+use Rattle.std.proofs.Common.{[], ◌∙◌, sym, arith}
 use Rattle.rw_sets.specs.MergeLaws.{put_above, put_below}
 use Rattle.rw_sets.proofs.rw_set.RwSet.of_two.Goals as goal
 
