@@ -1,5 +1,5 @@
 -- Numbers that saturate at 64 bits come to the same places and speeds.
-use Rattle.std.proofs.Common.{arith, ◌≡◌, ◌≤◌, ◌<◌, ◌*◌, ◌^◌, ◌-◌, ◌/◌, ◌⊎◌, inl, inr, ◌∙◌, ap, ℕ, ℤ, pos, ◌+ℤ◌, ◌-ℤ◌, ◌*ℤ◌, ◌≤ℤ◌}
+use Rattle.std.proofs.Common.{arith, ◌≡◌, ◌≤◌, ◌<◌, ◌*◌, ◌^◌, ◌-◌, ◌/◌, ◌⊎◌, inl, inr, ◌∙◌, ap, ℕ, ℤ, pos, ◌+ℤ◌, ◌-ℤ◌, ◌≤ℤ◌}
 use Rattle.std.specs.Prelude.{min, negsuc, neg_ℤ}
 use Rattle.std.specs.Int.{w64, int_max, int_min, saturate_signed}
 use Rattle.std.proofs.Math.Nat.{min-eq_left, min-eq_right}

@@ -252,11 +252,7 @@ fn ends_of(alloc: Global, spring: &Spring) -> RwSet
     requires { spring.now.a ≢ spring.now.b }
     ensures { result ≡ ends_of spring.now }
 {
-    RwSet::of_two(
-        alloc,
-        (spring.a, Access::Write),
-        (spring.b, Access::Write),
-    )
+    RwSet::of_two(alloc, (spring.a, Access::Write), (spring.b, Access::Write))
 }
 
 /// The spring's next step with its set, unless it would come after the end.
