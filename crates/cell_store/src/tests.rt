@@ -49,9 +49,11 @@ fn gives_and_regains(rt: HostRuntime) -> Result<(), Fail> {
     *bundle.get_mut(0) = 11;
     let shell = store.give(bundle);
     assert_eq!(rt; store.peek(0), Seen::At(&11));
-    let bundle = store.regain(shell);
+    let mut bundle = store.regain(shell);
     assert_eq!(rt; store.peek(0), Seen::Out);
-    assert_eq!(rt; *bundle.get(0), 11);
+    assert_eq!(rt; bundle.value(0), 11);
+    bundle.put(0, 12);
+    assert_eq!(rt; (*bundle.get(0), *bundle.get(1)), (12, 20));
     Ok(())
 }
 

@@ -41,6 +41,7 @@ fn makes_a_set_of_pairs_at_once(rt: HostRuntime) -> Result<(), Fail> {
     let set = RwSet::from_pairs(vec![in alloc; (5, Read), (2, Write), (5, Write), (5, Read)]?);
     assert_eq!(rt; set, set_of(alloc, &[(2, Write), (5, Write)])?);
     assert_ne!(rt; set, set_of(alloc, &[(2, Write), (5, Read)])?);
+    assert_eq!(rt; RwSet::of_two(alloc, (5, Write), (2, Write)), set);
     Ok(())
 }
 

@@ -1,4 +1,4 @@
-ghost use Rattle.std.specs.Prelude.{◌≡◌, ◌+◌, ◌<◌, ◌≤◌, ◌^◌, [], ◌∷◌, ◌++◌, Some, length, slice_get, IfOk, OnErr, OnOk};
+ghost use Rattle.std.specs.Prelude.{◌≡◌, ◌+◌, ◌<◌, ◌≤◌, ◌^◌, [], ◌++◌, Some, length, slice_get, IfOk, OnErr, OnOk};
 ghost use Rattle.std.specs.List.{insert, remove};
 ghost use Rattle.std.specs.Map.Iter.{deref};
 ghost use Rattle.std.specs.Option.{option_map};
@@ -101,17 +101,6 @@ impl<T> Form<T> {
         match self {
             Form::Ring(ring) => put_at(ring, place, item),
             Form::Tiers(tiers) => tiers.insert(place, item),
-        }
-    }
-
-    pub(crate) fn push_reserved(&mut self, item: T)
-        requires { length (tiered_of self.old).items < (tiered_of self.old).capacity }
-        ensures items { (tiered_of self.new).items ≡ (tiered_of self.old).items ++ item ∷ [] }
-        ensures capacity { (tiered_of self.old).capacity ≤ (tiered_of self.new).capacity }
-    {
-        match self {
-            Form::Ring(ring) => ring.push_back_reserved(item),
-            Form::Tiers(tiers) => tiers.push_back(item),
         }
     }
 

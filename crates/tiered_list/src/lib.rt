@@ -2,7 +2,7 @@
 //! goes.
 #![tactic(auto)]
 
-ghost use Rattle.std.specs.Prelude.{◌≡◌, ◌+◌, ◌<◌, ◌≤◌, ◌^◌, [], ◌∷◌, ◌++◌, Some, length, slice_get, OnOk};
+ghost use Rattle.std.specs.Prelude.{◌≡◌, ◌+◌, ◌<◌, ◌≤◌, ◌^◌, [], Some, length, slice_get, OnOk};
 ghost use Rattle.std.specs.List.{insert, remove};
 ghost use Rattle.std.specs.Map.Iter.{deref};
 ghost use Rattle.std.specs.Option.{option_map};
@@ -21,7 +21,11 @@ use std::alloc::Global;
 use std::collections::VecDeque;
 use std::marker::Model;
 
-/// Items in order.
+/// Items in order, each found by its place at once.
+///
+/// A short list is one ring buffer, and an item that comes or goes moves those up to its nearer end. A
+/// long one is a tiered vector (M. T. Goodrich, J. G. Kloss, "Tiered Vectors", WADS 1999): it moves at
+/// most half of the 256 items of a tier, and one of each tier up to the nearer end.
 #[derive(Drop)]
 pub struct TieredList<T> {
     form: Form<T>,
@@ -86,15 +90,6 @@ impl<T> TieredList<T> {
         ensures capacity { self.old.capacity ≤ self.new.capacity }
     {
         self.form.insert(place, item);
-    }
-
-    /// Puts an item behind the others, where `reserve` made room. It takes no memory.
-    pub fn push_reserved(&mut self, item: T)
-        requires { length self.old.items < self.old.capacity }
-        ensures items { self.new.items ≡ self.old.items ++ item ∷ [] }
-        ensures capacity { self.old.capacity ≤ self.new.capacity }
-    {
-        self.form.push_reserved(item);
     }
 
     /// Takes the item at a place out. It takes no memory.

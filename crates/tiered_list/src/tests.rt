@@ -68,7 +68,7 @@ fn items_leave_from_both_ends(rt: HostRuntime) -> Result<(), Fail> {
     let mut list: TieredList<u64> = TieredList::new(rt.alloc());
     list.reserve(1000)?;
     for item in 0..1000u64 {
-        list.push_reserved(item);
+        list.insert(list.len(), item);
     }
     for item in 0..400u64 {
         assert_eq!(rt; list.remove(0), item);
@@ -85,7 +85,7 @@ fn numbers(alloc: Global, count: u64) -> Result<TieredList<u64>, NoRoom> {
     let mut list: TieredList<u64> = TieredList::new(alloc);
     for number in 0..count {
         list.reserve(1)?;
-        list.push_reserved(number);
+        list.insert(list.len(), number);
     }
     Ok(list)
 }
