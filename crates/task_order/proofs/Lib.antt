@@ -3,6 +3,7 @@ pub mod TaskLists
 pub mod Fronts
 pub mod Distinct
 pub mod Without
+pub mod Beginnings
 pub mod Comparing
 pub mod Words
 pub mod PathCode

@@ -51,19 +51,19 @@ number_of-digits (suc count) number fits =
 
 -- ---- items
 
-head-few : (run number : ℕ) → run < 15 → head_byte run number ≡ (15 - run) * 16 + min (number - 1) 15
+pub head-few : (run number : ℕ) → run < 15 → head_byte run number ≡ (15 - run) * 16 + min (number - 1) 15
 head-few run number few = rw (lt-ltb run 15 few)
 
-head-many : (run number : ℕ) → 15 ≤ run → head_byte run number ≡ 0
+pub head-many : (run number : ℕ) → 15 ≤ run → head_byte run number ≡ 0
 head-many run number many = rw (le-ltb run 15 many)
 
-rest-small : (run number : ℕ) → run < 15 → number < 16 → item_rest run number ≡ []
+pub rest-small : (run number : ℕ) → run < 15 → number < 16 → item_rest run number ≡ []
 rest-small run number few small = rw (lt-ltb run 15 few, lt-ltb number 16 small)
 
-rest-few : (run number : ℕ) → run < 15 → 16 ≤ number → item_rest run number ≡ digits 4 number
+pub rest-few : (run number : ℕ) → run < 15 → 16 ≤ number → item_rest run number ≡ digits 4 number
 rest-few run number few large = rw (lt-ltb run 15 few, le-ltb number 16 large)
 
-rest-many : (run number : ℕ) → 15 ≤ run → item_rest run number ≡ digits 8 (18446744073709551615 - run) ++ digits 4 number
+pub rest-many : (run number : ℕ) → 15 ≤ run → item_rest run number ≡ digits 8 (18446744073709551615 - run) ++ digits 4 number
 rest-many run number many = rw (le-ltb run 15 many)
 
 -- an item with more zeros comes first

@@ -3,9 +3,11 @@ use Rattle.std.specs.Cmp.Lexicographic.{slice_cmp}
 use Rattle.std.specs.declared.cmp.Ordering.{Ordering}
 use Rattle.std.specs.declared.cmp.Ordering.TheVariants.{Less}
 use Rattle.std.specs.Ordering.{nat_cmp, ordering_then}
-use Rattle.std.proofs.Common.{◌≡◌, ℕ, ◌+◌, ◌*◌, ◌<◌, ◌≤◌, List, [], ◌∷◌, ◌++◌, length, take, drop, take-append-drop, refl, sym, ◌∙◌, ap, append_assoc, length-append, arith}
+use Rattle.std.proofs.Common.{◌≡◌, ℕ, ◌+◌, ◌*◌, ◌%◌, ◌<◌, ◌≤◌, List, [], ◌∷◌, ◌++◌, length, take, drop, take-append-drop, refl, sym, ◌∙◌, ap, append_assoc, length-append, arith}
 use Rattle.task_order.specs.SharedBytes.{IsNode}
 use Rattle.task_order.specs.declared.path.node.TheConstants.{IN_PLACE, FULL_NODE}
+use Rattle.task_order.specs.PathCode.{first_word}
+use Rattle.task_order.proofs.Beginnings.{first_word-longer}
 use Rattle.task_order.proofs.Comparing.{slice_cmp-append, slice_cmp-ends, slice_cmp-upto, then_assoc}
 
 -- what decides below a level decides against all bytes that go on behind it
@@ -32,7 +34,7 @@ some_behind nodes (byte ∷ rest) goes_on some = omega arith
 
 -- ---- nodes at one level
 
-pub same_level : (a_level : ℕ) (a_bytes a_before : List ℕ) (b_level : ℕ) (b_bytes b_before : List ℕ) → IsNode a_level a_bytes a_before → IsNode b_level b_bytes b_before
+pub same_level : {a_beginning b_beginning : ℕ} → (a_level : ℕ) (a_bytes a_before : List ℕ) (b_level : ℕ) (b_bytes b_before : List ℕ) → IsNode a_level a_beginning a_bytes a_before → IsNode b_level b_beginning b_bytes b_before
     → length (a_before ++ a_bytes) ≡ length (b_before ++ b_bytes) → (length a_before ≡ length b_before) × (length a_bytes ≡ length b_bytes)
 same_level a_level a_bytes a_before b_level b_bytes b_before a_node b_node same =
     let all : length a_before + length a_bytes ≡ length b_before + length b_bytes = sym (length-append a_before a_bytes) ∙ same ∙ length-append b_before b_bytes in
@@ -47,8 +49,8 @@ order-found a_bytes a_before b_bytes b_before order found same is =
     ∙ ap (ordering_then (slice_cmp nat_cmp a_before b_before)) is
 
 -- the levels of a node and of the one before it, where the node is the first behind a level
-pub levels_below : (level : ℕ) (before : List ℕ) (lower_level : ℕ) (lower below : List ℕ) (upper_level : ℕ) (upper upper_before all : List ℕ) → length before ≡ FULL_NODE * level
-    → IsNode lower_level lower below → IsNode upper_level upper upper_before → upper_before ≡ below ++ lower → upper_before ++ upper ≡ all
+pub levels_below : {lower_beginning upper_beginning : ℕ} → (level : ℕ) (before : List ℕ) (lower_level : ℕ) (lower below : List ℕ) (upper_level : ℕ) (upper upper_before all : List ℕ) → length before ≡ FULL_NODE * level
+    → IsNode lower_level lower_beginning lower below → IsNode upper_level upper_beginning upper upper_before → upper_before ≡ below ++ lower → upper_before ++ upper ≡ all
     → FULL_NODE * (level + 1) < length all → length all ≤ FULL_NODE * (level + 1) + FULL_NODE → (length before ≡ length below) × (length lower ≡ FULL_NODE) × (IN_PLACE ≤ length upper)
 levels_below level before lower_level lower below upper_level upper upper_before all full lower_node upper_node lower_all upper_all not_below not_above =
     let lower_length : length upper_before ≡ length below + length lower = ap length lower_all ∙ length-append below lower in
@@ -60,3 +62,37 @@ levels_below level before lower_level lower below upper_level upper upper_before
     let f = upper_node.not_many in
     let g = lower_node.not_few in
     (omega arith, omega arith, e)
+
+-- ---- nodes that grow
+
+first_word-more : (beginning : ℕ) (before bytes new : List ℕ) → beginning ≡ first_word (before ++ bytes) → IN_PLACE ≤ length bytes → beginning ≡ first_word ((before ++ bytes) ++ new)
+first_word-more beginning before bytes new begins not_few =
+    begins ∙ sym (first_word-longer (before ++ bytes) new (omega (arith, length-append before bytes)))
+
+-- a node that isn't full takes more
+pub IsNode-more : (level beginning : ℕ) (bytes before new : List ℕ) → IsNode level beginning bytes before → length new ≡ IN_PLACE → length (before ++ bytes) % IN_PLACE ≡ 0 → length bytes < FULL_NODE
+    → IsNode level beginning (bytes ++ new) before
+IsNode-more level beginning bytes before new node is whole room =
+    let all : length (before ++ bytes) ≡ length before + length bytes = length-append before bytes in
+    let joined : length (bytes ++ new) ≡ length bytes + length new = length-append bytes new in
+    let full = node.full_before in
+    record {
+      full_before = full;
+      not_few = omega arith;
+      not_many = omega arith;
+      begins = first_word-more beginning before bytes new node.begins node.not_few ∙ ap first_word (append_assoc before bytes new);
+    }
+
+-- a full node has the next one behind it
+pub IsNode-next : (level beginning : ℕ) (bytes before new : List ℕ) → IsNode level beginning bytes before → length new ≡ IN_PLACE → FULL_NODE ≤ length bytes
+    → IsNode (level + 1) beginning new (before ++ bytes)
+IsNode-next level beginning bytes before new node is full =
+    let all : length (before ++ bytes) ≡ length before + length bytes = length-append before bytes in
+    let levels = node.full_before in
+    let most = node.not_many in
+    record {
+      full_before = omega arith;
+      not_few = omega arith;
+      not_many = omega arith;
+      begins = first_word-more beginning before bytes new node.begins node.not_few;
+    }

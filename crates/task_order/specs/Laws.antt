@@ -1,11 +1,14 @@
 -- What holds of the order of keys and of lists of tasks, for all keys and lists.
-use Rattle.std.specs.Prelude.{◌≡◌, ◌≢◌, ◌+◌, ◌⊎◌, ◌↔◌, List, [], ◌∷◌, ◌++◌, length}
+use Rattle.std.specs.Prelude.{◌≡◌, ◌≢◌, ℕ, ◌+◌, ◌<◌, ◌⊎◌, ◌↔◌, List, [], ◌∷◌, ◌++◌, length}
+use Rattle.std.specs.Cmp.Lexicographic.{slice_cmp}
 use Rattle.std.specs.List.{AllByRecursion, Contains}
 use Rattle.std.specs.List.Sorted.{IsPermutation}
 use Rattle.std.specs.declared.cmp.Ordering.TheVariants.{Less, Equal, Greater}
+use Rattle.std.specs.Ordering.{nat_cmp}
 use Rattle.task_order.specs.declared.key.Key.{Key}
 use Rattle.task_order.specs.declared.task.Task.{Task}
 use Rattle.task_order.specs.Key.{key_cmp}
+use Rattle.task_order.specs.PathCode.{CanCode, path_beginning}
 use Rattle.task_order.specs.TaskList.{IsAscending, IsNewKey, HasDistinctKeys, put_in, put_all, tasks_before, tasks_from, without}
 
 -- ---- earlier keys
@@ -145,3 +148,7 @@ WithoutKeepsOthers = (key : Key) (tasks : List Task) (task : Task) → Contains 
 
 abbrev pub WithoutMakesNew : Type 0
 WithoutMakesNew = (key : Key) (tasks : List Task) → IsNewKey key (without key tasks)
+
+-- a path that begins with a lower number than another comes first
+abbrev pub LowerBeginningsComeFirst : Type 0
+LowerBeginningsComeFirst = (a b : List ℕ) → CanCode 0 a → CanCode 0 b → path_beginning a < path_beginning b → slice_cmp nat_cmp a b ≡ Less

@@ -42,6 +42,14 @@ unfoldable pub number_of : ℕ → List ℕ → ℕ
 number_of before [] = before
 number_of before (digit ∷ rest) = number_of (before * 256 + digit) rest
 
+-- the first eight of the bytes, with zeros behind their end, as a number whose first digit is the first byte
+abbrev pub first_word : List ℕ → ℕ
+first_word bytes = number_of 0 (take 8 (bytes ++ replicate 8 0))
+
+-- the first bytes of a path, as a number
+abbrev pub path_beginning : List ℕ → ℕ
+path_beginning path = first_word (code_bytes 0 path)
+
 -- how many bytes an item has behind its first
 abbrev pub rest_len : ℕ → ℕ
 rest_len head = if nat_lt head 16 then 12 else (if nat_eq (head % 16) 15 then 4 else 0)

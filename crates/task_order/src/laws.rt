@@ -1,4 +1,4 @@
-ghost use Rattle.task_order.specs.Laws.{EarlierIsIrreflexive, EarlierIsTransitive, EarlierIsConnected, EarlierIsTurned, EqualIsReflexive, AscendingKeysAreDistinct, TasksDetermineAscending, DistinctInAnyOrder, PutsCommute, PutsKeepAscending, PutsAddOne, PutsKeepTasks, PutsKeepNewKeys, EarliestGoesFirst, LatestGoesLast, PutsGoBetween, PutAllOfNone, PutAllOfJoined, PutAllCommutesWithPut, PutAllInAnyOrder, PutAllKeepsAscending, PutAllAddsEach, PutAllKeepsTasks, BeforeIsFront, BeforeIsEarlier, BeforeStaysAscending, BeforeSkipsLater, BeforeTakesEarlier, WithoutForgetsPut, PutRestoresWithout, WithoutCommutesWithPut, WithoutCommutes, WithoutOfNewKey, WithoutStaysAscending, WithoutKeepsOthers, WithoutMakesNew};
+ghost use Rattle.task_order.specs.Laws.{EarlierIsIrreflexive, EarlierIsTransitive, EarlierIsConnected, EarlierIsTurned, EqualIsReflexive, AscendingKeysAreDistinct, TasksDetermineAscending, DistinctInAnyOrder, PutsCommute, PutsKeepAscending, PutsAddOne, PutsKeepTasks, PutsKeepNewKeys, EarliestGoesFirst, LatestGoesLast, PutsGoBetween, PutAllOfNone, PutAllOfJoined, PutAllCommutesWithPut, PutAllInAnyOrder, PutAllKeepsAscending, PutAllAddsEach, PutAllKeepsTasks, BeforeIsFront, BeforeIsEarlier, BeforeStaysAscending, BeforeSkipsLater, BeforeTakesEarlier, WithoutForgetsPut, PutRestoresWithout, WithoutCommutesWithPut, WithoutCommutes, WithoutOfNewKey, WithoutStaysAscending, WithoutKeepsOthers, WithoutMakesNew, LowerBeginningsComeFirst};
 
 /// Being earlier is a strict total order of the keys.
 pub fn earlier_laws()
@@ -59,4 +59,9 @@ pub fn without_laws()
     ensures ascending { WithoutStaysAscending }
     ensures others { WithoutKeepsOthers }
     ensures makes_new { WithoutMakesNew }
+{}
+
+/// Paths never compare the other way round than their beginnings.
+pub fn beginning_laws()
+    ensures { LowerBeginningsComeFirst }
 {}

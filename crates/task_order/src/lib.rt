@@ -13,7 +13,8 @@ mod task_list;
 pub use blocks::Tasks;
 pub use key::{Key, key_order};
 pub use laws::{
-    ascending_laws, before_laws, earlier_laws, put_all_laws, put_in_laws, without_laws,
+    ascending_laws, before_laws, beginning_laws, earlier_laws, put_all_laws, put_in_laws,
+    without_laws,
 };
 pub use path::Path;
 pub use start::{Start, StartList};

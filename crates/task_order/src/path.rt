@@ -2,7 +2,7 @@ ghost use Rattle.std.specs.Prelude.{◌≡◌, [], ◌∷◌, ◌++◌, Some, If
 ghost use Rattle.std.specs.Ordering.{nat_cmp};
 ghost use Rattle.std.specs.Cmp.{partial_equiv_from_equiv};
 ghost use Rattle.std.specs.Cmp.Lexicographic.{pointwise, slice_cmp, nat_list_eq_equiv, nat_list_cmp_total, texts_ties, texts_po};
-ghost use Rattle.task_order.specs.PathCode.{numbers_of, IsCode};
+ghost use Rattle.task_order.specs.PathCode.{numbers_of, path_beginning, CanCode, IsCode};
 
 mod in_place;
 mod item;
@@ -63,6 +63,16 @@ impl Path {
         ensures { IfOk result (λ path. path ≡ self.now ++ number ∷ []) }
     {
         grown(self.bytes.copy()?, self.zeros, number)
+    }
+
+    /// The first eight bytes of what the path is kept as, with zeros behind their end, as a number whose
+    /// first digit is the first of them. Paths mostly compare as these numbers do, and never the other
+    /// way round (`beginning_laws`), so that a search that keeps them seldom reads a path.
+    pub fn beginning(&self) -> u64
+        ensures beginning { result ≡ path_beginning self.now }
+        ensures fits { CanCode 0 self.now }
+    {
+        self.bytes.beginning()
     }
 
     /// The same path.

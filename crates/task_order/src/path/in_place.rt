@@ -1,4 +1,4 @@
-ghost use Rattle.std.specs.Prelude.{◌≡◌, ◌+◌, ◌≤◌, [], ◌∷◌, ◌++◌, take, drop};
+ghost use Rattle.std.specs.Prelude.{◌≡◌, ◌+◌, ◌≤◌, [], ◌∷◌, ◌++◌, length, take, drop};
 ghost use Rattle.std.specs.Cmp.Lexicographic.{slice_cmp};
 ghost use Rattle.std.specs.Ordering.{nat_cmp};
 ghost use Rattle.task_order.specs.PathCode.{number_of};
@@ -33,6 +33,14 @@ fn order_behind_first(a: &InPlace, a_len: u8, b: &InPlace, b_len: u8) -> Orderin
         Ordering::Equal => last_word(a, a_len).cmp(&last_word(b, b_len)),
         order => order,
     }
+}
+
+/// The first eight bytes, as a number whose first digit is the first of them.
+pub(super) fn first_word_of(bytes: &InPlace) -> u64
+    ensures word { result ≡ number_of 0 (take 8 bytes.now) }
+    ensures whole { 8 ≤ length bytes.now }
+{
+    word_at(bytes, 0)
 }
 
 /// Eight bytes from a place on, as a number whose first digit is the first of them.

@@ -2,8 +2,10 @@ ghost use Rattle.std.specs.Prelude.{◌≡◌, ◌+◌, ◌*◌, ◌<◌, ◌%�
 ghost use Rattle.std.specs.Cmp.Lexicographic.{slice_cmp};
 ghost use Rattle.std.specs.Ordering.{nat_cmp, ordering_then};
 ghost use Rattle.std.specs.declared.cmp.Ordering.TheVariants.{Less};
+ghost use Rattle.task_order.specs.PathCode.{first_word};
 ghost use Rattle.task_order.specs.SharedBytes.{chain};
 
+use super::in_place::{InPlace, first_word_of};
 use super::joined::{order_of_alike, order_of_joined};
 use kdg_text::NoRoom;
 use std::alloc::Global;
@@ -25,6 +27,8 @@ pub(super) type Chain = Option<Arc<Node>>;
 pub(super) struct Node {
     bytes: Vec<u8>,
     level: u32,
+    // the first bytes of all, so that no search goes back to them
+    beginning: u64,
     before: Chain,
 }
 
@@ -37,7 +41,7 @@ impl Model for Node {
 
     ghost view = { λ n. chain n.before ++ n.bytes.items };
 
-    ghost invariant = { λ n. IsNode n.level n.bytes.items (chain n.before) };
+    ghost invariant = { λ n. IsNode n.level n.beginning n.bytes.items (chain n.before) };
 
     ghost size = { length };
 
@@ -50,6 +54,7 @@ impl Drop for Node {
             let Node {
                 bytes: _,
                 level: _,
+                beginning: _,
                 before,
             } = self;
             let Some(arc) = before else { return };
@@ -62,6 +67,14 @@ impl Drop for Node {
 }
 
 impl Node {
+    /// The first bytes as a number.
+    pub(super) fn beginning(&self) -> u64
+        ensures beginning { result ≡ first_word self.now }
+        ensures whole { 8 ≤ length self.now }
+    {
+        self.beginning
+    }
+
     /// The node, of those that end here, with this level.
     fn at_level(&self, level: u32) -> &Node
         requires { FULL_NODE * level < length self.now }
@@ -91,8 +104,7 @@ pub(super) fn share(nodes: &Chain) -> Result<Chain, NoRoom>
 }
 
 /// A node with the bytes of these and the new ones.
-pub(super) fn grown(alloc: Global, nodes: &Chain, bytes: &[u8]) -> Result<Node, NoRoom>
-    requires new { length bytes.now ≡ IN_PLACE }
+pub(super) fn grown(alloc: Global, nodes: &Chain, bytes: &InPlace) -> Result<Node, NoRoom>
     requires whole { length (chain nodes.now) % IN_PLACE ≡ 0 }
     ensures { IfOk result (λ node. node ≡ chain nodes.now ++ bytes.now) }
 {
@@ -100,6 +112,7 @@ pub(super) fn grown(alloc: Global, nodes: &Chain, bytes: &[u8]) -> Result<Node, 
         return Ok(Node {
             bytes: Vec::from_slice(alloc, bytes)?,
             level: 0,
+            beginning: first_word_of(bytes),
             before: None,
         });
     };
@@ -111,12 +124,14 @@ pub(super) fn grown(alloc: Global, nodes: &Chain, bytes: &[u8]) -> Result<Node, 
         return Ok(Node {
             bytes: all,
             level: last.level,
+            beginning: last.beginning,
             before: share(&last.before)?,
         });
     }
     Ok(Node {
         bytes: Vec::from_slice(alloc, bytes)?,
         level: last.level.checked_add(1).ok_or(NoRoom)?,
+        beginning: last.beginning,
         before: share(nodes)?,
     })
 }

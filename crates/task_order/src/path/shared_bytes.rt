@@ -1,9 +1,10 @@
 ghost use Rattle.std.specs.Prelude.{◌≡◌, [], ◌∷◌, ◌++◌, slice_get, IfOk, IfSome, OnOk};
 ghost use Rattle.std.specs.Cmp.Lexicographic.{slice_cmp};
 ghost use Rattle.std.specs.Ordering.{nat_cmp};
+ghost use Rattle.task_order.specs.PathCode.{first_word};
 
-use super::in_place::{InPlace, order_in_place};
-use super::node::{Chain, IN_PLACE, byte_of, grown, len_of, order_of, order_of_full, share};
+use super::in_place::{InPlace, first_word_of, order_in_place};
+use super::node::{Chain, IN_PLACE, Node, byte_of, grown, len_of, order_of, order_of_full, share};
 use kdg_text::NoRoom;
 use std::alloc::Global;
 use std::cmp::Ordering;
@@ -70,6 +71,20 @@ impl SharedBytes {
             rest_len: self.rest_len,
             alloc: self.alloc,
         })
+    }
+
+    /// The first eight bytes, with zeros behind their end, as a number whose first digit is the first of
+    /// them.
+    pub(super) fn beginning(&self) -> u64
+        ensures { result ≡ first_word self.now }
+    {
+        match &self.nodes {
+            Some(node) => {
+                let node: &Node = node;
+                node.beginning()
+            }
+            None => first_word_of(&self.rest),
+        }
     }
 
     /// How the two compare, byte by byte, where a proper prefix comes first, if the bytes of both

@@ -49,6 +49,24 @@ fn paths_print_their_numbers(rt: HostRuntime) -> Result<(), Fail> {
     Ok(())
 }
 
+/// Paths, and how each begins: as zeros where it has too few bytes, and as before where it goes on.
+const BEGINNINGS: [(u32, &[u32], u64); 5] = [
+    (0, &[], 0),
+    (7, &[], 0xf600_0000_0000_0000),
+    (7, &[3, 0, 3, 258], 0xf6f2_e2ff_0000_0102),
+    (7, &[3, 0, 3, 258, 9], 0xf6f2_e2ff_0000_0102),
+    (7, &[3; 1_200], 0xf6f2_f2f2_f2f2_f2f2),
+];
+
+#[test]
+fn paths_begin_with_their_first_numbers(rt: HostRuntime) -> Result<(), Fail> {
+    for (first, rest, beginning) in BEGINNINGS {
+        let path = path(rt.alloc(), first, rest)?;
+        assert_eq!(rt; path.beginning(), beginning);
+    }
+    Ok(())
+}
+
 #[test]
 fn long_paths_print_each_number(rt: HostRuntime) -> Result<(), Fail> {
     let long = path(rt.alloc(), 7, &[3; 1_200])?;
