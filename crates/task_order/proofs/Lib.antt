@@ -4,6 +4,7 @@ pub mod Fronts
 pub mod Distinct
 pub mod Without
 pub mod Beginnings
+pub mod FirstTasks
 pub mod Comparing
 pub mod Words
 pub mod PathCode

@@ -1,11 +1,12 @@
 -- A list of tasks that is cut into blocks.
-use Rattle.std.specs.Prelude.{◌≡◌, ◌≢◌, ℕ, suc, ◌+◌, ◌<◌, ◌≤◌, ◌^◌, ◌⊎◌, Bool, false, nat_le, List, [], ◌∷◌, ◌++◌, length, take, drop, slice_get, slice_index_or, Some}
+use Rattle.std.specs.Prelude.{◌≡◌, ◌≢◌, ℕ, suc, ◌+◌, ◌<◌, ◌≤◌, ◌^◌, ◌⊎◌, Bool, false, List, [], ◌∷◌, ◌++◌, length, take, drop, slice_get, slice_index_or, Some}
 use Rattle.std.specs.List.{AllByRecursion, remove}
 use Rattle.std.specs.declared.cmp.Ordering.TheVariants.{Less}
 use Rattle.std.specs.Ordering.{is_le}
 use Rattle.task_order.specs.declared.key.Key.{Key}
 use Rattle.task_order.specs.declared.task.Task.{Task}
 use Rattle.task_order.specs.Key.{key_cmp}
+use Rattle.task_order.specs.PathCode.{CanCode, path_beginning}
 use Rattle.task_order.specs.TaskList.{IsAscending, is_earlier}
 
 -- the tasks of all blocks
@@ -23,10 +24,10 @@ abbrev pub IsFirstPriority : ℕ → List Task → Type 0
 IsFirstPriority prio [] = Unit {0}
 IsFirstPriority prio (task ∷ tasks) = prio ≡ task.key.prio
 
--- whether a block has a first task of at most the priority
-abbrev pub starts_within : ℕ → List Task → Bool
-starts_within prio [] = false
-starts_within prio (task ∷ tasks) = nat_le task.key.prio prio
+-- a block's first task, if there is one, has a path with this beginning
+abbrev pub IsFirstBeginning : ℕ → List Task → Type 0
+IsFirstBeginning beginning [] = Unit {0}
+IsFirstBeginning beginning (task ∷ tasks) = (beginning ≡ path_beginning task.key.path) × CanCode 0 task.key.path
 
 -- the task at the place, if there is one, has a greater priority
 abbrev pub IsEndOfPriority : ℕ → List Task → ℕ → Type 0
@@ -36,9 +37,10 @@ IsEndOfPriority prio tasks place = (place ≤ length tasks) × ((d : Task) → p
 abbrev pub full_length : ℕ
 full_length = 64
 
--- a block with its first priority, few enough tasks and room for as many as there may be
-pub record IsBlock (prio : ℕ) (tasks : List Task) (capacity : ℕ) : Type 0 where
-  pub first : IsFirstPriority prio tasks
+-- a block with what it knows of its first task, few enough tasks and room for as many as there may be
+pub record IsBlock (prio beginning : ℕ) (tasks : List Task) (capacity : ℕ) : Type 0 where
+  pub first_prio : IsFirstPriority prio tasks
+  pub first_beginning : IsFirstBeginning beginning tasks
   pub few : length tasks ≤ full_length
   pub room : full_length ≤ capacity
 

@@ -8,7 +8,7 @@ ghost use Rattle.std.specs.VecDeque.Iter.{deque_iter_rest};
 ghost use Rattle.task_order.specs.declared.task.Task.{Task};
 ghost use Rattle.task_order.specs.Key.{key_cmp};
 ghost use Rattle.task_order.specs.TaskList.{IsAscending, tasks_before};
-ghost use Rattle.task_order.specs.Blocks.{starts_by, starts_within, full_length, IsEndOfPriority, IsFirstPriority};
+ghost use Rattle.task_order.specs.Blocks.{starts_by, full_length, IsEndOfPriority, IsFirstPriority, IsFirstBeginning};
 
 use crate::{Key, Task};
 use kdg_text::NoRoom;
@@ -33,8 +33,10 @@ const LAST: usize = 2;
 #[derive(Drop)]
 pub(crate) struct Block {
     tasks: VecDeque<Task>,
-    // that of the first task, so that a search among blocks seldom reads a task
+    // the first task's priority, and the beginning of its path, so that a search among blocks seldom
+    // reads a task
     first_prio: u64,
+    first_beginning: u64,
 }
 
 impl Model for Block {
@@ -47,7 +49,7 @@ impl Model for Block {
 
     ghost view = { λ block. block.tasks.items };
 
-    ghost invariant = { λ block. IsBlock block.first_prio block.tasks.items (deque_capacity block.tasks) };
+    ghost invariant = { λ block. IsBlock block.first_prio block.first_beginning block.tasks.items (deque_capacity block.tasks) };
 }
 
 /// The first task's priority, if there is one.
@@ -56,6 +58,16 @@ fn prio_of_first(tasks: &VecDeque<Task>) -> u64
 {
     match tasks.front() {
         Some(first) => first.key.prio,
+        None => 0,
+    }
+}
+
+/// The beginning of the first task's path, if there is one.
+fn beginning_of_first(tasks: &VecDeque<Task>) -> u64
+    ensures { IsFirstBeginning result tasks.now.items }
+{
+    match tasks.front() {
+        Some(first) => first.key.path.beginning(),
         None => 0,
     }
 }
@@ -135,6 +147,7 @@ impl Block {
         Ok(Block {
             tasks,
             first_prio: 0,
+            first_beginning: 0,
         })
     }
 
@@ -203,7 +216,7 @@ impl Block {
 
     /// The place of a key that is behind an earlier task, where at most a few tasks of its priority come
     /// behind that place.
-    pub(crate) fn place_by_prio(&self, key: &Key) -> Option<usize>
+    fn place_by_prio(&self, key: &Key) -> Option<usize>
         requires { IsAscending self.now }
         ensures place { IfSome result (λ place. place ≡ length (tasks_before key.now self.now)) }
         ensures some { IfSome result (λ place. 0 < place) }
@@ -217,6 +230,22 @@ impl Block {
             place -= 1;
         }
         Some(place)
+    }
+
+    /// The place of a key that is behind an earlier task, where its priority ends in this block or goes
+    /// on.
+    pub(crate) fn place_behind(&self, key: &Key, goes_on: bool) -> Option<usize>
+        requires { IsAscending self.now }
+        ensures place { IfSome result (λ place. place ≡ length (tasks_before key.now self.now)) }
+        ensures some { IfSome result (λ place. 0 < place) }
+    {
+        if !goes_on {
+            if let Some(place) = self.place_by_prio(key) {
+                return Some(place);
+            }
+        }
+        let place = self.rank(key);
+        if place > 0 { Some(place) } else { None }
     }
 
     /// How many of the tasks have at most this priority. Often these are all.
@@ -259,16 +288,32 @@ impl Block {
     {
         match self.first_prio.cmp(&key.prio) {
             Ordering::Less => self.len() > 0,
-            Ordering::Equal => self.first_is_by(key),
+            Ordering::Equal => self.first_path_is_by(key),
             Ordering::Greater => false,
         }
     }
 
-    /// Whether the first task has at most this priority.
-    pub(crate) fn starts_within(&self, prio: u64) -> bool
-        ensures { result ≡ starts_within prio self.now }
+    /// Whether the first task has at most this priority, and at this priority at most this beginning of
+    /// its path, as far as that is known without reading it.
+    pub(crate) fn starts_within(&self, prio: u64, beginning: u64) -> bool {
+        match self.first_prio.cmp(&prio) {
+            Ordering::Less => true,
+            Ordering::Equal => self.first_beginning <= beginning,
+            Ordering::Greater => false,
+        }
+    }
+
+    /// Whether the first task, which has the key's priority, is not later than the key: mostly its path
+    /// begins otherwise.
+    fn first_path_is_by(&self, key: &Key) -> bool
+        requires { IsFirstPriority key.now.prio self.now }
+        ensures { result ≡ starts_by key.now self.now }
     {
-        self.first_prio <= prio && self.len() > 0
+        match self.first_beginning.cmp(&key.path.beginning()) {
+            Ordering::Less => self.len() > 0,
+            Ordering::Equal => self.first_is_by(key),
+            Ordering::Greater => false,
+        }
     }
 
     /// The same, by the first task itself.
@@ -289,6 +334,7 @@ impl Block {
     {
         if place == 0 {
             self.first_prio = task.key.prio;
+            self.first_beginning = task.key.path.beginning();
         }
         put_at(&mut self.tasks, place, task);
     }
@@ -303,6 +349,7 @@ impl Block {
             unreachable!()
         };
         self.first_prio = prio_of_first(&self.tasks);
+        self.first_beginning = beginning_of_first(&self.tasks);
         task
     }
 
@@ -313,6 +360,7 @@ impl Block {
     {
         let task = self.tasks.pop_front()?;
         self.first_prio = prio_of_first(&self.tasks);
+        self.first_beginning = beginning_of_first(&self.tasks);
         Some(task)
     }
 
@@ -326,6 +374,11 @@ impl Block {
         let mut tasks = VecDeque::with_capacity(*self.tasks.allocator(), FULL)?;
         move_end(&mut self.tasks, place, &mut tasks);
         let first_prio = prio_of_first(&tasks);
-        Ok(Block { tasks, first_prio })
+        let first_beginning = beginning_of_first(&tasks);
+        Ok(Block {
+            tasks,
+            first_prio,
+            first_beginning,
+        })
     }
 }

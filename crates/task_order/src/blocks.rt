@@ -5,7 +5,7 @@ ghost use Rattle.std.specs.List.Sorted.{IsPartitionPoint};
 ghost use Rattle.std.specs.Iterator.{at_most};
 ghost use Rattle.std.specs.Map.Iter.{deref, TakesFirst};
 ghost use Rattle.std.specs.Option.{option_map};
-ghost use Rattle.task_order.specs.Blocks.{tasks_in, starts_by, starts_within, block_at, full_length, IsFilled, IsGapless, IsPlace, IsFound, IsElsewhere, HasRoom, IsFull, IsFree, AreOthersFilled};
+ghost use Rattle.task_order.specs.Blocks.{tasks_in, starts_by, block_at, full_length, IsFilled, IsGapless, IsPlace, IsFound, IsElsewhere, HasRoom, IsFull, IsFree, AreOthersFilled};
 ghost use Rattle.task_order.specs.TaskList.{IsAscending, IsNewKey, put_in, tasks_before, without};
 
 use crate::block::Block;
@@ -40,23 +40,21 @@ impl Model for Blocks {
     ghost view = { λ blocks. blocks.blocks.items };
 }
 
-/// How many of the first blocks have a first task of at most this priority: in strides that become
-/// shorter, since a step that doesn't wait for the one before costs less than a step of a search by
-/// halves.
-fn started_in(blocks: &[Block], prio: u64) -> usize
-    ensures bound { result ≤ length blocks.now }
-    ensures last { (result ≡ 0) ⊎ (starts_within prio (block_at blocks.now (result - 1)) ≡ true) }
-    ensures next { starts_within prio (block_at blocks.now result) ≡ false }
+/// How many of the first blocks have a first task of at most this priority, and at this priority of at
+/// most this beginning, as far as the blocks know: in strides that become shorter, since a step that
+/// doesn't wait for the one before costs less than a step of a search by halves.
+fn started_in(blocks: &[Block], prio: u64, beginning: u64) -> usize
+    ensures { result ≤ length blocks.now }
 {
     let mut count: usize = 0;
     let mut stride = longest_stride(blocks.len());
     while stride > 1 {
-        while is_started_within_at(blocks, count.saturating_add(stride - 1), prio) {
+        while is_started_within_at(blocks, count.saturating_add(stride - 1), prio, beginning) {
             count += stride;
         }
         stride /= BRANCH;
     }
-    while is_started_within_at(blocks, count, prio) {
+    while is_started_within_at(blocks, count, prio, beginning) {
         count += 1;
     }
     count
@@ -74,13 +72,12 @@ fn longest_stride(count: usize) -> usize
     stride
 }
 
-/// Whether there is a block at a place whose first task has at most this priority.
-fn is_started_within_at(blocks: &[Block], at: usize, prio: u64) -> bool
-    ensures starts { result ≡ starts_within prio (block_at blocks.now at) }
+/// Whether there is a block at a place whose first task has at most this priority and beginning.
+fn is_started_within_at(blocks: &[Block], at: usize, prio: u64, beginning: u64) -> bool
     ensures inside { OnTrue result (at < length blocks.now) }
     ensures small { length blocks.now < 2 ^ 63 }
 {
-    at < blocks.len() && blocks[at].starts_within(prio)
+    at < blocks.len() && blocks[at].starts_within(prio, beginning)
 }
 
 impl Blocks {
@@ -110,7 +107,7 @@ impl Blocks {
         }
     }
 
-    /// Where a key belongs, which is the front, or else is found by the priority or by the whole key. It
+    /// Where a key belongs, which is the front, or else is found by what the blocks know or by a search. It
     /// stays a call, so that the usual ways are short.
     #[inline(never)]
     fn place_among(&self, key: &Key) -> (usize, usize)
@@ -121,7 +118,7 @@ impl Blocks {
         if !self.is_started_at(0, key) {
             return (0, 0);
         }
-        match self.place_by_prio(key) {
+        match self.place_by_first(key) {
             Some(place) => place,
             None => self.search(key),
         }
@@ -137,15 +134,8 @@ impl Blocks {
         if at >= self.count() {
             return None;
         }
-        let block = &self.blocks[at];
-        let place = block.place_near(start, key)?;
-        if place < block.len() {
-            return Some((at, place));
-        }
-        if self.is_started_at(at + 1, key) {
-            return None;
-        }
-        Some((at, place))
+        let place = self.blocks[at].place_near(start, key)?;
+        self.unless_next_starts(at, place, key)
     }
 
     /// Whether there is a block at a place whose first task is not later than the key.
@@ -174,32 +164,59 @@ impl Blocks {
         }
     }
 
-    /// Where a key belongs, where it comes behind an earlier task of its block, and before at most a few
-    /// tasks of its priority.
-    fn place_by_prio(&self, key: &Key) -> Option<(usize, usize)>
+    /// Where a key belongs, where that is behind an earlier task of its block, by what the blocks know of
+    /// their first tasks.
+    fn place_by_first(&self, key: &Key) -> Option<(usize, usize)>
         requires ascending { IsAscending (tasks_in self.now) }
         requires gapless { IsGapless self.now }
         ensures { IfSome result (λ found. IsPlace key.now self.now found.0 found.1) }
     {
-        let at = self.started_within(key.prio).checked_sub(1)?;
-        let place = self.blocks[at].place_by_prio(key)?;
-        Some((at, place))
+        let next = self.started_within(key.prio, key.path.beginning());
+        let at = next.checked_sub(1)?;
+        let goes_on = self.is_started_within(next, key.prio);
+        let place = self.blocks[at].place_behind(key, goes_on)?;
+        self.unless_next_starts(at, place, key)
     }
 
-    /// How many blocks have a first task of at most this priority, by a search in one of the two parts of
-    /// the queue.
-    fn started_within(&self, prio: u64) -> usize
-        requires ascending { IsAscending (tasks_in self.now) }
-        requires gapless { IsGapless self.now }
-        ensures bound { result ≤ length self.now }
-        ensures point { IsPartitionPoint (λ block. starts_within prio block ≡ true) (λ block. starts_within prio block ≡ false) self.now result }
+    /// How many blocks seem to have a first task of at most this priority and beginning, by a search in
+    /// one of the two parts of the queue.
+    fn started_within(&self, prio: u64, beginning: u64) -> usize
+        ensures { result ≤ length self.now }
     {
         let (front, back) = self.blocks.as_slices();
-        if is_started_within_at(back, 0, prio) {
-            front.len() + started_in(back, prio)
+        if is_started_within_at(back, 0, prio, beginning) {
+            front.len() + started_in(back, prio, beginning)
         } else {
-            started_in(front, prio)
+            started_in(front, prio, beginning)
         }
+    }
+
+    /// Whether there is a block at a place whose first task has at most this priority.
+    fn is_started_within(&self, at: usize, prio: u64) -> bool {
+        match self.blocks.get(at) {
+            Some(block) => block.starts_within(prio, u64::MAX),
+            None => false,
+        }
+    }
+
+    /// A place in a block, unless it is the end, and the next block's first task is not later than the
+    /// key.
+    fn unless_next_starts(&self, at: usize, place: usize, key: &Key) -> Option<(usize, usize)>
+        requires ascending { IsAscending (tasks_in self.now) }
+        requires gapless { IsGapless self.now }
+        requires inside { at < length self.now }
+        requires counts { at + 1 < 2 ^ 64 }
+        requires some { 0 < place }
+        requires found { place ≡ length (tasks_before key.now (block_at self.now at)) }
+        ensures { IfSome result (λ found. IsPlace key.now self.now found.0 found.1) }
+    {
+        if place < self.block_len(at) {
+            return Some((at, place));
+        }
+        if self.is_started_at(at + 1, key) {
+            return None;
+        }
+        Some((at, place))
     }
 
     /// Where a key belongs, by a search.

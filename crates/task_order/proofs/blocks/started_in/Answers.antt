@@ -1,5 +1,4 @@
-use Rattle.std.proofs.Common.{◌≡◌, ◌+◌, ◌-◌, ◌≤◌, inr, true, sym, subst, length, arith}
-use Rattle.task_order.specs.Blocks.{block_at, starts_within}
+use Rattle.std.proofs.Common.{◌+◌, ◌≤◌, length, arith}
 use Rattle.task_order.proofs.blocks.started_in.Goals as goal
 
 pub overflow_add-count : goal.overflow_add-count
@@ -8,8 +7,7 @@ overflow_add-count c = omega (arith, c.loop-count-test.ensures.inside, c.saturat
 pub loop-count-preserved : goal.loop-count-preserved
 loop-count-preserved c =
     let inside : c.loop-count.count + c.loop-stride.stride ≤ length c.args.blocks.now = omega (arith, c.loop-count-test.ensures.inside, c.saturating_add.ensures, c.is_started_within_at.ensures.small, c.loop-stride-test.true) in
-    let same : c.saturating_add.result ≡ c.loop-count.count + c.loop-stride.stride - 1 = omega (arith, c.loop-count-test.ensures.inside, c.saturating_add.ensures, c.is_started_within_at.ensures.small, c.loop-stride-test.true) in
-    (inside, inr (subst (λ i. starts_within c.args.prio (block_at c.args.blocks.now i) ≡ true) same (sym c.loop-count-test.ensures.starts)))
+    inside
 
 pub overflow_add-count-in-loop-count-2 : goal.overflow_add-count-in-loop-count-2
 overflow_add-count-in-loop-count-2 c = omega (arith, c.loop-count-2-test.ensures.inside, c.is_started_within_at-in-loop-count-2.ensures.small)
