@@ -15,17 +15,17 @@ invariant_of-self c =
     let room : length block.tasks.items < full_length = subst (λ (tasks : List Task). length tasks < full_length) (sym c.self.view_is) c.requires.room in
     elim c.if-place-eq0.branch [
       | then-place-eq0 w ↦
-        let tasks : items ≡ insert block.tasks.items 0 c.args.task =
-        c.put_at.ensures.tasks ∙ ap (λ (inside : Inside). insert inside.tasks.items c.args.place c.args.task) w.self-inside-is ∙ ap (λ (place : ℕ). insert block.tasks.items place c.args.task) w.if-place-eq0.true in
-        let larger : deque_capacity block.tasks ≤ capacity = subst (λ (inside : Inside). deque_capacity inside.tasks ≤ capacity) w.self-inside-is c.put_at.ensures.capacity in
-        subst (λ (inside : Inside). IsBlock inside.first_prio inside.first_beginning items capacity) (sym w.self-inside-is)
-        (subst (λ (all : List Task). IsBlock c.args.task.key.prio w.beginning-self-inside.result all capacity) (sym tasks)
-        (IsBlock-before block.first_prio block.first_beginning block.tasks.items c.args.task w.beginning-self-inside.result (deque_capacity block.tasks) capacity c.self.invariant room larger (w.beginning-self-inside.ensures.beginning, w.beginning-self-inside.ensures.fits)))
+          let tasks : items ≡ insert block.tasks.items 0 c.args.task =
+          c.put_at.ensures.tasks ∙ ap (λ (inside : Inside). insert inside.tasks.items c.args.place c.args.task) w.self-inside-is ∙ ap (λ (place : ℕ). insert block.tasks.items place c.args.task) w.if-place-eq0.true in
+          let larger : deque_capacity block.tasks ≤ capacity = subst (λ (inside : Inside). deque_capacity inside.tasks ≤ capacity) w.self-inside-is c.put_at.ensures.capacity in
+          subst (λ (inside : Inside). IsBlock inside.first_prio inside.first_beginning items capacity) (sym w.self-inside-is)
+          (subst (λ (all : List Task). IsBlock c.args.task.key.prio w.beginning-self-inside.result all capacity) (sym tasks)
+          (IsBlock-before block.first_prio block.first_beginning block.tasks.items c.args.task w.beginning-self-inside.result (deque_capacity block.tasks) capacity c.self.invariant room larger (w.beginning-self-inside.ensures.beginning, w.beginning-self-inside.ensures.fits)))
       | else-place-eq0 w ↦
-        let tasks : items ≡ insert block.tasks.items c.args.place c.args.task =
-        c.put_at.ensures.tasks ∙ ap (λ (inside : Inside). insert inside.tasks.items c.args.place c.args.task) w.self-inside-is in
-        let larger : deque_capacity block.tasks ≤ capacity = subst (λ (inside : Inside). deque_capacity inside.tasks ≤ capacity) w.self-inside-is c.put_at.ensures.capacity in
-        let within : c.args.place ≤ length block.tasks.items = subst (λ (tasks : List Task). c.args.place ≤ length tasks) (sym c.self.view_is) c.requires.place in
-        subst (λ (inside : Inside). IsBlock inside.first_prio inside.first_beginning items capacity) (sym w.self-inside-is)
-        (subst (λ (all : List Task). IsBlock block.first_prio block.first_beginning all capacity) (sym tasks) (IsBlock-behind block.first_prio block.first_beginning block.tasks.items c.args.place c.args.task (deque_capacity block.tasks) capacity c.self.invariant room within w.if-place-eq0.false larger))
+          let tasks : items ≡ insert block.tasks.items c.args.place c.args.task =
+          c.put_at.ensures.tasks ∙ ap (λ (inside : Inside). insert inside.tasks.items c.args.place c.args.task) w.self-inside-is in
+          let larger : deque_capacity block.tasks ≤ capacity = subst (λ (inside : Inside). deque_capacity inside.tasks ≤ capacity) w.self-inside-is c.put_at.ensures.capacity in
+          let within : c.args.place ≤ length block.tasks.items = subst (λ (tasks : List Task). c.args.place ≤ length tasks) (sym c.self.view_is) c.requires.place in
+          subst (λ (inside : Inside). IsBlock inside.first_prio inside.first_beginning items capacity) (sym w.self-inside-is)
+          (subst (λ (all : List Task). IsBlock block.first_prio block.first_beginning all capacity) (sym tasks) (IsBlock-behind block.first_prio block.first_beginning block.tasks.items c.args.place c.args.task (deque_capacity block.tasks) capacity c.self.invariant room within w.if-place-eq0.false larger))
     ]
