@@ -1,8 +1,10 @@
 -- What a log's calls find.
-use Rattle.std.proofs.Common.{◌≡◌, ℕ, zero, suc, ◌<◌, ◌≤◌, true, false, not, List, [], ◌∷◌, ◌++◌, length, take, drop, get_or, sym, ◌∙◌, ap, arith}
+use Rattle.std.specs.Prelude.{◌↔◌, IsTrue}
+use Rattle.std.proofs.Common.{rules, ◌≡◌, ℕ, zero, suc, ◌<◌, ◌≤◌, Bool, true, false, not, List, [], ◌∷◌, ◌++◌, length, take, drop, get_or, refl, sym, ◌∙◌, ap, arith}
 use Rattle.std.proofs.Math.Seq.{take-append_seam, drop-append_seam}
 use Rattle.std.proofs.lemmas.List.{append-nil}
 use Rattle.std.proofs.lemmas.List.Elements.{filter-append}
+use Rattle.std.proofs.lemmas.List.Sums.{length-filter, count_by-le-length}
 use Rattle.std.specs.List.{AllByRecursion}
 use Rattle.std.specs.List.Sorted.{IsPartitionedBy, IsPartitionPoint, IsStrictlySortedBy}
 use Rattle.std.specs.declared.cmp.Ordering.TheVariants.{Less}
@@ -10,7 +12,7 @@ use Rattle.std.specs.Ordering.{is_lt}
 use Rattle.task_order.specs.Key.{Bound}
 use Rattle.output_log.specs.Entries.{Entry, entry_cmp, IsInKeyOrder, is_entry_before, entries_before, entries_from}
 use Rattle.output_log.proofs.Filters.{filter-cons, filter_all, filter_no, AllByRecursion-weaker}
-use Rattle.output_log.proofs.Parts.{before_sooner, earlier_come_first}
+use Rattle.output_log.proofs.Parts.{before_sooner, before-cons, none_before, earlier_come_first}
 
 pub take_before : (bound : Bound) (entries : List Entry) (count : ℕ) → IsInKeyOrder entries → count ≡ length (entries_before bound entries) → take count entries ≡ entries_before bound entries
 take_before bound entries count ordered is = (λ i. take (is i) (earlier_come_first bound entries ordered i)) ∙ take-append_seam (entries_before bound entries) (entries_from bound entries)
@@ -44,6 +46,40 @@ length-before bound (entry ∷ entries) zero inside point =
 length-before bound (entry ∷ entries) (suc place) inside point =
     ap suc (length-before bound entries place (omega (arith, inside)) ((λ k d from upto. point.0 (suc k) d (omega arith) (omega (arith, upto))), (λ k d from upto. point.1 (suc k) d (omega (arith, from)) (omega (arith, upto)))))
     ∙ sym (ap length (filter-cons (is_entry_before bound) entry entries true (point.0 0 entry (omega arith) (omega arith))))
+
+-- ---- an entry at a place
+
+pub count_within_list : (bound : Bound) (entries : List Entry) → length (entries_before bound entries) ≤ length entries
+count_within_list bound entries = omega (arith, length-filter (is_entry_before bound) entries, count_by-le-length (is_entry_before bound) entries)
+
+-- up to an entry before the bound all are counted
+counts_earlier : (bound : Bound) (entries : List Entry) (i : ℕ) (d : Entry) → IsInKeyOrder entries → i < length entries → is_entry_before bound (get_or entries i d) ≡ true → i < length (entries_before bound entries)
+unfolding IsStrictlySortedBy
+counts_earlier bound [] i d ordered inside earlier = absurd (omega (arith, inside))
+counts_earlier bound (entry ∷ entries) zero d ordered inside earlier = omega (arith, ap length (before-cons bound entry entries earlier))
+counts_earlier bound (entry ∷ entries) (suc i) d ordered inside earlier =
+    let first = first_earlier bound entry entries ordered.0 i d (omega (arith, inside)) earlier in
+    omega (arith, ap length (before-cons bound entry entries first), counts_earlier bound entries i d ordered.1 (omega (arith, inside)) earlier)
+
+one_more : (bound : Bound) (entry : Entry) (entries : List Entry) (test : Bool) → is_entry_before bound entry ≡ test → length (entries_before bound (entry ∷ entries)) ≤ suc (length (entries_before bound entries))
+one_more bound entry entries true is = omega (arith, ap length (filter-cons (is_entry_before bound) entry entries true is))
+one_more bound entry entries false is = omega (arith, ap length (filter-cons (is_entry_before bound) entry entries false is))
+
+-- from one that isn't before the bound on, none is counted
+counts_late : (bound : Bound) (entries : List Entry) (i : ℕ) (d : Entry) → IsInKeyOrder entries → i < length entries → is_entry_before bound (get_or entries i d) ≡ false → length (entries_before bound entries) ≤ i
+unfolding IsStrictlySortedBy
+counts_late bound [] i d ordered inside late = absurd (omega (arith, inside))
+counts_late bound (entry ∷ entries) zero d ordered inside late =
+    omega (arith, ap length (filter-cons (is_entry_before bound) entry entries false late), ap length (none_before bound entry entries late ordered.0))
+counts_late bound (entry ∷ entries) (suc i) d ordered inside late =
+    omega (arith, one_more bound entry entries _ refl, counts_late bound entries i d ordered.1 (omega (arith, inside)) late)
+
+pub counted_if : (bound : Bound) (entries : List Entry) (i : ℕ) (d : Entry) → IsInKeyOrder entries → i < length entries → (test : Bool) → is_entry_before bound (get_or entries i d) ≡ test → IsTrue test ↔ (i < length (entries_before bound entries))
+counted_if bound entries i d ordered inside true is = (λ _. counts_earlier bound entries i d ordered inside is, λ _. search rules)
+counted_if bound entries i d ordered inside false is = (λ no. absurd (cc), λ below. absurd (omega (arith, below, counts_late bound entries i d ordered inside is)))
+
+pub none_counted : (bound : Bound) (entries : List Entry) (i : ℕ) → length entries ≤ i → IsTrue false ↔ (i < length (entries_before bound entries))
+none_counted bound entries i outside = (λ no. absurd (cc), λ below. absurd (omega (arith, outside, below, count_within_list bound entries)))
 
 -- ---- parts of a list
 

@@ -1,5 +1,7 @@
 -- Where a bound belongs in a log that is cut into blocks.
-use Rattle.std.proofs.Common.{◌≡◌, ℕ, zero, suc, ◌+◌, ◌<◌, ◌≤◌, inl, inr, Bool, true, false, not, List, [], ◌∷◌, ◌++◌, length, take, drop, get_or, refl, sym, ◌∙◌, ap, subst, arith, add-one}
+use Rattle.std.specs.Prelude.{◌↔◌, IsTrue}
+use Rattle.std.proofs.Common.{rules, ◌≡◌, ℕ, zero, suc, ◌+◌, ◌<◌, ◌≤◌, inl, inr, Bool, true, false, not, List, [], ◌∷◌, ◌++◌, length, take, drop, get_or, refl, sym, ◌∙◌, ap, subst, arith, add-one}
+use Rattle.std.proofs.Math.Seq.{take-length}
 use Rattle.std.proofs.lemmas.Bool.{false≢true}
 use Rattle.std.specs.List.{AllByRecursion, filter}
 use Rattle.std.specs.List.Sorted.{IsStrictlySortedBy}
@@ -8,10 +10,10 @@ use Rattle.std.specs.Ordering.{is_lt}
 use Rattle.task_order.specs.Key.{Bound}
 use Rattle.output_log.specs.Entries.{Entry, entry_cmp, IsInKeyOrder, is_entry_before, entries_before, entries_from}
 use Rattle.output_log.specs.Blocks.{entries_in, block_at, entries_to, entries_behind, ends_before, IsFilled, IsInside, IsPlace}
-use Rattle.output_log.proofs.Filters.{filter-cons, AllByRecursion-append, AllByRecursion-weaker}
+use Rattle.output_log.proofs.Filters.{filter-cons, filter_all, AllByRecursion-append, AllByRecursion-weaker}
 use Rattle.output_log.proofs.Parts.{before_sooner, later_is_late, from_not}
-use Rattle.output_log.proofs.LogEntries.{take_before, drop_before, AllByRecursion-first, AllByRecursion-last, IsInKeyOrder-first, IsInKeyOrder-last, front_is_before, back_is_from}
-use Rattle.output_log.proofs.BlockEntries.{entries_in-parts, behind_all, filled_at}
+use Rattle.output_log.proofs.LogEntries.{count_within_list, take_before, drop_before, AllByRecursion-first, AllByRecursion-last, IsInKeyOrder-first, IsInKeyOrder-last, front_is_before, back_is_from}
+use Rattle.output_log.proofs.BlockEntries.{entries_in-take, entries_in-parts, behind_all, filled_at}
 
 abbrev pub AllAreBefore : Bound → List Entry → Type 0
 AllAreBefore bound entries = AllByRecursion (λ entry. is_entry_before bound entry ≡ true) entries
@@ -40,24 +42,51 @@ all_of_ended bound [] ordered ends = tt
 all_of_ended bound (entry ∷ []) ordered ends = (ends, tt)
 all_of_ended bound (entry ∷ next ∷ block) ordered ends = (sooner_than_ended bound entry (next ∷ block) ordered.0 ends, all_of_ended bound (next ∷ block) ordered.1 ends)
 
-sooner_than_block : (bound : Bound) (entry : Entry) (blocks : List (List Entry)) (at : ℕ) → AllByRecursion (λ other. entry_cmp entry other ≡ Less) (entries_in blocks) → ends_before bound (block_at blocks at) ≡ true
-    → is_entry_before bound entry ≡ true
-sooner_than_block bound entry [] at all ends = absurd (false≢true ends)
-sooner_than_block bound entry (block ∷ blocks) zero all ends = sooner_than_ended bound entry block (AllByRecursion-first (λ other. entry_cmp entry other ≡ Less) block (entries_in blocks) all) ends
-sooner_than_block bound entry (block ∷ blocks) (suc at) all ends = sooner_than_block bound entry blocks at (AllByRecursion-last (λ other. entry_cmp entry other ≡ Less) block (entries_in blocks) all) ends
+some_step : (bound : Bound) (entry : Entry) (entries : List Entry) (test : Bool) → is_entry_before bound entry ≡ test → 0 < length (entries_before bound entries) → 0 < length (entries_before bound (entry ∷ entries))
+some_step bound entry entries true is some = omega (arith, ap length (filter-cons (is_entry_before bound) entry entries true is))
+some_step bound entry entries false is some = omega (arith, ap length (filter-cons (is_entry_before bound) entry entries false is), some)
 
-all_ahead : (bound : Bound) (block : List Entry) (blocks : List (List Entry)) (at : ℕ) → IsInKeyOrder (block ++ entries_in blocks) → ends_before bound (block_at blocks at) ≡ true → AllAreBefore bound block
+-- a block that ends before the bound has an entry that is before it
+some_of_ended : (bound : Bound) (block : List Entry) → ends_before bound block ≡ true → 0 < length (entries_before bound block)
+some_of_ended bound [] ends = absurd (false≢true ends)
+some_of_ended bound (entry ∷ []) ends = omega (arith, ap length (filter-cons (is_entry_before bound) entry [] true ends))
+some_of_ended bound (entry ∷ next ∷ block) ends = some_step bound entry (next ∷ block) _ refl (some_of_ended bound (next ∷ block) ends)
+
+sooner_than_some_step : (bound : Bound) (entry other : Entry) (block : List Entry) (test : Bool) → is_entry_before bound other ≡ test → entry_cmp entry other ≡ Less → (0 < length (entries_before bound block) → is_entry_before bound entry ≡ true)
+    → 0 < length (entries_before bound (other ∷ block)) → is_entry_before bound entry ≡ true
+sooner_than_some_step bound entry other block true is sooner rest some = before_sooner bound other.0 entry is (ap is_lt sooner)
+sooner_than_some_step bound entry other block false is sooner rest some = rest (omega (arith, ap length (filter-cons (is_entry_before bound) other block false is), some))
+
+sooner_than_some : (bound : Bound) (entry : Entry) (block : List Entry) → AllByRecursion (λ other. entry_cmp entry other ≡ Less) block → 0 < length (entries_before bound block) → is_entry_before bound entry ≡ true
+sooner_than_some bound entry [] all some = absurd (omega (arith, some))
+sooner_than_some bound entry (other ∷ block) all some = sooner_than_some_step bound entry other block _ refl all.0 (sooner_than_some bound entry block all.1) some
+
+sooner_than_block : (bound : Bound) (entry : Entry) (blocks : List (List Entry)) (at : ℕ) → AllByRecursion (λ other. entry_cmp entry other ≡ Less) (entries_in blocks) → 0 < length (entries_before bound (block_at blocks at))
+    → is_entry_before bound entry ≡ true
+sooner_than_block bound entry [] at all some = absurd (omega (arith, some))
+sooner_than_block bound entry (block ∷ blocks) zero all some = sooner_than_some bound entry block (AllByRecursion-first (λ other. entry_cmp entry other ≡ Less) block (entries_in blocks) all) some
+sooner_than_block bound entry (block ∷ blocks) (suc at) all some = sooner_than_block bound entry blocks at (AllByRecursion-last (λ other. entry_cmp entry other ≡ Less) block (entries_in blocks) all) some
+
+all_ahead : (bound : Bound) (block : List Entry) (blocks : List (List Entry)) (at : ℕ) → IsInKeyOrder (block ++ entries_in blocks) → 0 < length (entries_before bound (block_at blocks at)) → AllAreBefore bound block
 unfolding IsStrictlySortedBy
-all_ahead bound [] blocks at ordered ends = tt
-all_ahead bound (entry ∷ block) blocks at ordered ends =
-    (sooner_than_block bound entry blocks at (AllByRecursion-last (λ other. entry_cmp entry other ≡ Less) block (entries_in blocks) ordered.0) ends, all_ahead bound block blocks at ordered.1 ends)
+all_ahead bound [] blocks at ordered some = tt
+all_ahead bound (entry ∷ block) blocks at ordered some =
+    (sooner_than_block bound entry blocks at (AllByRecursion-last (λ other. entry_cmp entry other ≡ Less) block (entries_in blocks) ordered.0) some, all_ahead bound block blocks at ordered.1 some)
+
+-- where a block has an entry that is before the bound, all blocks ahead of it are before the bound
+all_to_some : (bound : Bound) (blocks : List (List Entry)) (at : ℕ) → IsInKeyOrder (entries_in blocks) → 0 < length (entries_before bound (block_at blocks at)) → AllAreBefore bound (entries_in (take at blocks))
+all_to_some bound [] at ordered some = absurd (omega (arith, some))
+all_to_some bound (block ∷ blocks) zero ordered some = tt
+all_to_some bound (block ∷ blocks) (suc at) ordered some =
+    AllByRecursion-append (λ entry. is_entry_before bound entry ≡ true) block (entries_in (take at blocks)) (all_ahead bound block blocks at ordered some)
+    (all_to_some bound blocks at (IsInKeyOrder-last block (entries_in blocks) ordered) some)
 
 -- where a block ends before the bound, so do those before it
 all_to_ended : (bound : Bound) (blocks : List (List Entry)) (at : ℕ) → IsInKeyOrder (entries_in blocks) → ends_before bound (block_at blocks at) ≡ true → AllAreBefore bound (entries_in (take (suc at) blocks))
 all_to_ended bound [] at ordered ends = tt
 all_to_ended bound (block ∷ blocks) zero ordered ends = AllByRecursion-append (λ entry. is_entry_before bound entry ≡ true) block [] (all_of_ended bound block (IsInKeyOrder-first block (entries_in blocks) ordered) ends) tt
 all_to_ended bound (block ∷ blocks) (suc at) ordered ends =
-    AllByRecursion-append (λ entry. is_entry_before bound entry ≡ true) block (entries_in (take (suc at) blocks)) (all_ahead bound block blocks at ordered ends)
+    AllByRecursion-append (λ entry. is_entry_before bound entry ≡ true) block (entries_in (take (suc at) blocks)) (all_ahead bound block blocks at ordered (some_of_ended bound (block_at blocks at) ends))
     (all_to_ended bound blocks at (IsInKeyOrder-last block (entries_in blocks) ordered) ends)
 
 late_behind_block : (bound : Bound) (block others : List Entry) → IsInKeyOrder (block ++ others) → 0 < length block → ends_before bound block ≡ false → AllAreLate bound others
@@ -141,3 +170,75 @@ place_behind bound blocks at is before =
     place_from_parts bound blocks at 0 (inr (is, refl))
     (AllByRecursion-append (λ entry. is_entry_before bound entry ≡ true) (entries_in (take at blocks)) [] before tt)
     (subst (AllAreLate bound) (sym (behind_all blocks at 0 is)) tt)
+
+-- ---- the place close behind the entry that was put in last
+
+late_end : (bound : Bound) (block : List Entry) (test : Bool) → IsInKeyOrder block → length (entries_before bound block) < length block → ends_before bound block ≡ test → test ≡ false
+late_end bound block true ordered below is = absurd (omega (arith, below, ap length (filter_all (is_entry_before bound) block (all_of_ended bound block ordered is))))
+late_end bound block false ordered below is = refl
+
+-- in a block with more entries than those that are before the bound, where the blocks ahead are before it
+place_below_end : (bound : Bound) (blocks : List (List Entry)) (at place : ℕ) → IsInKeyOrder (entries_in blocks) → AllByRecursion IsFilled blocks → at < length blocks
+    → AllAreBefore bound (entries_in (take at blocks)) → place ≡ length (entries_before bound (block_at blocks at)) → place < length (block_at blocks at) → IsPlace bound blocks at place
+place_below_end bound blocks at place ordered filled inside before is below =
+    let block = block_at blocks at in
+    place_in_block bound blocks at place ordered filled inside before (late_end bound block _ (ordered_at blocks at ordered inside) (omega (arith, is, below)) refl) is
+
+-- in the block where an entry is before the bound
+pub place_in_recent : (bound : Bound) (blocks : List (List Entry)) (at place : ℕ) → IsInKeyOrder (entries_in blocks) → AllByRecursion IsFilled blocks → at < length blocks
+    → 0 < place → place ≡ length (entries_before bound (block_at blocks at)) → place < length (block_at blocks at) → IsPlace bound blocks at place
+place_in_recent bound blocks at place ordered filled inside some is below =
+    place_below_end bound blocks at place ordered filled inside (all_to_some bound blocks at ordered (omega (arith, some, is))) is below
+
+all_of_whole : (bound : Bound) (block : List Entry) → IsInKeyOrder block → length block ≤ length (entries_before bound block) → AllAreBefore bound block
+all_of_whole bound block ordered whole =
+    let same : length block ≡ length (entries_before bound block) = omega (arith, whole, count_within_list bound block) in
+    subst (AllAreBefore bound) (sym (sym (take-length block) ∙ take_before bound block (length block) ordered same)) (all_pass (is_entry_before bound) block)
+
+-- in the next block, where all of the one ahead are before the bound
+pub place_in_next : (bound : Bound) (blocks : List (List Entry)) (at count place : ℕ) → IsInKeyOrder (entries_in blocks) → AllByRecursion IsFilled blocks → at + 1 < length blocks
+    → 0 < count → count ≡ length (entries_before bound (block_at blocks at)) → length (block_at blocks at) ≤ count
+    → place ≡ length (entries_before bound (block_at blocks (at + 1))) → place < length (block_at blocks (at + 1)) → IsPlace bound blocks (at + 1) place
+place_in_next bound blocks at count place ordered filled inside some counted whole is below =
+    let block = block_at blocks at in
+    let here : at < length blocks = omega (arith, inside) in
+    let ahead = all_to_some bound blocks at ordered (omega (arith, some, counted)) in
+    let all = all_of_whole bound block (ordered_at blocks at ordered here) (omega (arith, counted, whole)) in
+    let before : AllAreBefore bound (entries_in (take (at + 1) blocks)) =
+    rw add-one (subst (AllAreBefore bound) (sym (entries_in-take blocks at here)) (AllByRecursion-append (λ entry. is_entry_before bound entry ≡ true) (entries_in (take at blocks)) block ahead all)) in
+    place_below_end bound blocks (at + 1) place ordered filled inside before is below
+
+-- ---- the place before all entries
+
+-- where the first block has no entry that is before the bound
+pub place_at_front : (bound : Bound) (blocks : List (List Entry)) → IsInKeyOrder (entries_in blocks) → AllByRecursion IsFilled blocks → length (entries_before bound (block_at blocks 0)) ≡ 0 → IsPlace bound blocks 0 0
+place_at_front bound [] ordered filled none = place_behind bound [] 0 refl tt
+place_at_front bound (block ∷ blocks) ordered filled none = place_below_end bound (block ∷ blocks) 0 0 ordered filled (omega arith) tt (sym none) filled.0.0
+
+-- ---- whether all entries are before the bound
+
+all_ended : (bound : Bound) (blocks : List (List Entry)) (last : ℕ) → IsInKeyOrder (entries_in blocks) → last + 1 ≡ length blocks → ends_before bound (block_at blocks last) ≡ true → AllAreBefore bound (entries_in blocks)
+all_ended bound blocks last ordered is ends =
+    let whole : take (suc last) blocks ≡ blocks = ap (λ n. take n blocks) (sym (add-one last) ∙ is) ∙ take-length blocks in
+    subst (λ blocks. AllAreBefore bound (entries_in blocks)) whole (all_to_ended bound blocks last ordered ends)
+
+all_in_block : (bound : Bound) (blocks : List (List Entry)) (at : ℕ) → AllAreBefore bound (entries_in blocks) → AllAreBefore bound (block_at blocks at)
+all_in_block bound [] at all = tt
+all_in_block bound (block ∷ blocks) zero all = AllByRecursion-first (λ entry. is_entry_before bound entry ≡ true) block (entries_in blocks) all
+all_in_block bound (block ∷ blocks) (suc at) all = all_in_block bound blocks at (AllByRecursion-last (λ entry. is_entry_before bound entry ≡ true) block (entries_in blocks) all)
+
+-- the last block tells
+pub all_if_ended : (bound : Bound) (blocks : List (List Entry)) (last : ℕ) → IsInKeyOrder (entries_in blocks) → AllByRecursion IsFilled blocks → last + 1 ≡ length blocks
+    → (test : Bool) → ends_before bound (block_at blocks last) ≡ test → IsTrue test ↔ AllAreBefore bound (entries_in blocks)
+all_if_ended bound blocks last ordered filled is true ends = (λ _. all_ended bound blocks last ordered is ends, λ _. search rules)
+all_if_ended bound blocks last ordered filled is false ends =
+    let block = block_at blocks last in
+    let some = (filled_at blocks last filled (omega (arith, is))).0 in
+    (λ no. absurd (cc), λ all. absurd (omega (arith, some_late bound block some ends, ap length (filter_all (is_entry_before bound) block (all_in_block bound blocks last all)))))
+
+pub all_of_none : (bound : Bound) (blocks : List (List Entry)) → length blocks ≡ 0 → IsTrue true ↔ AllAreBefore bound (entries_in blocks)
+all_of_none bound [] none = (λ _. tt, λ _. search rules)
+all_of_none bound (block ∷ blocks) none = absurd (omega (arith, none))
+
+pub place_behind_all : (bound : Bound) (blocks : List (List Entry)) (at : ℕ) → at ≡ length blocks → AllAreBefore bound (entries_in blocks) → IsPlace bound blocks at 0
+place_behind_all bound blocks at is all = place_behind bound blocks at is (subst (λ blocks. AllAreBefore bound (entries_in blocks)) (sym (ap (λ n. take n blocks) is ∙ take-length blocks)) all)

@@ -1,4 +1,4 @@
-ghost use Rattle.std.specs.Prelude.{◌≡◌, ◌<◌, ◌≤◌, ◌↔◌, [], ◌∷◌, ◌++◌, length, take, drop, IsTrue, IfOk, OnOk};
+ghost use Rattle.std.specs.Prelude.{◌≡◌, ◌<◌, ◌≤◌, ◌↔◌, [], ◌∷◌, ◌++◌, length, take, drop, IsTrue, IfOk, IfSome, OnOk};
 ghost use Rattle.std.specs.List.{insert};
 ghost use Rattle.std.specs.VecDeque.{deque_len, deque_capacity};
 ghost use Rattle.task_order.specs.Key.{at_key};
@@ -13,6 +13,9 @@ use task_order::Key;
 
 /// How many entries a block has when it is full.
 pub(crate) const FULL: usize = 64;
+
+/// How many entries a search passes one by one, before it halves.
+const NEAR: usize = 8;
 
 /// A part of a log, with place for all the entries that it may have.
 #[derive(Drop)]
@@ -33,13 +36,17 @@ impl Model for Block {
     ghost invariant = { λ block. (length block.entries.items ≤ full_length) × (full_length ≤ deque_capacity block.entries) };
 }
 
-/// Puts an entry at a place, where there is memory for it.
+/// Puts an entry at a place, which often is the end, where there is memory for it.
 fn put_at(entries: &mut VecDeque<(Key, Text)>, place: usize, entry: (Key, Text))
     requires place { place ≤ length entries.old.items }
     requires room { deque_len entries.old < deque_capacity entries.old }
     ensures items { entries.new.items ≡ insert entries.old.items place entry }
     ensures capacity { deque_capacity entries.old ≤ deque_capacity entries.new }
 {
+    if place == entries.len() {
+        entries.push_back_reserved(entry);
+        return;
+    }
     match entries.insert(place, entry) {
         Ok(()) => {}
         Err(_) => unreachable!(),
@@ -74,7 +81,46 @@ impl Block {
         }
     }
 
-    /// How many entries are earlier than the key.
+    /// Whether there is an entry at a place that is earlier than the key.
+    pub(crate) fn is_earlier_at(&self, place: usize, key: &Key) -> bool
+        requires { IsInKeyOrder self.now }
+        ensures { IsTrue result ↔ (place < length (entries_before (at_key key.now) self.now)) }
+    {
+        match self.entries.get(place) {
+            Some(entry) => entry.0.compare(key).is_lt(),
+            None => false,
+        }
+    }
+
+    /// How many entries are earlier than the key, where it comes behind an earlier entry at the end of
+    /// so many.
+    pub(crate) fn rank_near(&self, start: usize, key: &Key) -> Option<usize>
+        requires { IsInKeyOrder self.now }
+        ensures rank { IfSome result (λ rank. rank ≡ length (entries_before (at_key key.now) self.now)) }
+        ensures some { IfSome result (λ rank. 0 < rank) }
+    {
+        if !self.is_earlier_at(start.checked_sub(1)?, key) {
+            return None;
+        }
+        Some(self.rank_from(start, key))
+    }
+
+    /// How many entries are earlier than the key, where so many are known to be. Often there are only a
+    /// few more.
+    pub(crate) fn rank_from(&self, start: usize, key: &Key) -> usize
+        requires ordered { IsInKeyOrder self.now }
+        requires start { start ≤ length (entries_before (at_key key.now) self.now) }
+        ensures { result ≡ length (entries_before (at_key key.now) self.now) }
+    {
+        for place in start..start.saturating_add(NEAR) {
+            if !self.is_earlier_at(place, key) {
+                return place;
+            }
+        }
+        self.rank(key)
+    }
+
+    /// The same by halving.
     pub(crate) fn rank(&self, key: &Key) -> usize
         requires { IsInKeyOrder self.now }
         ensures { result ≡ length (entries_before (at_key key.now) self.now) }

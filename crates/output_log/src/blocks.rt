@@ -1,4 +1,4 @@
-ghost use Rattle.std.specs.Prelude.{◌≡◌, ◌+◌, ◌<◌, ◌≤◌, ◌^◌, ◌⊎◌, ◌↔◌, true, false, [], ◌∷◌, ◌++◌, length, take, drop, slice_set, IsTrue, IfOk, OnOk, OnErr};
+ghost use Rattle.std.specs.Prelude.{◌≡◌, ◌+◌, ◌<◌, ◌≤◌, ◌^◌, ◌⊎◌, ◌↔◌, true, false, [], ◌∷◌, ◌++◌, length, take, drop, slice_set, IsTrue, IfOk, IfSome, OnOk, OnErr};
 ghost use Rattle.std.specs.List.{AllByRecursion, insert};
 ghost use Rattle.std.specs.VecDeque.{deque_len, deque_capacity};
 ghost use Rattle.task_order.specs.Key.{at_key};
@@ -24,8 +24,10 @@ const MOST_BLOCKS: usize = usize::MAX / 128;
 pub(crate) struct Blocks {
     blocks: VecDeque<Block>,
     spare: Vec<Block>,
-    // the block of the entry that was put in last; should it be another one by now, a search takes longer
+    // the block of the entry that was put in last, and the place behind it there; should they be other
+    // ones by now, a search takes longer
     recent: usize,
+    behind: usize,
 }
 
 impl Model for Blocks {
@@ -75,6 +77,7 @@ impl Blocks {
             blocks: VecDeque::new(alloc),
             spare: Vec::new(alloc),
             recent: 0,
+            behind: 0,
         }
     }
 
@@ -117,8 +120,65 @@ impl Blocks {
         self.blocks.is_empty()
     }
 
-    /// Where a key belongs: in which block, and behind how many of its entries.
+    /// Where a key belongs, which often is before all entries: in which block, and behind how many of its
+    /// entries.
+    pub(crate) fn front_of(&self, key: &Key) -> (usize, usize)
+        requires { IsInKeyOrder (entries_in self.now.blocks) }
+        ensures { IsPlace (at_key key.now) self.now.blocks result.0 result.1 }
+    {
+        match self.blocks.front() {
+            Some(first) if first.is_earlier_at(0, key) => self.place_of(key),
+            _ => (0, 0),
+        }
+    }
+
+    /// Where a key belongs, which often is behind all entries, or close behind the one that was put in
+    /// last.
     pub(crate) fn place_of(&self, key: &Key) -> (usize, usize)
+        requires { IsInKeyOrder (entries_in self.now.blocks) }
+        ensures { IsPlace (at_key key.now) self.now.blocks result.0 result.1 }
+    {
+        if self.ends_before(key) {
+            return (self.blocks.len(), 0);
+        }
+        match self.place_near(key) {
+            Some(found) => found,
+            None => self.place_by_search(key),
+        }
+    }
+
+    /// Whether all entries are earlier than the key.
+    fn ends_before(&self, key: &Key) -> bool
+        requires { IsInKeyOrder (entries_in self.now.blocks) }
+        ensures { IsTrue result ↔ AllByRecursion (λ entry. is_entry_before (at_key key.now) entry ≡ true) (entries_in self.now.blocks) }
+    {
+        match self.blocks.back() {
+            Some(last) => last.ends_before(key),
+            None => true,
+        }
+    }
+
+    /// Where a key belongs, where that is behind the entry that was put in last, in the same block or
+    /// early in the next one.
+    fn place_near(&self, key: &Key) -> Option<(usize, usize)>
+        requires { IsInKeyOrder (entries_in self.now.blocks) }
+        ensures { IfSome result (λ found. IsPlace (at_key key.now) self.now.blocks found.0 found.1) }
+    {
+        let block = self.blocks.get(self.recent)?;
+        let rank = block.rank_near(self.behind, key)?;
+        if rank < block.len() {
+            return Some((self.recent, rank));
+        }
+        let next = self.blocks.get(self.recent + 1)?;
+        let rank_in_next = next.rank_from(0, key);
+        if rank_in_next < next.len() {
+            return Some((self.recent + 1, rank_in_next));
+        }
+        None
+    }
+
+    /// Where a key belongs, wherever that is.
+    fn place_by_search(&self, key: &Key) -> (usize, usize)
         requires { IsInKeyOrder (entries_in self.now.blocks) }
         ensures { IsPlace (at_key key.now) self.now.blocks result.0 result.1 }
     {
@@ -204,6 +264,7 @@ impl Blocks {
         ensures spare { self.new.spare ≡ self.old.spare }
     {
         self.recent = at;
+        self.behind = place + 1;
         self.blocks[at].insert(place, entry);
     }
 
@@ -225,6 +286,7 @@ impl Blocks {
         block.insert(place, entry);
         put_at(&mut self.blocks, at + 1, rest);
         self.recent = at;
+        self.behind = place + 1;
     }
 
     /// Makes a spare block one that has an entry.
@@ -240,6 +302,7 @@ impl Blocks {
         block.insert(0, entry);
         put_at(&mut self.blocks, at, block);
         self.recent = at;
+        self.behind = 1;
     }
 
     /// How many entries a block has.

@@ -87,7 +87,7 @@ impl Log {
         ensures spare { self.old.spare ≤ self.new.spare }
         ensures ordered { IsInKeyOrder self.old.entries }
     {
-        let (at, place) = self.blocks.place_of(key);
+        let (at, place) = self.blocks.front_of(key);
         self.blocks.take_to(at, place)
     }
 
