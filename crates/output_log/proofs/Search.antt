@@ -1,6 +1,5 @@
 -- Where a bound belongs in a log that is cut into blocks.
-use Rattle.std.specs.Prelude.{◌↔◌, IsTrue}
-use Rattle.std.proofs.Common.{rules, ◌≡◌, ℕ, zero, suc, ◌+◌, ◌<◌, ◌≤◌, inl, inr, Bool, true, false, not, List, [], ◌∷◌, ◌++◌, length, take, drop, get_or, refl, sym, ◌∙◌, ap, subst, arith, add-one}
+use Rattle.std.proofs.Common.{◌≡◌, ℕ, zero, suc, ◌+◌, ◌<◌, ◌≤◌, inl, inr, Bool, true, false, not, List, [], ◌∷◌, ◌++◌, length, take, drop, get_or, refl, sym, ◌∙◌, ap, subst, arith, add-one}
 use Rattle.std.proofs.Math.Seq.{take-length}
 use Rattle.std.proofs.lemmas.Bool.{false≢true}
 use Rattle.std.specs.List.{AllByRecursion, filter}
@@ -195,18 +194,27 @@ all_of_whole bound block ordered whole =
     let same : length block ≡ length (entries_before bound block) = omega (arith, whole, count_within_list bound block) in
     subst (AllAreBefore bound) (sym (sym (take-length block) ∙ take_before bound block (length block) ordered same)) (all_pass (is_entry_before bound) block)
 
--- in the next block, where all of the one ahead are before the bound
+-- where all entries of a block are before the bound, and some are there, so are those of the blocks ahead
+all_to_whole : (bound : Bound) (blocks : List (List Entry)) (at count : ℕ) → IsInKeyOrder (entries_in blocks) → at < length blocks
+    → 0 < count → count ≡ length (entries_before bound (block_at blocks at)) → length (block_at blocks at) ≤ count → AllAreBefore bound (entries_in (take (at + 1) blocks))
+all_to_whole bound blocks at count ordered inside some counted whole =
+    let block = block_at blocks at in
+    let ahead = all_to_some bound blocks at ordered (omega (arith, some, counted)) in
+    let all = all_of_whole bound block (ordered_at blocks at ordered inside) (omega (arith, counted, whole)) in
+    rw add-one (subst (AllAreBefore bound) (sym (entries_in-take blocks at inside)) (AllByRecursion-append (λ entry. is_entry_before bound entry ≡ true) (entries_in (take at blocks)) block ahead all))
+
+-- in the next block
 pub place_in_next : (bound : Bound) (blocks : List (List Entry)) (at count place : ℕ) → IsInKeyOrder (entries_in blocks) → AllByRecursion IsFilled blocks → at + 1 < length blocks
     → 0 < count → count ≡ length (entries_before bound (block_at blocks at)) → length (block_at blocks at) ≤ count
     → place ≡ length (entries_before bound (block_at blocks (at + 1))) → place < length (block_at blocks (at + 1)) → IsPlace bound blocks (at + 1) place
 place_in_next bound blocks at count place ordered filled inside some counted whole is below =
-    let block = block_at blocks at in
-    let here : at < length blocks = omega (arith, inside) in
-    let ahead = all_to_some bound blocks at ordered (omega (arith, some, counted)) in
-    let all = all_of_whole bound block (ordered_at blocks at ordered here) (omega (arith, counted, whole)) in
-    let before : AllAreBefore bound (entries_in (take (at + 1) blocks)) =
-    rw add-one (subst (AllAreBefore bound) (sym (entries_in-take blocks at here)) (AllByRecursion-append (λ entry. is_entry_before bound entry ≡ true) (entries_in (take at blocks)) block ahead all)) in
-    place_below_end bound blocks (at + 1) place ordered filled inside before is below
+    place_below_end bound blocks (at + 1) place ordered filled inside (all_to_whole bound blocks at count ordered (omega (arith, inside)) some counted whole) is below
+
+-- behind the last block
+pub place_behind_last : (bound : Bound) (blocks : List (List Entry)) (at count : ℕ) → IsInKeyOrder (entries_in blocks) → at + 1 ≡ length blocks
+    → 0 < count → count ≡ length (entries_before bound (block_at blocks at)) → length (block_at blocks at) ≤ count → IsPlace bound blocks (at + 1) 0
+place_behind_last bound blocks at count ordered last some counted whole =
+    place_behind bound blocks (at + 1) last (all_to_whole bound blocks at count ordered (omega (arith, last)) some counted whole)
 
 -- ---- the place before all entries
 
@@ -214,31 +222,3 @@ place_in_next bound blocks at count place ordered filled inside some counted who
 pub place_at_front : (bound : Bound) (blocks : List (List Entry)) → IsInKeyOrder (entries_in blocks) → AllByRecursion IsFilled blocks → length (entries_before bound (block_at blocks 0)) ≡ 0 → IsPlace bound blocks 0 0
 place_at_front bound [] ordered filled none = place_behind bound [] 0 refl tt
 place_at_front bound (block ∷ blocks) ordered filled none = place_below_end bound (block ∷ blocks) 0 0 ordered filled (omega arith) tt (sym none) filled.0.0
-
--- ---- whether all entries are before the bound
-
-all_ended : (bound : Bound) (blocks : List (List Entry)) (last : ℕ) → IsInKeyOrder (entries_in blocks) → last + 1 ≡ length blocks → ends_before bound (block_at blocks last) ≡ true → AllAreBefore bound (entries_in blocks)
-all_ended bound blocks last ordered is ends =
-    let whole : take (suc last) blocks ≡ blocks = ap (λ n. take n blocks) (sym (add-one last) ∙ is) ∙ take-length blocks in
-    subst (λ blocks. AllAreBefore bound (entries_in blocks)) whole (all_to_ended bound blocks last ordered ends)
-
-all_in_block : (bound : Bound) (blocks : List (List Entry)) (at : ℕ) → AllAreBefore bound (entries_in blocks) → AllAreBefore bound (block_at blocks at)
-all_in_block bound [] at all = tt
-all_in_block bound (block ∷ blocks) zero all = AllByRecursion-first (λ entry. is_entry_before bound entry ≡ true) block (entries_in blocks) all
-all_in_block bound (block ∷ blocks) (suc at) all = all_in_block bound blocks at (AllByRecursion-last (λ entry. is_entry_before bound entry ≡ true) block (entries_in blocks) all)
-
--- the last block tells
-pub all_if_ended : (bound : Bound) (blocks : List (List Entry)) (last : ℕ) → IsInKeyOrder (entries_in blocks) → AllByRecursion IsFilled blocks → last + 1 ≡ length blocks
-    → (test : Bool) → ends_before bound (block_at blocks last) ≡ test → IsTrue test ↔ AllAreBefore bound (entries_in blocks)
-all_if_ended bound blocks last ordered filled is true ends = (λ _. all_ended bound blocks last ordered is ends, λ _. search rules)
-all_if_ended bound blocks last ordered filled is false ends =
-    let block = block_at blocks last in
-    let some = (filled_at blocks last filled (omega (arith, is))).0 in
-    (λ no. absurd (cc), λ all. absurd (omega (arith, some_late bound block some ends, ap length (filter_all (is_entry_before bound) block (all_in_block bound blocks last all)))))
-
-pub all_of_none : (bound : Bound) (blocks : List (List Entry)) → length blocks ≡ 0 → IsTrue true ↔ AllAreBefore bound (entries_in blocks)
-all_of_none bound [] none = (λ _. tt, λ _. search rules)
-all_of_none bound (block ∷ blocks) none = absurd (omega (arith, none))
-
-pub place_behind_all : (bound : Bound) (blocks : List (List Entry)) (at : ℕ) → at ≡ length blocks → AllAreBefore bound (entries_in blocks) → IsPlace bound blocks at 0
-place_behind_all bound blocks at is all = place_behind bound blocks at is (subst (λ blocks. AllAreBefore bound (entries_in blocks)) (sym (ap (λ n. take n blocks) is ∙ take-length blocks)) all)

@@ -14,7 +14,7 @@ use task_order::Key;
 /// How many entries a block has when it is full.
 pub(crate) const FULL: usize = 64;
 
-/// How many entries a search passes one by one, before it halves.
+/// From how many entries on that a search has passed it gives up.
 const NEAR: usize = 8;
 
 /// A part of a log, with place for all the entries that it may have.
@@ -84,7 +84,8 @@ impl Block {
     /// Whether there is an entry at a place that is earlier than the key.
     pub(crate) fn is_earlier_at(&self, place: usize, key: &Key) -> bool
         requires { IsInKeyOrder self.now }
-        ensures { IsTrue result ↔ (place < length (entries_before (at_key key.now) self.now)) }
+        ensures counted { IsTrue result ↔ (place < length (entries_before (at_key key.now) self.now)) }
+        ensures few { length (entries_before (at_key key.now) self.now) ≤ full_length }
     {
         match self.entries.get(place) {
             Some(entry) => entry.0.compare(key).is_lt(),
@@ -92,8 +93,8 @@ impl Block {
         }
     }
 
-    /// How many entries are earlier than the key, where it comes behind an earlier entry at the end of
-    /// so many.
+    /// How many entries are earlier than the key, where it comes at most a few places behind a place that
+    /// is behind an earlier one.
     pub(crate) fn rank_near(&self, start: usize, key: &Key) -> Option<usize>
         requires { IsInKeyOrder self.now }
         ensures rank { IfSome result (λ rank. rank ≡ length (entries_before (at_key key.now) self.now)) }
@@ -102,25 +103,38 @@ impl Block {
         if !self.is_earlier_at(start.checked_sub(1)?, key) {
             return None;
         }
-        Some(self.rank_from(start, key))
+        self.rank_from(start, key)
     }
 
-    /// How many entries are earlier than the key, where so many are known to be. Often there are only a
-    /// few more.
-    pub(crate) fn rank_from(&self, start: usize, key: &Key) -> usize
+    /// How many entries are earlier than the key, where so many are known to be, and at most a few more
+    /// are: in steps that double, and then by halving.
+    pub(crate) fn rank_from(&self, start: usize, key: &Key) -> Option<usize>
         requires ordered { IsInKeyOrder self.now }
         requires start { start ≤ length (entries_before (at_key key.now) self.now) }
-        ensures { result ≡ length (entries_before (at_key key.now) self.now) }
+        ensures { IfSome result (λ rank. rank ≡ length (entries_before (at_key key.now) self.now)) }
     {
-        for place in start..start.saturating_add(NEAR) {
-            if !self.is_earlier_at(place, key) {
-                return place;
+        let mut low = start;
+        let mut high = start;
+        while self.is_earlier_at(high, key) {
+            let passed = high - start;
+            if passed >= NEAR {
+                return None;
+            }
+            low = high + 1;
+            high = low + passed;
+        }
+        while low < high {
+            let middle = low + (high - low) / 2;
+            if self.is_earlier_at(middle, key) {
+                low = middle + 1;
+            } else {
+                high = middle;
             }
         }
-        self.rank(key)
+        Some(low)
     }
 
-    /// The same by halving.
+    /// How many entries are earlier than the key.
     pub(crate) fn rank(&self, key: &Key) -> usize
         requires { IsInKeyOrder self.now }
         ensures { result ≡ length (entries_before (at_key key.now) self.now) }

@@ -132,34 +132,19 @@ impl Blocks {
         }
     }
 
-    /// Where a key belongs, which often is behind all entries, or close behind the one that was put in
-    /// last.
+    /// Where a key belongs, which often is close behind the entry that was put in last.
     pub(crate) fn place_of(&self, key: &Key) -> (usize, usize)
         requires { IsInKeyOrder (entries_in self.now.blocks) }
         ensures { IsPlace (at_key key.now) self.now.blocks result.0 result.1 }
     {
-        if self.ends_before(key) {
-            return (self.blocks.len(), 0);
-        }
         match self.place_near(key) {
             Some(found) => found,
             None => self.place_by_search(key),
         }
     }
 
-    /// Whether all entries are earlier than the key.
-    fn ends_before(&self, key: &Key) -> bool
-        requires { IsInKeyOrder (entries_in self.now.blocks) }
-        ensures { IsTrue result ↔ AllByRecursion (λ entry. is_entry_before (at_key key.now) entry ≡ true) (entries_in self.now.blocks) }
-    {
-        match self.blocks.back() {
-            Some(last) => last.ends_before(key),
-            None => true,
-        }
-    }
-
-    /// Where a key belongs, where that is behind the entry that was put in last, in the same block or
-    /// early in the next one.
+    /// Where a key belongs, where that is at most a few places behind the entry that was put in last, in
+    /// the same block or early in the next one.
     fn place_near(&self, key: &Key) -> Option<(usize, usize)>
         requires { IsInKeyOrder (entries_in self.now.blocks) }
         ensures { IfSome result (λ found. IsPlace (at_key key.now) self.now.blocks found.0 found.1) }
@@ -169,8 +154,10 @@ impl Blocks {
         if rank < block.len() {
             return Some((self.recent, rank));
         }
-        let next = self.blocks.get(self.recent + 1)?;
-        let rank_in_next = next.rank_from(0, key);
+        let Some(next) = self.blocks.get(self.recent + 1) else {
+            return Some((self.recent + 1, 0));
+        };
+        let rank_in_next = next.rank_from(0, key)?;
         if rank_in_next < next.len() {
             return Some((self.recent + 1, rank_in_next));
         }
