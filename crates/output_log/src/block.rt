@@ -82,6 +82,7 @@ impl Block {
     }
 
     /// Whether there is an entry at a place that is earlier than the key.
+    #[inline(always)]
     pub(crate) fn is_earlier_at(&self, place: usize, key: &Key) -> bool
         requires { IsInKeyOrder self.now }
         ensures counted { IsTrue result ↔ (place < length (entries_before (at_key key.now) self.now)) }

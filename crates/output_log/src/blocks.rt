@@ -24,8 +24,8 @@ const MOST_BLOCKS: usize = usize::MAX / 128;
 pub(crate) struct Blocks {
     blocks: VecDeque<Block>,
     spare: Vec<Block>,
-    // the block of the entry that was put in last, and the place behind it there; should they be other
-    // ones by now, a search takes longer
+    // the block of the entry that was put in last, and the place behind it there, or 0 where the next one
+    // may be anywhere; should they be other ones by now, a search takes longer
     recent: usize,
     behind: usize,
 }
@@ -52,6 +52,16 @@ fn put_at(blocks: &mut VecDeque<Block>, at: usize, block: Block)
     match blocks.insert(at, block) {
         Ok(()) => {}
         Err(_) => unreachable!(),
+    }
+}
+
+/// The place behind an entry that was put in, as a hint for the next one. Where it went far from the
+/// entry before it, the next one seldom comes close behind it: then the hint is 0.
+fn place_behind(recent: usize, at: usize, place: usize) -> usize {
+    if at.wrapping_sub(recent) <= 1 {
+        place.saturating_add(1)
+    } else {
+        0
     }
 }
 
@@ -250,8 +260,8 @@ impl Blocks {
         ensures blocks { self.new.blocks ≡ slice_set self.old.blocks at (insert (block_at self.old.blocks at) place entry) }
         ensures spare { self.new.spare ≡ self.old.spare }
     {
+        self.behind = place_behind(self.recent, at, place);
         self.recent = at;
-        self.behind = place + 1;
         self.blocks[at].insert(place, entry);
     }
 
@@ -272,8 +282,8 @@ impl Blocks {
         block.cut(place.max(HALF), &mut rest);
         block.insert(place, entry);
         put_at(&mut self.blocks, at + 1, rest);
+        self.behind = place_behind(self.recent, at, place);
         self.recent = at;
-        self.behind = place + 1;
     }
 
     /// Makes a spare block one that has an entry.
@@ -288,8 +298,8 @@ impl Blocks {
         };
         block.insert(0, entry);
         put_at(&mut self.blocks, at, block);
+        self.behind = place_behind(self.recent, at, 0);
         self.recent = at;
-        self.behind = 1;
     }
 
     /// How many entries a block has.

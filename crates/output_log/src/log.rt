@@ -12,8 +12,10 @@ use task_order::Key;
 /// The texts of tasks that have ended, in the order of the tasks' keys, until they are taken.
 ///
 /// The entries stand in blocks. To put one in takes time in the logarithm of its distance to the one
-/// before it, counted in blocks, and moves some entries of its block. Entries are taken from the front
-/// by whole blocks. `reserve` makes a spare block for each entry to come, unless they are there.
+/// before it, counted in blocks, and moves some entries of its block; where it comes close behind that
+/// one, a few comparisons find its place. Entries are taken from the front by whole blocks, and where
+/// the first one is not to be taken, one comparison tells. `reserve` makes a spare block for each entry
+/// to come, unless they are there.
 #[derive(Drop)]
 pub struct Log {
     blocks: Blocks,
