@@ -1,3 +1,4 @@
+pub mod AsDrawn
 pub mod Dealing
 pub mod Drained
 pub mod Drawing

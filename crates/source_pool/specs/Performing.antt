@@ -3,11 +3,13 @@ use Rattle.std.specs.Prelude.{◌≡◌, ◌+◌, ◌%◌, ◌==◌, ◌++◌, i
 use Rattle.std.specs.List.{All, AllByRecursion, flat_map}
 use Rattle.std.specs.Option.{option_map}
 use Rattle.app_laws.specs.Applications.{Application}
+use Rattle.commuting.specs.States.{State}
 use Rattle.graph_update.specs.declared.job.Done.{Done}
 use Rattle.graph_update.specs.declared.job.Job.{Job}
 use Rattle.graph_update.specs.Engine.{MayRun}
+use Rattle.graph_update.specs.Progress.{Progress}
 use Rattle.source_pool.specs.declared.hands.Hand.{Hand}
-use Rattle.source_pool.specs.Course.{IsJobDone}
+use Rattle.source_pool.specs.Course.{IsDrawing, IsJobDone}
 
 -- of items numbered from a first number on, those whose number leaves the worker's when it is divided by the count of workers
 abbrev pub share : {X : Type 0} → ℕ → ℕ → ℕ → List X → List X
@@ -56,6 +58,13 @@ module _ {V : Type 0} where
       pub turn : List (Job V)
       pub same : IsPermutation jobs turn
       pub done : AreDoneInTurn turn slots
+
+    -- Jobs are drawn in a round of a run from the start, which began in the state, after the text was drained. Each of them is
+    -- performed, in some order, and the slots have what was done.
+    pub record IsDrawnAndDone (start : Progress V) (cells : List V) (state : State V) (text : List ℕ) (now : Progress V) (slots : List (Option (Done V))) : Type 0 where
+      pub jobs : List (Job V)
+      pub drawing : IsDrawing app start cells state text now jobs
+      pub done : AreDoneInSomeTurn jobs slots
 
 -- what was done in all hands, hand by hand, where each is done
 abbrev pub gathered : {J D : Type 0} → List (Hand J D) → Option (List (Option D))

@@ -56,13 +56,13 @@ impl<'g, G: Gate> Picks<'g, G> {
     }
 
     /// Begins a round.
-    fn begin_round(&mut self) {
+    pub(crate) fn begin_round(&mut self) {
         self.of_round.clear();
     }
 
     /// The pick of the next turn.
     #[inline(always)]
-    fn next(&mut self) -> u64 {
+    pub(crate) fn next(&mut self) -> u64 {
         let pick = self.take_next();
         // Where there is no memory for it, the order of the turns is found by the keys.
         let _ = self.of_round.push(pick);

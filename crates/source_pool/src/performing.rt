@@ -1,19 +1,23 @@
 //! How the jobs of a round are performed by some workers.
 
-ghost use Rattle.std.specs.Prelude.{◌≡◌, ◌+◌, ◌-◌, ◌<◌, ◌≤◌, ◌^◌, min, length, sum_by, OnOk};
+ghost use Rattle.std.specs.Prelude.{◌≡◌, ◌≢◌, ◌+◌, ◌-◌, ◌<◌, ◌≤◌, ◌^◌, [], min, length, sum_by, OnOk};
 ghost use Rattle.std.specs.List.{AllByRecursion};
-ghost use Rattle.task_order.specs.TaskList.{IsAscending};
+ghost use Rattle.cell_store.specs.Values.{values_of};
+ghost use Rattle.commuting.specs.Rounds.{after_round};
 ghost use Rattle.graph_update.specs.Engine.{MayRun};
-ghost use Rattle.source_pool.specs.Course.{AreAllDone, HaveOwnKeys, done_tasks};
-ghost use Rattle.source_pool.specs.Performing.{AreDoneInSomeTurn, AreDoneInTurn};
+ghost use Rattle.graph_update.specs.Events.{clear_nodes};
+ghost use Rattle.source_pool.specs.Course.{IsAtRest, IsEnding, RunPoint};
+ghost use Rattle.source_pool.specs.Performing.{AreDoneInSomeTurn, AreDoneInTurn, IsDrawnAndDone};
 ghost use Rattle.source_pool.specs.Turns.{taken_in_turn};
 
+use crate::claiming::{Picks, draw};
 use crate::finishing::order_turns;
 use crate::hands::perform_together;
+use crate::laws::drawing_laws;
 use crate::round_lists::RoundLists;
 use app_laws::App;
 use cell_store::Held;
-use graph_update::{Done, Job, perform};
+use graph_update::{Claim, Done, Engine, Job, perform};
 use kdg_text::NoRoom;
 use outer_edge::Gate;
 use std::collections::VecDeque;
@@ -28,32 +32,93 @@ use task_order::{ascending_laws, earlier_laws};
 /// twentieth less.
 const MANY_CELLS: usize = 16_384;
 
-/// Performs the jobs of a round, and orders what was done by its keys: job number `i` is worker
-/// `i mod workers`'s, and each worker performs its jobs in order. The lists then have what was done
-/// and its turns. The picks are those by which the jobs were drawn, as far as they are known.
-pub(crate) fn perform_jobs<R: Threads + Sync, A: App + Sync, G: Gate + Sync>(
+/// Draws the jobs of all clear tasks, has them performed, and orders what was done by its keys: job
+/// number `i` is worker `i mod workers`'s, and each worker performs its jobs in order. The lists then
+/// have what was done and its turns; what was in them is dropped.
+pub(crate) fn perform_round<R: Threads + Sync, A: App + Sync, G: Gate + Sync>(
     rt: &R,
-    app: &A,
-    gate: &G,
+    engine: &mut Engine<'_, A>,
+    picks: &mut Picks<'_, G>,
     workers: u32,
-    picks: &[u64],
     lists: &mut RoundLists<A::Val>,
 ) -> Result<(), NoRoom>
+    ghost from: { RunPoint A.Val }
     requires workers { 1 ≤ workers }
-    requires may_run { AllByRecursion (MayRun (A.meaning app.now)) lists.old.jobs.items }
-    requires own { HaveOwnKeys lists.old.jobs.items }
-    ensures done { OnOk result (AreAllDone (A.meaning app.now) lists.old.jobs.items (taken_in_turn lists.new.dones.items lists.new.turns.items)) }
-    ensures order { OnOk result (IsAscending (done_tasks (taken_in_turn lists.new.dones.items lists.new.turns.items))) }
+    requires rest { IsAtRest (A.meaning engine.old.app) from.start (values_of from.start.cells) from.state from.text engine.old.progress }
+    requires some { engine.old.progress.nodes ≢ [] }
+    ensures app { engine.new.app ≡ engine.old.app }
+    ensures ending { OnOk result (IsEnding (A.meaning engine.old.app) from.start (values_of from.start.cells) (after_round (A.meaning engine.old.app) from.state) from.text engine.new.progress (taken_in_turn lists.new.dones.items lists.new.turns.items)) }
+    ensures some { OnOk result (0 < length (taken_in_turn lists.new.dones.items lists.new.turns.items)) }
+    ensures ended { OnOk result (engine.new.progress.ended ≡ engine.old.progress.ended) }
 {
+    drawing_laws::<A>();
     ascending_laws();
     earlier_laws();
-    perform_each(rt, app, gate, workers, lists)?;
-    order_turns(&lists.dones, picks, &mut lists.turns)
+    perform_each(rt, engine, picks, workers, lists)?;
+    order_turns(&lists.dones, picks.of_round(), &mut lists.turns)
 }
 
-/// Performs each job. A round with few cells, or one worker, starts no thread: the caller performs
-/// all jobs in order.
+/// Draws the jobs of all clear tasks, and performs each. Where threads are unlikely to be worth their
+/// start, no list of the jobs is made: the round before tells how many cells there may be.
 fn perform_each<R: Threads + Sync, A: App + Sync, G: Gate + Sync>(
+    rt: &R,
+    engine: &mut Engine<'_, A>,
+    picks: &mut Picks<'_, G>,
+    workers: u32,
+    lists: &mut RoundLists<A::Val>,
+) -> Result<(), NoRoom>
+    ghost from: { RunPoint A.Val }
+    requires workers { 1 ≤ workers }
+    requires rest { IsAtRest (A.meaning engine.old.app) from.start (values_of from.start.cells) from.state from.text engine.old.progress }
+    ensures app { engine.new.app ≡ engine.old.app }
+    ensures done { OnOk result (IsDrawnAndDone (A.meaning engine.old.app) from.start (values_of from.start.cells) from.state from.text engine.new.progress lists.new.dones.items) }
+    ensures none_clear { OnOk result (clear_nodes (A.meaning engine.old.app) engine.new.progress.nodes ≡ []) }
+    ensures ended { OnOk result (engine.new.progress.ended ≡ engine.old.progress.ended) }
+{
+    if workers == 1 || lists.cells < MANY_CELLS {
+        lists.cells = perform_as_drawn(engine, picks, workers, &mut lists.dones)?;
+        Ok(())
+    } else {
+        draw(engine, picks, &mut lists.jobs)?;
+        perform_drawn(rt, engine.app(), picks.gate(), workers, lists)
+    }
+}
+
+/// Claims until a claim gives no job, and performs each job before the next claim, as the workers in
+/// turn. The list then has what was done, in that order; what was in it is dropped. The answer is a
+/// hint for the next round: how many cells the jobs had in all, at most the greatest number.
+fn perform_as_drawn<A: App, G: Gate>(
+    engine: &mut Engine<'_, A>,
+    picks: &mut Picks<'_, G>,
+    workers: u32,
+    dones: &mut Vec<Option<Done<A::Val>>>,
+) -> Result<usize, NoRoom>
+    ghost from: { RunPoint A.Val }
+    requires rest { IsAtRest (A.meaning engine.old.app) from.start (values_of from.start.cells) from.state from.text engine.old.progress }
+    ensures app { engine.new.app ≡ engine.old.app }
+    ensures done { OnOk result (IsDrawnAndDone (A.meaning engine.old.app) from.start (values_of from.start.cells) from.state from.text engine.new.progress dones.new.items) }
+    ensures none_clear { OnOk result (clear_nodes (A.meaning engine.old.app) engine.new.progress.nodes ≡ []) }
+    ensures ended { OnOk result (engine.new.progress.ended ≡ engine.old.progress.ended) }
+{
+    drawing_laws::<A>();
+    dones.clear();
+    picks.begin_round();
+    let mut cells = 0usize;
+    let mut worker = 0;
+    while let Claim::Job(job) = engine.claim(picks.next())? {
+        cells = cells.saturating_add(job.bundle.len());
+        let Ok(done) = perform(engine.app(), job, worker, picks.gate()) else {
+            return Err(NoRoom);
+        };
+        dones.push(Some(done))?;
+        worker = next_worker(worker, 0, workers);
+    }
+    Ok(cells)
+}
+
+/// Performs the jobs that were drawn, each by its worker. A round with few cells starts no thread:
+/// the caller performs all jobs in order.
+fn perform_drawn<R: Threads + Sync, A: App + Sync, G: Gate + Sync>(
     rt: &R,
     app: &A,
     gate: &G,
@@ -64,7 +129,8 @@ fn perform_each<R: Threads + Sync, A: App + Sync, G: Gate + Sync>(
     requires may_run { AllByRecursion (MayRun (A.meaning app.now)) lists.old.jobs.items }
     ensures { OnOk result (AreDoneInSomeTurn (A.meaning app.now) lists.old.jobs.items lists.new.dones.items) }
 {
-    if workers == 1 || cells_in(&lists.jobs) < MANY_CELLS {
+    lists.cells = cells_in(&lists.jobs);
+    if lists.cells < MANY_CELLS {
         perform_in_turn(app, gate, 0..workers, &mut lists.jobs, &mut lists.dones)
     } else {
         perform_together(rt, app, gate, workers, lists)

@@ -19,6 +19,8 @@ pub(crate) struct RoundLists<V: Held> {
     pub(crate) turns: Vec<usize>,
     /// What each worker has in hand, where the round is performed by threads.
     pub(crate) hands: Vec<Hand<Job<V>, Done<V>>>,
+    /// How many cells the jobs of the last round had in all, a hint for the next one.
+    pub(crate) cells: usize,
 }
 
 impl<V: Held> RoundLists<V> {
@@ -31,6 +33,7 @@ impl<V: Held> RoundLists<V> {
             dones: Vec::new(alloc),
             turns: Vec::new(alloc),
             hands: Vec::new(alloc),
+            cells: usize::MAX,
         }
     }
 }

@@ -5,11 +5,11 @@ ghost use Rattle.graph_update.specs.Progress.{Progress};
 ghost use Rattle.source_pool.specs.Course.{IsAtRest, NothingRuns, RunPoint};
 ghost use Rattle.source_pool.specs.Runs.{IsRoundsEnd, IsRunFault, state_at_rest};
 
-use crate::claiming::{Picks, draw};
+use crate::claiming::Picks;
 use crate::draining::drain;
 use crate::finishing::end_all;
 use crate::laws::{drawing_laws, idle_laws, rounds_laws};
-use crate::performing::perform_jobs;
+use crate::performing::perform_round;
 use crate::round_lists::RoundLists;
 use app_laws::{App, Finals};
 use cell_store::Held;
@@ -60,9 +60,9 @@ impl<V: Held> From<FinishFault<V>> for RunFault {
     }
 }
 
-/// Runs an execution to its end in rounds, and counts them: all tasks that are clear are claimed,
-/// then performed, each by its worker, and then ended in the order of their keys. Only rounds with
-/// a task are counted.
+/// Runs an execution to its end in rounds, and counts them: all tasks that are clear are claimed and
+/// performed, each by its worker, and then ended in the order of their keys. A task may be performed
+/// while others of its round are still to be claimed. Only rounds with a task are counted.
 ///
 /// Worker 0 claims, and the gate chooses for it at each turn, counted from 0; job number `i` of a
 /// round is worker `i mod workers`'s. What was handed in is dropped after a fault.
@@ -156,16 +156,7 @@ fn play_round<R: Threads + Sync, A: App + Sync, G: Gate + Sync, L: Ledger>(
     ensures ended { OnOk result (engine.old.progress.ended < engine.new.progress.ended) }
     ensures fault { IfErr result (IsRunFault (A.meaning engine.old.app) from.start) }
 {
-    drawing_laws::<A>();
-    draw(engine, picks, &mut lists.jobs)?;
-    perform_jobs(
-        rt,
-        engine.app(),
-        picks.gate(),
-        workers,
-        picks.of_round(),
-        lists,
-    )?;
+    perform_round(rt, engine, picks, workers, lists)?;
     end_all(engine, &mut lists.dones, &lists.turns, steps)?;
     drain(engine, text)?;
     Ok(())

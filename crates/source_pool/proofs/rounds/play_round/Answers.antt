@@ -1,26 +1,22 @@
 use mir.Syntax.{of_param}
-use Rattle.std.proofs.Common.{◌≡◌, ◌<◌, List, length, sym, ap, subst, ◌∙◌, arith}
+use Rattle.std.proofs.Common.{◌≡◌, ◌<◌, List, length, sym, ap, subst, arith}
 use Rattle.std.proofs.lemmas.Result.{err_from_is_err_and}
 use Rattle.cell_store.specs.Values.{values_of}
 use Rattle.commuting.specs.Rounds.{after_round}
 use Rattle.graph_update.specs.declared.job.Done.{Done}
 use Rattle.graph_update.specs.Progress.{Progress}
-use Rattle.source_pool.specs.Course.{AreAllDone, IsAtRest, IsEnding}
+use Rattle.source_pool.specs.Course.{IsAtRest, IsEnding}
 use Rattle.source_pool.specs.Runs.{IsRunFault}
 use Rattle.source_pool.specs.Turns.{taken_in_turn}
-use Rattle.source_pool.proofs.Played.{some_done, some_pending}
 use Rattle.source_pool.proofs.rounds.play_round.Goals as goal
 
 pub end_all-requires-send-A-Val : goal.end_all-requires-send-A-Val
 end_all-requires-send-A-Val g c κs within =
     let app = g.A.App.meaning c.args.engine.now.app in
-    let jobs = c.draw.new.jobs.items in
-    let taken : List (Done g.row.A-Val.Denot) = taken_in_turn c.perform_jobs.new.lists.dones.items c.perform_jobs.new.lists.turns.items in
+    let now = c.perform_round.new.engine in
+    let taken : List (Done g.row.A-Val.Denot) = taken_in_turn c.perform_round.new.lists.dones.items c.perform_round.new.lists.turns.items in
     let same : taken ≡ taken_in_turn c.deref_mut.result.now c.deref.result.now = (λ i. taken_in_turn (sym c.deref_mut.ensures.value i) (sym c.deref.ensures.value i)) in
-    let all = subst (λ (app : g.row.A.Denot). AreAllDone (g.A.App.meaning app) jobs taken) (c.app.ensures ∙ c.draw.ensures.app) c.in_ok-perform_jobs.ensures.done in
-    let ending = c.drawing_laws.ensures.round c.args.engine.now.app g.from.start c.draw.new.engine.progress (values_of g.from.start.cells) g.from.state g.from.text jobs taken
-    c.in_ok-draw.ensures.drawing c.in_ok-draw.ensures.none_clear all c.in_ok-perform_jobs.ensures.order in
-    let ended = subst (λ (other : g.row.A.Denot). IsEnding (g.A.App.meaning other) g.from.start (values_of g.from.start.cells) (after_round (g.A.App.meaning other) g.from.state) g.from.text c.draw.new.engine.progress taken) (sym c.draw.ensures.app) ending in
+    let ended = subst (λ (other : g.row.A.Denot). IsEnding (g.A.App.meaning other) g.from.start (values_of g.from.start.cells) (after_round (g.A.App.meaning other) g.from.state) g.from.text now.progress taken) (sym c.perform_round.ensures.app) c.in_ok-perform_round.ensures.ending in
     let sent = c.requires.1.1.1.1.1.0 in (
       within.0,
       (
@@ -29,7 +25,7 @@ end_all-requires-send-A-Val g c κs within =
           within.1.1,
           (
             record { owned = sent.owned; leaving = λ k. sent.leaving (λ _. k (of_param 2)) },
-            subst (IsEnding (g.A.App.meaning c.draw.new.engine.app) g.from.start (values_of g.from.start.cells) (after_round (g.A.App.meaning c.draw.new.engine.app) g.from.state) g.from.text c.draw.new.engine.progress) same ended,
+            subst (IsEnding (g.A.App.meaning now.app) g.from.start (values_of g.from.start.cells) (after_round (g.A.App.meaning now.app) g.from.state) g.from.text now.progress) same ended,
           ),
         ),
       ),
@@ -54,20 +50,14 @@ drain-requires-send-A-Val g c κs within =
 
 pub returns-clause-ended : goal.returns-clause-ended
 returns-clause-ended g c =
-    let app = g.A.App.meaning c.args.engine.now.app in
-    let jobs = c.draw.new.jobs.items in
-    let taken : List (Done g.row.A-Val.Denot) = taken_in_turn c.perform_jobs.new.lists.dones.items c.perform_jobs.new.lists.turns.items in
+    let taken : List (Done g.row.A-Val.Denot) = taken_in_turn c.perform_round.new.lists.dones.items c.perform_round.new.lists.turns.items in
     let same : taken ≡ taken_in_turn c.deref_mut.result.now c.deref.result.now = (λ i. taken_in_turn (sym c.deref_mut.ensures.value i) (sym c.deref.ensures.value i)) in
-    let all = subst (λ (app : g.row.A.Denot). AreAllDone (g.A.App.meaning app) jobs taken) (c.app.ensures ∙ c.draw.ensures.app) c.in_ok-perform_jobs.ensures.done in
-    let at_rest = c.requires.1.1.1.1.1.1.1.1.1.1 in
-    let some_jobs = c.drawing_laws.ensures.some c.args.engine.now.app g.from.start c.draw.new.engine.progress (values_of g.from.start.cells) g.from.state g.from.text jobs
-    c.in_ok-draw.ensures.drawing c.in_ok-draw.ensures.none_clear (some_pending app g.from.start c.args.engine.now.progress (values_of g.from.start.cells) g.from.state g.from.text at_rest.0 at_rest.1.1) in
-    let some : 0 < length (taken_in_turn c.deref_mut.result.now c.deref.result.now) = subst (λ (l : List (Done g.row.A-Val.Denot)). 0 < length l) same (some_done app jobs taken some_jobs all) in
+    let some : 0 < length (taken_in_turn c.deref_mut.result.now c.deref.result.now) = subst (λ (l : List (Done g.row.A-Val.Denot)). 0 < length l) same c.in_ok-perform_round.ensures.some in
     let drained = ap (λ (p : Progress g.row.A-Val.Denot). p.ended) c.in_ok-drain.ensures.drained in
-    omega (arith, c.in_ok-draw.ensures.ended, c.in_ok-end_all.ensures.ended, drained, some)
+    omega (arith, c.in_ok-perform_round.ensures.ended, c.in_ok-end_all.ensures.ended, drained, some)
 
 pub returns-in_err-end_all-clause-fault : goal.returns-in_err-end_all-clause-fault
 returns-in_err-end_all-clause-fault g c =
-    let fault = subst (λ (app : g.row.A.Denot). IsRunFault (g.A.App.meaning app) g.from.start c.in_err-end_all.field-0.0) c.draw.ensures.app c.in_err-end_all.ensures.fault in
+    let fault = subst (λ (app : g.row.A.Denot). IsRunFault (g.A.App.meaning app) g.from.start c.in_err-end_all.field-0.0) c.perform_round.ensures.app c.in_err-end_all.ensures.fault in
     let e = err_from_is_err_and c.from_residual-in_err-end_all.result c.from_residual-in_err-end_all.ensures.1 in
     rw (e.1, e.2) fault

@@ -1,8 +1,8 @@
 use Rattle.commuting.specs.Rounds.{after_round}
 use Rattle.source_pool.proofs.rounds.play_round.Given as goal
 
-abbrev pub ghost-draw : goal.ghost-draw
-ghost-draw g a = g.from
+abbrev pub ghost-perform_round : goal.ghost-perform_round
+ghost-perform_round g a = g.from
 
 abbrev pub ghost-end_all : goal.ghost-end_all
 ghost-end_all g a = record { start = g.from.start; state = after_round (g.A.App.meaning a.engine.now.app) g.from.state; text = g.from.text }
