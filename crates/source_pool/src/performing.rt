@@ -59,7 +59,7 @@ pub(crate) fn perform_round<R: Threads + Sync, A: App + Sync, G: Gate + Sync>(
 }
 
 /// Draws the jobs of all clear tasks, and performs each. Where threads are unlikely to be worth their
-/// start, no list of the jobs is made: the round before tells how many cells there may be.
+/// start, no list of the jobs is made: the rounds so far tell how many cells there may be.
 fn perform_each<R: Threads + Sync, A: App + Sync, G: Gate + Sync>(
     rt: &R,
     engine: &mut Engine<'_, A>,
@@ -75,8 +75,9 @@ fn perform_each<R: Threads + Sync, A: App + Sync, G: Gate + Sync>(
     ensures none_clear { OnOk result (clear_nodes (A.meaning engine.old.app) engine.new.progress.nodes ≡ []) }
     ensures ended { OnOk result (engine.new.progress.ended ≡ engine.old.progress.ended) }
 {
-    if workers == 1 || lists.cells < MANY_CELLS {
-        lists.cells = perform_as_drawn(engine, picks, workers, &mut lists.dones)?;
+    if workers == 1 || matches!(lists.most_cells, Some(most) if most < MANY_CELLS) {
+        let cells = perform_as_drawn(engine, picks, workers, &mut lists.dones)?;
+        lists.most_cells = lists.most_cells.max(Some(cells));
         Ok(())
     } else {
         draw(engine, picks, &mut lists.jobs)?;
@@ -86,7 +87,7 @@ fn perform_each<R: Threads + Sync, A: App + Sync, G: Gate + Sync>(
 
 /// Claims until a claim gives no job, and performs each job before the next claim, as the workers in
 /// turn. The list then has what was done, in that order; what was in it is dropped. The answer is a
-/// hint for the next round: how many cells the jobs had in all, at most the greatest number.
+/// hint for later rounds: how many cells the jobs had in all, at most the greatest number.
 fn perform_as_drawn<A: App, G: Gate>(
     engine: &mut Engine<'_, A>,
     picks: &mut Picks<'_, G>,
@@ -129,8 +130,9 @@ fn perform_drawn<R: Threads + Sync, A: App + Sync, G: Gate + Sync>(
     requires may_run { AllByRecursion (MayRun (A.meaning app.now)) lists.old.jobs.items }
     ensures { OnOk result (AreDoneInSomeTurn (A.meaning app.now) lists.old.jobs.items lists.new.dones.items) }
 {
-    lists.cells = cells_in(&lists.jobs);
-    if lists.cells < MANY_CELLS {
+    let cells = cells_in(&lists.jobs);
+    lists.most_cells = lists.most_cells.max(Some(cells));
+    if cells < MANY_CELLS {
         perform_in_turn(app, gate, 0..workers, &mut lists.jobs, &mut lists.dones)
     } else {
         perform_together(rt, app, gate, workers, lists)

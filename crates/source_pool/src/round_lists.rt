@@ -19,8 +19,9 @@ pub(crate) struct RoundLists<V: Held> {
     pub(crate) turns: Vec<usize>,
     /// What each worker has in hand, where the round is performed by threads.
     pub(crate) hands: Vec<Hand<Job<V>, Done<V>>>,
-    /// How many cells the jobs of the last round had in all, a hint for the next one.
-    pub(crate) cells: usize,
+    /// The most cells that the jobs of a round had in all so far, a hint for the next round. Before the
+    /// first one it isn't known.
+    pub(crate) most_cells: Option<usize>,
 }
 
 impl<V: Held> RoundLists<V> {
@@ -33,7 +34,7 @@ impl<V: Held> RoundLists<V> {
             dones: Vec::new(alloc),
             turns: Vec::new(alloc),
             hands: Vec::new(alloc),
-            cells: usize::MAX,
+            most_cells: None,
         }
     }
 }
