@@ -20,7 +20,7 @@ use task_order::Key;
 
 /// Up to so many jobs are put in order by their picks. Among more of them it takes less to compare
 /// the keys than to make way for a place.
-const MOST_BY_PICK: usize = 1024;
+const MOST_BY_PICK: usize = 2048;
 
 /// Orders what was performed by its keys. The list of turns then has its places, that of the
 /// earliest first; what was in it is dropped.
