@@ -58,8 +58,8 @@ module _ {V : Type 0} (app : Application V) where
       laws progress jobs in_hand.values job in_hand.sound (subst (Contains jobs) (sym is) (Contains-get_or jobs place job inside))
 
   pub done_beside : (progress : Progress V) (jobs others : List (Job V)) (place : ℕ) (job : Job V) (done : Done V) → AreInHand app progress jobs → place < length jobs
-      → job ≡ get_or jobs place job → others ≡ take place jobs ++ drop (place + 1) jobs → done.task ≡ job.task → IsEffect app job.task job.bundle done.effect → IsDoneBeside app progress others done
-  done_beside progress jobs others place job done in_hand inside is others_are task effect = record {
+      → job ≡ get_or jobs place job → others ≡ take place jobs ++ drop (place + 1) jobs → done.node ≡ job.node → done.task ≡ job.task → IsEffect app job.task job.bundle done.effect → IsDoneBeside app progress others done
+  done_beside progress jobs others place job done in_hand inside is others_are node task effect = record {
     all = jobs;
     values = in_hand.values;
     sound = in_hand.sound;
@@ -69,6 +69,7 @@ module _ {V : Type 0} (app : Application V) where
       after = drop (suc place) jobs;
       there = parted jobs place job inside is;
       others_are = others_are ∙ ap (λ n. take place jobs ++ drop n jobs) (add-one place);
+      node = sym node;
       task = sym task;
       effect = effect;
     };

@@ -29,7 +29,7 @@ use Rattle.graph_update.specs.Progress.{Progress}
 use Rattle.graph_update.specs.Sound.{Covers, HasJob, IsOfNode, IsSound, IsWhole, JobsMatch, KeysAndCounts, is_unblocked, is_written}
 use Rattle.graph_update.proofs.ClearNodes.{both_parts, false_where_not, no_conflict}
 use Rattle.graph_update.proofs.Members.{all_at, all_from, from_filter, from_map, here, in_filter, in_map, none_passes, there}
-use Rattle.graph_update.proofs.Starting.{start, start_cases, start_keeps_running, start_keeps_set, start_keeps_task, start_runs, started_graph, unblocked_started}
+use Rattle.graph_update.proofs.Starting.{start, start_cases, start_keeps_id, start_keeps_running, start_keeps_set, start_keeps_task, start_runs, started_graph, unblocked_started}
 
 Some-injective : {X : Type 0} (a b : X) → Some a ≡ Some b → a ≡ b
 Some-injective a b same = cc
@@ -60,7 +60,7 @@ module _ {V : Type 0} {app : Application V} (basis : Basis app) (old : Progress 
   now_cells = cells_taken old.cells node.set
 
   abbrev claimed : Job V
-  claimed = record { task = node.task; bundle = part_of old.cells node.set }
+  claimed = record { node = node.id; task = node.task; bundle = part_of old.cells node.set }
 
   abbrev now : Progress V
   now = record old { nodes = now_nodes; cells = now_cells }
@@ -160,7 +160,7 @@ module _ {V : Type 0} {app : Application V} (basis : Basis app) (old : Progress 
   first_job =
       let running : Node = record node { running = true } in
       let there = subst (λ (n : Node). Contains now_nodes n) (start_runs node) (in_map (start node.id) old.nodes node has) in
-      (running, basis.lower.have_keys now_nodes running graph_now there, record { task = refl; set = refl; running = refl })
+      (running, basis.lower.have_keys now_nodes running graph_now there, record { id = refl; task = refl; set = refl; running = refl })
 
   other_job : (job : Job V) → IsOfNode app old.nodes job → IsOfNode app now_nodes job
   other_job job (was, found, fits) =
@@ -170,6 +170,7 @@ module _ {V : Type 0} {app : Application V} (basis : Basis app) (old : Progress 
         start node.id was,
         ap (node_with_key now_nodes) (sym key) ∙ basis.lower.have_keys now_nodes (start node.id was) graph_now there,
         record {
+          id = start_keeps_id node.id was ∙ fits.id;
           task = start_keeps_task node.id was ∙ fits.task;
           set = start_keeps_set node.id was ∙ fits.set;
           running = start_keeps_running node.id was fits.running;

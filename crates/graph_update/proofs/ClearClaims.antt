@@ -92,7 +92,7 @@ module _ {V : Type 0} {app : Application V} (basis : Basis app) where
     now = record old { nodes = nodes; cells = cells }
 
     abbrev job : Job V
-    job = record { task = copy; bundle = bundle }
+    job = record { node = id; task = copy; bundle = bundle }
 
     same_task : copy ≡ picked.node.task
     same_task = copied ∙ sym (picked_task old kept.jobs kept.values kept.sound pick id picked found task_is)
@@ -105,7 +105,7 @@ module _ {V : Type 0} {app : Application V} (basis : Basis app) where
     claimed = record {
       node = picked.node;
       chosen = picked.chosen;
-      job_is = λ i. record { task = same_task i; bundle = (bundle_is ∙ ap (part_of old.cells) same_set) i };
+      job_is = λ i. record { node = (sym picked.id_is) i; task = same_task i; bundle = (bundle_is ∙ ap (part_of old.cells) same_set) i };
       after = λ i. record old { nodes = (nodes_are ∙ ap (λ one. started one old.nodes) (sym picked.id_is)) i; cells = (cells_are ∙ ap (cells_taken old.cells) same_set) i };
     }
 

@@ -1,6 +1,6 @@
 -- What is known where a task that was performed ends.
-use Rattle.std.proofs.Common.{◌≡◌, ℕ, suc, ◌+◌, ◌<◌, ◌≤◌, Option, Some, None, List, [], ◌∷◌, length, sym, ap, subst, ◌∙◌, arith}
-use Rattle.std.specs.Prelude.{Contains, option_map}
+use Rattle.std.proofs.Common.{◌≡◌, ℕ, suc, ◌+◌, ◌<◌, ◌≤◌, Option, Some, None, List, [], ◌∷◌, length, refl, sym, ap, subst, ◌∙◌, arith}
+use Rattle.std.specs.Prelude.{Contains, IsSome, option_map}
 use Rattle.std.specs.List.{AllByRecursion}
 use Rattle.std.specs.Option.{option_or}
 use Rattle.task_order.specs.declared.task.Task.{Task}
@@ -14,7 +14,7 @@ use Rattle.kdg_graph.specs.declared.change.Fresh.{Fresh}
 use Rattle.kdg_graph.specs.declared.node_id.NodeId.{NodeId}
 use Rattle.kdg_graph.specs.Edges.{laters_of}
 use Rattle.kdg_graph.specs.Node.{Node}
-use Rattle.kdg_graph.specs.Nodes.{IsGraph, node_at, node_with_key}
+use Rattle.kdg_graph.specs.Nodes.{HasNode, IsGraph, node_at, node_with_key}
 use Rattle.kdg_graph.specs.Rewrite.{IsRewritten}
 use Rattle.app_laws.specs.Applications.{Application}
 use Rattle.graph_update.specs.declared.answers.OverCause.{OverCause}
@@ -36,11 +36,6 @@ use Rattle.graph_update.proofs.Renewing.{part_is}
 some_there : (nodes : List Node) (node : Node) → Contains nodes node → 1 ≤ length nodes
 some_there [] node has = absurd (none node has)
 some_there (first ∷ nodes) node has = omega arith
-
-never_none : (found : Option Node) (node : Node) → found ≡ Some node → option_map (λ (node : Node). node.id) found ≡ None → ⊥
-never_none found node is absent =
-    let id : option_map (λ (node : Node). node.id) found ≡ Some node.id = ap (option_map (λ (node : Node). node.id)) is in
-    cc
 
 -- what was given and is regained is as it was before
 module _ {V : Type 0} (cells given : List (Cell V)) (bundle shell : Part V) (out : AreWrittenOut cells bundle.set) (given_is : given ≡ cells_given cells bundle) (shell_is : shell ≡ shell_of bundle) where
@@ -87,9 +82,18 @@ module _ {V : Type 0} {app : Application V} (basis : FinishBasis app) (old : Pro
   ended : IsEnded app old is.values done is.job (named basis is.sound is.performed).0
   ended = performed_node basis is.sound is.performed
 
-  -- the task has a node
-  pub has_node : option_map (λ (node : Node). node.id) (node_with_key old.nodes done.task.key) ≡ None → ⊥
-  has_node = never_none (node_with_key old.nodes done.task.key) (named basis is.sound is.performed).0 ended.found
+  -- the node of the task has the id that the job named
+  id_is : (named basis is.sound is.performed).0.id ≡ done.node
+  id_is = (named basis is.sound is.performed).2.id ∙ is.performed.node
+
+  pub node_is : option_map (λ (node : Node). node.id) (node_with_key old.nodes done.task.key) ≡ Some done.node
+  node_is = ap (option_map (λ (node : Node). node.id)) ended.found ∙ ap (λ (id : NodeId). Some id) id_is
+
+  pub has_node : HasNode old.nodes done.node
+  has_node = subst (HasNode old.nodes) id_is (subst IsSome (sym ended.at_id) refl)
+
+  pub is_graph : IsGraph old.nodes
+  is_graph = is.sound.keys_and_counts.graph
 
   pub fit_given : (values : List V) × app.is_fit_cells values × AgreesWith (cells_given old.cells done.effect.bundle) values
   fit_given = ((app.act is.job.task is.values).cells, fit_after basis is.sound is.performed, agrees_given basis is.sound is.performed)

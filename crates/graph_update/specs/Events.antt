@@ -42,7 +42,7 @@ module _ {V : Type 0} (app : Application V) where
   pub record IsClaimed (old : Progress V) (pick : ℕ) (now : Progress V) (job : Job V) : Type 0 where
     pub node : Node
     pub chosen : slice_get (clear_nodes old.nodes) (pick % length (clear_nodes old.nodes)) ≡ Some node
-    pub job_is : job ≡ record { task = node.task; bundle = part_of old.cells node.set }
+    pub job_is : job ≡ record { node = node.id; task = node.task; bundle = part_of old.cells node.set }
     pub after : now ≡ record old { nodes = started node.id old.nodes; cells = cells_taken old.cells node.set }
 
   -- the set of a later task in conflict with one that ended: its declared set where finding it out needs no cell that is away,

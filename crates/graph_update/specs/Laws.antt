@@ -33,6 +33,7 @@ module _ {V : Type 0} (app : Application V) where
     pub after : List (Job V)
     pub there : jobs ≡ before ++ job ∷ after
     pub others_are : others ≡ before ++ after
+    pub node : job.node ≡ done.node
     pub task : job.task ≡ done.task
     pub effect : IsEffect app job.task job.bundle done.effect
 

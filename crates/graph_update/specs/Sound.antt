@@ -28,8 +28,9 @@ module _ {V : Type 0} (app : Application V) where
     pub within : progress.created ≤ progress.limit
     pub logged : length progress.log ≤ progress.ended
 
-  -- the running node of a job has its task, and the set of its bundle as recorded set
+  -- the running node of a job has the id that the job names, its task, and the set of its bundle as recorded set
   pub record IsRunningAs (job : Job V) (node : Node) : Type 0 where
+    pub id : node.id ≡ job.node
     pub task : node.task ≡ job.task
     pub set : node.set ≡ job.bundle.set
     pub running : node.running ≡ true

@@ -43,6 +43,6 @@ impl<'a, A: App> Engine<'a, A> {
         let bundle = self.store.take(self.graph.set(node))?;
         self.graph.mark_running(node);
         self.ready.take(pick);
-        Ok(Claim::Job(Job { task, bundle }))
+        Ok(Claim::Job(Job { node, task, bundle }))
     }
 }

@@ -89,17 +89,14 @@ impl<'a, A: App> Engine<'a, A> {
         let Ok(fresh) = fresh_tasks(self.alloc, &done.task.key, children) else {
             return Err(done);
         };
-        let Some(ended) = self.graph.find(&done.task.key) else {
-            unreachable!();
-        };
-        let Done { task, effect } = done;
+        let Done { node, task, effect } = done;
         let shell = self.store.give(effect.bundle);
         match end_node(
             self.alloc,
             self.app,
             &mut self.graph,
             &self.store,
-            ended,
+            node,
             fresh,
             steps,
         ) {
@@ -113,7 +110,7 @@ impl<'a, A: App> Engine<'a, A> {
             Err(_) => {
                 let bundle = self.store.regain(shell);
                 let effect = Effect { bundle, ..effect };
-                Err(Done { task, effect })
+                Err(Done { node, task, effect })
             }
         }
     }

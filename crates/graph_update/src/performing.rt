@@ -18,14 +18,15 @@ pub fn perform<A: App, G: Gate>(
     gate: &G,
 ) -> Result<Done<A::Val>, Job<A::Val>>
     requires { MayRun (A.meaning app.now) job }
+    ensures node { IfOk result (λ done. done.node ≡ job.node) }
     ensures task { IfOk result (λ done. done.task ≡ job.task) }
     ensures effect { IfOk result (λ done. IsEffect (A.meaning app.now) job.task job.bundle done.effect) }
     ensures returned { IfErr result (λ back. back ≡ job) }
 {
     gate.pass(worker, &job.task.key);
-    let Job { task, bundle } = job;
+    let Job { node, task, bundle } = job;
     match app.run(&task, bundle) {
-        Ok(effect) => Ok(Done { task, effect }),
-        Err(bundle) => Err(Job { task, bundle }),
+        Ok(effect) => Ok(Done { node, task, effect }),
+        Err(bundle) => Err(Job { node, task, bundle }),
     }
 }

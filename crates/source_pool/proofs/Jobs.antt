@@ -82,7 +82,7 @@ module _ {V : Type 0} {app : Application V} where
         job = job;
         others = others;
         has = has;
-        performed = record { before = place.before; after = place.after; there = place.is; others_are = refl; task = is.task; effect = is.effect };
+        performed = record { before = place.before; after = place.after; there = place.is; others_are = refl; node = is.node; task = is.task; effect = is.effect };
         rest = record {
           each = λ k among.
               let found = all.each k (subst (λ list. Contains list k) (sym place.is) (among_all place.before job place.after k among)) in

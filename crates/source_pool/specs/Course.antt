@@ -55,6 +55,7 @@ pub record IsLogged {V : Type 0} (entries : List Entry) (text : List ℕ) (now :
 module _ {V : Type 0} (app : Application V) where
   -- the job is performed: its task with what its operator makes of its bundle
   pub record IsJobDone (job : Job V) (done : Done V) : Type 0 where
+    pub node : job.node ≡ done.node
     pub task : job.task ≡ done.task
     pub effect : IsEffect app job.task job.bundle done.effect
 

@@ -13,7 +13,7 @@ perform-requires-after_bounds g c κs within =
 pub returns-in-Ok-clause-beside : goal.returns-in-Ok-clause-beside
 returns-in-Ok-clause-beside g c =
     done_beside (g.A.App.meaning c.args.engine.now.app) c.args.engine.now.progress c.args.jobs.now.items c.remove-job.new.self.items c.args.place c.remove-job.result c.in-Ok.done
-    c.requires.in_hand c.requires.place c.remove-job.ensures.value c.remove-job.ensures.by_index.2 c.in-Ok.ensures.task
+    c.requires.in_hand c.requires.place c.remove-job.ensures.value c.remove-job.ensures.by_index.2 c.in-Ok.ensures.node c.in-Ok.ensures.task
     (subst (λ (own : g.row.A.Denot). IsEffect (g.A.App.meaning own) c.remove-job.result.task c.remove-job.result.bundle c.in-Ok.done.effect) c.app.ensures c.in-Ok.ensures.effect)
 
 pub returns-in-Ok-clause-done : goal.returns-in-Ok-clause-done

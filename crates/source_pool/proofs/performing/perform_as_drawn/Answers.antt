@@ -23,7 +23,7 @@ loop-job-preserved g c =
     let answer = subst (IsClaimAnswer (g.A.App.meaning at.engine.app) at.engine.progress c.next.result c.claim.new.self.progress) c.in-Job.is c.in_ok-job.ensures.answer in
     let claimed = subst (λ (app : g.row.A.Denot). IsClaimed (g.A.App.meaning app) at.engine.progress c.next.result c.claim.new.self.progress c.in-Job.job) at.invariant.app answer.1 in
     let effect = subst (λ (app : g.row.A.Denot). IsEffect (g.A.App.meaning app) c.in-Job.job.task c.in-Job.job.bundle c.in-Ok.done.effect) same c.in-Ok.ensures.effect in
-    let is : IsJobDone app c.in-Job.job c.in-Ok.done = record { task = sym c.in-Ok.ensures.task; effect = effect } in
+    let is : IsJobDone app c.in-Job.job c.in-Ok.done = record { node = sym c.in-Ok.ensures.node; task = sym c.in-Ok.ensures.task; effect = effect } in
     record {
       app = c.claim.ensures.app ∙ at.invariant.app;
       done = one_drawn app g.from.start (values_of g.from.start.cells) g.from.state g.from.text (c.drawing_laws.ensures.goes_on c.args.engine.now.app) at.engine.progress c.claim.new.self.progress at.dones.items c.push.new.self.items c.next.result c.in-Job.job c.in-Ok.done

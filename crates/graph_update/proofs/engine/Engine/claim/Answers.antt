@@ -58,7 +58,7 @@ invariant_of-self-2 g c = (
 pub returns-clause-answer : goal.returns-clause-answer
 returns-clause-answer g c =
     subst (λ (state : EngineState g.row.A.Denot g.row.A-Val.Denot). (state.progress.over ≡ None) × IsClaimed (g.A.App.meaning state.app) state.progress c.args.pick
-    (record { cells = c.take.new.self; nodes = c.mark_running.new.self; log = c.self.inside.log.entries; created = c.self.inside.created; ended = c.self.inside.ended; limit = c.self.inside.limit; over = c.self.inside.over }) (record { task = c.in_ok-task.task; bundle = c.in_ok-bundle.bundle })) c.self.view_is (
+    (record { cells = c.take.new.self; nodes = c.mark_running.new.self; log = c.self.inside.log.entries; created = c.self.inside.created; ended = c.self.inside.ended; limit = c.self.inside.limit; over = c.self.inside.over }) (record { node = c.in-Some-picked.node; task = c.in_ok-task.task; bundle = c.in_ok-bundle.bundle })) c.self.view_is (
       none_where_not c.self.inside.over c.in_default.not-Some,
       claimed (c.basis.ensures c.self.inside.app.now) _ c.self.invariant.0 c.args.pick c.in-Some-picked.node (pick_is (g.A.App.meaning c.self.inside.app.now) c.self.inside.graph c.args.pick c.look.new.self.ids (Some c.in-Some-picked.node) c.in_ok-look.ensures.all (sym c.in-Some-picked.is ∙ c.picked.ensures))
           c.task.result.now c.in_ok-task.task c.set.result.now c.in_ok-bundle.bundle c.take.new.self c.mark_running.new.self
@@ -68,14 +68,14 @@ returns-clause-answer g c =
 pub returns-clause-sound : goal.returns-clause-sound
 returns-clause-sound g c =
     subst (λ (state : EngineState g.row.A.Denot g.row.A-Val.Denot). (jobs : List (Job g.row.A-Val.Denot)) (values : List g.row.A-Val.Denot) → IsSound (g.A.App.meaning state.app) state.progress jobs values
-    → IsSound (g.A.App.meaning state.app) (record { cells = c.take.new.self; nodes = c.mark_running.new.self; log = c.self.inside.log.entries; created = c.self.inside.created; ended = c.self.inside.ended; limit = c.self.inside.limit; over = c.self.inside.over }) ((record { task = c.in_ok-task.task; bundle = c.in_ok-bundle.bundle }) ∷ jobs) values) c.self.view_is
+    → IsSound (g.A.App.meaning state.app) (record { cells = c.take.new.self; nodes = c.mark_running.new.self; log = c.self.inside.log.entries; created = c.self.inside.created; ended = c.self.inside.ended; limit = c.self.inside.limit; over = c.self.inside.over }) ((record { node = c.in-Some-picked.node; task = c.in_ok-task.task; bundle = c.in_ok-bundle.bundle }) ∷ jobs) values) c.self.view_is
     (sound_after (c.basis.ensures c.self.inside.app.now) _ c.self.invariant.0 c.args.pick c.in-Some-picked.node (pick_is (g.A.App.meaning c.self.inside.app.now) c.self.inside.graph c.args.pick c.look.new.self.ids (Some c.in-Some-picked.node) c.in_ok-look.ensures.all (sym c.in-Some-picked.is ∙ c.picked.ensures))
     c.task.result.now c.in_ok-task.task c.set.result.now c.in_ok-bundle.bundle c.take.new.self c.mark_running.new.self
     c.task.ensures c.in_ok-task.ensures c.set.ensures c.in_ok-bundle.ensures.bundle c.in_ok-bundle.ensures.ok c.mark_running.ensures.marked)
 
 pub returns-clause-may_run : goal.returns-clause-may_run
 returns-clause-may_run g c =
-    subst (λ (state : EngineState g.row.A.Denot g.row.A-Val.Denot). MayRun (g.A.App.meaning state.app) (record { task = c.in_ok-task.task; bundle = c.in_ok-bundle.bundle })) c.self.view_is
+    subst (λ (state : EngineState g.row.A.Denot g.row.A-Val.Denot). MayRun (g.A.App.meaning state.app) (record { node = c.in-Some-picked.node; task = c.in_ok-task.task; bundle = c.in_ok-bundle.bundle })) c.self.view_is
     (may_run (c.basis.ensures c.self.inside.app.now) _ c.self.invariant.0 c.args.pick c.in-Some-picked.node (pick_is (g.A.App.meaning c.self.inside.app.now) c.self.inside.graph c.args.pick c.look.new.self.ids (Some c.in-Some-picked.node) c.in_ok-look.ensures.all (sym c.in-Some-picked.is ∙ c.picked.ensures))
     c.task.result.now c.in_ok-task.task c.set.result.now c.in_ok-bundle.bundle c.take.new.self c.mark_running.new.self
     c.task.ensures c.in_ok-task.ensures c.set.ensures c.in_ok-bundle.ensures.bundle c.in_ok-bundle.ensures.ok c.mark_running.ensures.marked)

@@ -9,7 +9,7 @@ use Rattle.graph_update.specs.Events.{fresh_from}
 use Rattle.graph_update.specs.Progress.{EngineState, Progress}
 use Rattle.graph_update.proofs.Performed.{bundle_is_out, children_not_earlier, fresh_new}
 use Rattle.graph_update.proofs.ReadyIds.{some_are_ready}
-use Rattle.graph_update.proofs.TaskEnds.{bundle_back, cells_back, done_back, engine_finished, engine_sound, entry_is_new, fit_given, has_node, inside_done, is_finished, progress_back, stays_fixed, stays_kept, stays_ready, stays_sound, step_each}
+use Rattle.graph_update.proofs.TaskEnds.{bundle_back, cells_back, done_back, engine_finished, engine_sound, entry_is_new, fit_given, has_node, inside_done, is_finished, is_graph, node_is, progress_back, stays_fixed, stays_kept, stays_ready, stays_sound, step_each}
 use Rattle.graph_update.proofs.engine.Engine.end_task.Goals as goal
 
 pub fresh_tasks-requires-clause-not_earlier : goal.fresh_tasks-requires-clause-not_earlier
@@ -17,10 +17,15 @@ fresh_tasks-requires-clause-not_earlier g c =
     let is = inside_done g.A.App.meaning _ _ c.args.done c.self.view_is c.requires.done in
     subst (AllByRecursion (λ child. c.args.done.task.key.prio ≤ child.prio)) (sym c.items-children.ensures.all) (children_not_earlier (c.basis.ensures c.self.inside.app.now) is.sound is.performed)
 
-pub unreachable-requires : goal.unreachable-requires
-unreachable-requires g c =
+pub end_node-requires-clause-graph : goal.end_node-requires-clause-graph
+end_node-requires-clause-graph g c κs within =
     let is = inside_done g.A.App.meaning _ _ c.args.done c.self.view_is c.requires.done in
-    has_node (c.basis.ensures c.self.inside.app.now) _ c.args.done is (sym c.find.ensures.found ∙ c.in_default-find.is)
+    is_graph (c.basis.ensures c.self.inside.app.now) _ c.args.done is
+
+pub end_node-requires-clause-there : goal.end_node-requires-clause-there
+end_node-requires-clause-there g c κs within =
+    let is = inside_done g.A.App.meaning _ _ c.args.done c.self.view_is c.requires.done in
+    has_node (c.basis.ensures c.self.inside.app.now) _ c.args.done is
 
 pub give-shell-requires-after_bounds : goal.give-shell-requires-after_bounds
 give-shell-requires-after_bounds g c κs within =
@@ -47,20 +52,20 @@ put-requires-clause-new g c =
 pub invariant_of-self-in-Ok-end_node : goal.invariant_of-self-in-Ok-end_node
 invariant_of-self-in-Ok-end_node g c =
     let is = inside_done g.A.App.meaning _ _ c.args.done c.self.view_is c.requires.done in (
-      stays_kept (c.basis.ensures c.self.inside.app.now) _ c.args.done is c.in-Some.ended (sym c.find.ensures.found ∙ c.in-Some.is)
+      stays_kept (c.basis.ensures c.self.inside.app.now) _ c.args.done is c.args.done.node (node_is (c.basis.ensures c.self.inside.app.now) _ c.args.done is)
           c.give-shell.new.self c.in-Ok-fresh_tasks.fresh.items c.end_node.new.graph c.put.new.self.entries c.args.created (c.self.inside.ended + 1)
           c.give-shell.ensures.given (c.in-Ok-fresh_tasks.ensures ∙ ap (fresh_from c.args.done.task.key 0) c.items-children.ensures.all) c.in-Ok-end_node.ensures.graph c.in-Ok-end_node.ensures.ok
           (c.put.ensures.entries ∙ ap (with_entry c.args.done.task.key c.args.done.effect.text) c.reserve.ensures.entries)
           (c.requires.created ∙ ap (λ (engine : EngineState _ _). engine.progress.created + length c.args.done.effect.children) (sym c.self.view_is)) refl
           (c.sound_finish_laws.ensures c.self.inside.app.now) (subst (λ (engine : EngineState _ _). c.args.created ≤ engine.progress.limit) (sym c.self.view_is) c.requires.within) c.self.invariant.0.limited,
       some_are_ready (g.A.App.meaning c.self.inside.app.now) c.end_node.new.graph c.expect_more.new.self c.self.inside.ready.ids c.expect_more.ensures.ids c.expect_more.ensures.current
-          (stays_ready (c.basis.ensures c.self.inside.app.now) _ c.args.done is c.in-Some.ended (sym c.find.ensures.found ∙ c.in-Some.is)
+          (stays_ready (c.basis.ensures c.self.inside.app.now) _ c.args.done is c.args.done.node (node_is (c.basis.ensures c.self.inside.app.now) _ c.args.done is)
           c.give-shell.new.self c.in-Ok-fresh_tasks.fresh.items c.end_node.new.graph c.put.new.self.entries c.args.created (c.self.inside.ended + 1)
           c.give-shell.ensures.given (c.in-Ok-fresh_tasks.ensures ∙ ap (fresh_from c.args.done.task.key 0) c.items-children.ensures.all) c.in-Ok-end_node.ensures.graph c.in-Ok-end_node.ensures.ok
           (c.put.ensures.entries ∙ ap (with_entry c.args.done.task.key c.args.done.effect.text) c.reserve.ensures.entries)
           (c.requires.created ∙ ap (λ (engine : EngineState _ _). engine.progress.created + length c.args.done.effect.children) (sym c.self.view_is)) refl
           (c.stay_clear_laws.ensures.stay c.self.inside.app.now) (subst (λ (engine : EngineState _ _). c.args.created ≤ engine.progress.limit) (sym c.self.view_is) c.requires.within) c.self.inside.ready.ids c.self.invariant.1.clear),
-      stays_fixed (c.basis.ensures c.self.inside.app.now) _ c.args.done is c.in-Some.ended (sym c.find.ensures.found ∙ c.in-Some.is)
+      stays_fixed (c.basis.ensures c.self.inside.app.now) _ c.args.done is c.args.done.node (node_is (c.basis.ensures c.self.inside.app.now) _ c.args.done is)
           c.give-shell.new.self c.in-Ok-fresh_tasks.fresh.items c.end_node.new.graph c.put.new.self.entries c.args.created (c.self.inside.ended + 1)
           c.give-shell.ensures.given (c.in-Ok-fresh_tasks.ensures ∙ ap (fresh_from c.args.done.task.key 0) c.items-children.ensures.all) c.in-Ok-end_node.ensures.graph c.in-Ok-end_node.ensures.ok
           (c.put.ensures.entries ∙ ap (with_entry c.args.done.task.key c.args.done.effect.text) c.reserve.ensures.entries)
@@ -81,7 +86,7 @@ invariant_of-self-in-Err g c =
 pub returns-in-Ok-end_node-clause-finished : goal.returns-in-Ok-end_node-clause-finished
 returns-in-Ok-end_node-clause-finished g c =
     let is = inside_done g.A.App.meaning _ _ c.args.done c.self.view_is c.requires.done in
-    let finished = is_finished (c.basis.ensures c.self.inside.app.now) _ c.args.done is c.in-Some.ended (sym c.find.ensures.found ∙ c.in-Some.is)
+    let finished = is_finished (c.basis.ensures c.self.inside.app.now) _ c.args.done is c.args.done.node (node_is (c.basis.ensures c.self.inside.app.now) _ c.args.done is)
     c.give-shell.new.self c.in-Ok-fresh_tasks.fresh.items c.end_node.new.graph c.put.new.self.entries c.args.created (c.self.inside.ended + 1)
     c.give-shell.ensures.given (c.in-Ok-fresh_tasks.ensures ∙ ap (fresh_from c.args.done.task.key 0) c.items-children.ensures.all) c.in-Ok-end_node.ensures.graph c.in-Ok-end_node.ensures.ok
     (c.put.ensures.entries ∙ ap (with_entry c.args.done.task.key c.args.done.effect.text) c.reserve.ensures.entries)
@@ -91,7 +96,7 @@ returns-in-Ok-end_node-clause-finished g c =
 pub returns-in-Ok-end_node-clause-sound : goal.returns-in-Ok-end_node-clause-sound
 returns-in-Ok-end_node-clause-sound g c =
     let is = inside_done g.A.App.meaning _ _ c.args.done c.self.view_is c.requires.done in
-    let sound = stays_sound (c.basis.ensures c.self.inside.app.now) _ c.args.done is c.in-Some.ended (sym c.find.ensures.found ∙ c.in-Some.is)
+    let sound = stays_sound (c.basis.ensures c.self.inside.app.now) _ c.args.done is c.args.done.node (node_is (c.basis.ensures c.self.inside.app.now) _ c.args.done is)
     c.give-shell.new.self c.in-Ok-fresh_tasks.fresh.items c.end_node.new.graph c.put.new.self.entries c.args.created (c.self.inside.ended + 1)
     c.give-shell.ensures.given (c.in-Ok-fresh_tasks.ensures ∙ ap (fresh_from c.args.done.task.key 0) c.items-children.ensures.all) c.in-Ok-end_node.ensures.graph c.in-Ok-end_node.ensures.ok
     (c.put.ensures.entries ∙ ap (with_entry c.args.done.task.key c.args.done.effect.text) c.reserve.ensures.entries)
@@ -103,13 +108,13 @@ pub returns-in-Ok-end_node-clause-steps : goal.returns-in-Ok-end_node-clause-ste
 returns-in-Ok-end_node-clause-steps g c =
     let is = inside_done g.A.App.meaning _ _ c.args.done c.self.view_is c.requires.done in
     subst (λ (engine : EngineState _ _). IsOneStepEach engine.progress.nodes c.args.done.task.key c.args.steps.now c.end_node.new.steps) c.self.view_is
-    (step_each (c.basis.ensures c.self.inside.app.now) _ c.args.done is c.in-Some.ended (sym c.find.ensures.found ∙ c.in-Some.is) c.args.steps.now c.end_node.new.steps c.in-Ok-end_node.ensures.steps)
+    (step_each (c.basis.ensures c.self.inside.app.now) _ c.args.done is c.args.done.node (node_is (c.basis.ensures c.self.inside.app.now) _ c.args.done is) c.args.steps.now c.end_node.new.steps c.in-Ok-end_node.ensures.steps)
 
 pub returns-in-Err-clause-steps : goal.returns-in-Err-clause-steps
 returns-in-Err-clause-steps g c =
     let is = inside_done g.A.App.meaning _ _ c.args.done c.self.view_is c.requires.done in
     subst (λ (engine : EngineState _ _). IsOneStepEach engine.progress.nodes c.args.done.task.key c.args.steps.now c.end_node.new.steps) c.self.view_is
-    (step_each (c.basis.ensures c.self.inside.app.now) _ c.args.done is c.in-Some.ended (sym c.find.ensures.found ∙ c.in-Some.is) c.args.steps.now c.end_node.new.steps c.in-Err.ensures.steps)
+    (step_each (c.basis.ensures c.self.inside.app.now) _ c.args.done is c.args.done.node (node_is (c.basis.ensures c.self.inside.app.now) _ c.args.done is) c.args.steps.now c.end_node.new.steps c.in-Err.ensures.steps)
 
 pub returns-in-Err-clause-returned : goal.returns-in-Err-clause-returned
 returns-in-Err-clause-returned g c =
