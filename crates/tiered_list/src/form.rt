@@ -51,6 +51,7 @@ fn tiers_from<T: Drop>(ring: &mut VecDeque<T>, additional: usize) -> Result<Box<
 }
 
 impl<T> Form<T> {
+    #[inline(always)]
     pub(crate) fn len(&self) -> usize
         ensures len { result ≡ length (tiered_of self.now).items }
         ensures small { result < 2 ^ 63 }
@@ -61,6 +62,7 @@ impl<T> Form<T> {
         }
     }
 
+    #[inline(always)]
     pub(crate) fn get(&self, place: usize) -> Option<&T>
         ensures { option_map deref result ≡ slice_get (tiered_of self.now).items place }
     {
@@ -71,6 +73,7 @@ impl<T> Form<T> {
     }
 
     /// Makes room for so many more items, in tiers where there may then be more than a few.
+    #[inline(always)]
     pub(crate) fn reserve(&mut self, additional: usize) -> Result<(), NoRoom>
     where
         T: Drop,
@@ -80,6 +83,9 @@ impl<T> Form<T> {
     {
         match self {
             Form::Ring(ring) => {
+                if additional <= ring.capacity() - ring.len() {
+                    return Ok(());
+                }
                 if ring.len().saturating_add(additional) > FEW {
                     let tiers = tiers_from(ring, additional)?;
                     *self = Form::Tiers(tiers);
@@ -92,6 +98,7 @@ impl<T> Form<T> {
         Ok(())
     }
 
+    #[inline(always)]
     pub(crate) fn insert(&mut self, place: usize, item: T)
         requires inside { place ≤ length (tiered_of self.old).items }
         requires room { length (tiered_of self.old).items < (tiered_of self.old).capacity }
@@ -104,6 +111,7 @@ impl<T> Form<T> {
         }
     }
 
+    #[inline(always)]
     pub(crate) fn remove(&mut self, place: usize) -> T
         requires { place < length (tiered_of self.old).items }
         ensures item { slice_get (tiered_of self.old).items place ≡ Some result }

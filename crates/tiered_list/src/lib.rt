@@ -54,6 +54,7 @@ impl<T> TieredList<T> {
     }
 
     /// How many items there are.
+    #[inline(always)]
     pub fn len(&self) -> usize
         ensures len { result ≡ length self.now.items }
         ensures small { result < 2 ^ 63 }
@@ -62,6 +63,7 @@ impl<T> TieredList<T> {
     }
 
     /// The item at a place, counted from 0.
+    #[inline(always)]
     pub fn get(&self, place: usize) -> Option<&T>
         ensures item { option_map deref result ≡ slice_get self.now.items place }
         ensures small { length self.now.items < 2 ^ 63 }
@@ -72,6 +74,7 @@ impl<T> TieredList<T> {
     }
 
     /// Makes room for so many more items. After `NoRoom` the items are as they were.
+    #[inline(always)]
     pub fn reserve(&mut self, additional: usize) -> Result<(), NoRoom>
     where
         T: Drop,
@@ -83,6 +86,7 @@ impl<T> TieredList<T> {
     }
 
     /// Puts an item at a place, where `reserve` made room. It takes no memory.
+    #[inline(always)]
     pub fn insert(&mut self, place: usize, item: T)
         requires inside { place ≤ length self.old.items }
         requires room { length self.old.items < self.old.capacity }
@@ -93,6 +97,7 @@ impl<T> TieredList<T> {
     }
 
     /// Takes the item at a place out. It takes no memory.
+    #[inline(always)]
     pub fn remove(&mut self, place: usize) -> T
         requires { place < length self.old.items }
         ensures item { slice_get self.old.items place ≡ Some result }

@@ -6,7 +6,25 @@ ghost use Rattle.std.specs.VecDeque.{deque_len, deque_capacity};
 use std::collections::VecDeque;
 
 /// Puts an item at a place, where there is memory for it.
+#[inline(always)]
 pub(crate) fn put_at<T>(ring: &mut VecDeque<T>, place: usize, item: T)
+    requires place { place ≤ length ring.old.items }
+    requires room { deque_len ring.old < deque_capacity ring.old }
+    ensures items { ring.new.items ≡ insert ring.old.items place item }
+    ensures capacity { deque_capacity ring.old ≤ deque_capacity ring.new }
+{
+    if place == ring.len() {
+        ring.push_back_reserved(item);
+    } else if place == 0 {
+        ring.push_front_reserved(item);
+    } else {
+        put_inside(ring, place, item);
+    }
+}
+
+/// Puts an item at a place between others.
+#[inline(never)]
+fn put_inside<T>(ring: &mut VecDeque<T>, place: usize, item: T)
     requires place { place ≤ length ring.old.items }
     requires room { deque_len ring.old < deque_capacity ring.old }
     ensures items { ring.new.items ≡ insert ring.old.items place item }
@@ -19,7 +37,25 @@ pub(crate) fn put_at<T>(ring: &mut VecDeque<T>, place: usize, item: T)
 }
 
 /// Takes the item at a place out.
+#[inline(always)]
 pub(crate) fn take_at<T>(ring: &mut VecDeque<T>, place: usize) -> T
+    requires { place < length ring.old.items }
+    ensures item { slice_get ring.old.items place ≡ Some result }
+    ensures items { ring.new.items ≡ remove ring.old.items place }
+    ensures capacity { deque_capacity ring.new ≡ deque_capacity ring.old }
+{
+    if place == 0 {
+        take_first(ring)
+    } else if place + 1 == ring.len() {
+        take_last(ring)
+    } else {
+        take_inside(ring, place)
+    }
+}
+
+/// Takes an item between others out.
+#[inline(never)]
+fn take_inside<T>(ring: &mut VecDeque<T>, place: usize) -> T
     requires { place < length ring.old.items }
     ensures item { slice_get ring.old.items place ≡ Some result }
     ensures items { ring.new.items ≡ remove ring.old.items place }
