@@ -43,6 +43,7 @@ impl Lane {
     }
 
     /// How many ids there are.
+    #[inline(always)]
     pub(crate) fn len(&self) -> usize
         ensures len { result ≡ length self.now.ids.items }
         ensures small { result < 2 ^ 63 }
@@ -51,6 +52,7 @@ impl Lane {
     }
 
     /// The id at a place.
+    #[inline(always)]
     pub(crate) fn at(&self, place: usize) -> NodeId
         requires { place < length self.now.ids.items }
         ensures { result ≡ slice_index_or self.now.ids.items place result }
@@ -62,6 +64,7 @@ impl Lane {
     }
 
     /// The id at a place, if one is there.
+    #[inline(always)]
     pub(crate) fn get(&self, place: usize) -> Option<NodeId>
         ensures { result ≡ slice_get self.now.ids.items place }
     {
@@ -69,6 +72,7 @@ impl Lane {
     }
 
     /// Makes room for so many more ids.
+    #[inline(always)]
     pub(crate) fn reserve(&mut self, additional: usize) -> Result<(), NoRoom>
         ensures room { OnOk result (length self.new.ids.items + additional ≤ self.new.ids.capacity) }
         ensures no_less { self.old.ids.capacity ≤ self.new.ids.capacity }
@@ -79,6 +83,7 @@ impl Lane {
 
     /// How many of the nodes are earlier than the key, for a node that is to be put in: a search that
     /// begins where one was last put in.
+    #[inline(always)]
     pub(crate) fn rank(&self, slots: &Slab<Entry>, key: &Key) -> usize
         ensures rank { (nodes : List Node) → IsLane slots.now nodes self.now.ids.items → IsRank key.now nodes result }
         ensures inside { result ≤ length self.now.ids.items }
@@ -90,6 +95,7 @@ impl Lane {
 
     /// The place of the node with the key, or else how many are earlier: a search that begins where a
     /// node was last taken out.
+    #[inline(always)]
     pub(crate) fn search(&self, slots: &Slab<Entry>, key: &Key) -> Result<usize, usize>
         ensures found { (nodes : List Node) → IsLane slots.now nodes self.now.ids.items → IsSearched key.now nodes result }
         ensures inside { MatchResult result (λ place. place < length self.now.ids.items) (λ place. place ≤ length self.now.ids.items) }
@@ -99,6 +105,7 @@ impl Lane {
 
     /// The place of an id that mostly is the first one or stands where one was last taken out, or close
     /// behind it.
+    #[inline(always)]
     pub(crate) fn likely_place(&self, id: NodeId) -> Option<usize>
         ensures { IfSome result (λ place. is_id_at id self.now.ids.items place ≡ true) }
     {
@@ -109,6 +116,7 @@ impl Lane {
     }
 
     /// The place of an id that is among the few from a place on.
+    #[inline(always)]
     pub(crate) fn find_near(&self, start: usize, id: NodeId) -> Option<usize>
         ensures { IfSome result (λ place. is_id_at id self.now.ids.items place ≡ true) }
     {
@@ -122,6 +130,7 @@ impl Lane {
     }
 
     /// Whether an id is the first.
+    #[inline(always)]
     pub(crate) fn starts_with(&self, id: NodeId) -> bool
         ensures { result ≡ is_id_at id self.now.ids.items 0 }
     {
@@ -129,6 +138,7 @@ impl Lane {
     }
 
     /// Whether an id stands at a place.
+    #[inline(always)]
     fn has_at(&self, place: usize, id: NodeId) -> bool
         ensures { result ≡ is_id_at id self.now.ids.items place }
     {
@@ -144,6 +154,7 @@ impl Lane {
     }
 
     /// How many of the nodes are not later than the key: a search that begins at a place.
+    #[inline(always)]
     pub(crate) fn rank_past(&self, slots: &Slab<Entry>, key: &Key, start: usize) -> usize
         ensures rank { (nodes : List Node) → IsLane slots.now nodes self.now.ids.items → IsRankPast key.now nodes result }
         ensures inside { result ≤ length self.now.ids.items }
@@ -236,6 +247,7 @@ impl Lane {
     }
 
     /// How the node at a place compares with the key; none there counts as later.
+    #[inline(always)]
     fn compare_at(&self, slots: &Slab<Entry>, place: usize, key: &Key) -> Ordering
         ensures order { result ≡ cmp_at slots.now key.now self.now.ids.items place }
         ensures small { length self.now.ids.items < 2 ^ 63 }
@@ -247,6 +259,7 @@ impl Lane {
     }
 
     /// Whether the first of the nodes is earlier than the key.
+    #[inline(always)]
     pub(crate) fn starts_before(&self, slots: &Slab<Entry>, key: &Key) -> bool
         ensures { (nodes : List Node) → IsLane slots.now nodes self.now.ids.items → result ≡ is_first_before key.now nodes }
     {
@@ -254,6 +267,7 @@ impl Lane {
     }
 
     /// Puts an id at a place, where `reserve` made room.
+    #[inline(always)]
     pub(crate) fn insert(&mut self, place: usize, id: NodeId)
         requires inside { place ≤ length self.old.ids.items }
         requires room { length self.old.ids.items < self.old.ids.capacity }
@@ -269,6 +283,7 @@ impl Lane {
     }
 
     /// Takes the id at a place out.
+    #[inline(always)]
     pub(crate) fn remove(&mut self, place: usize) -> NodeId
         requires { place < length self.old.ids.items }
         ensures id { result ≡ slice_index_or self.old.ids.items place result }

@@ -33,6 +33,7 @@ impl Location {
     }
 
     /// The nodes that an access clashes with: for a write all, for a read those that write.
+    #[inline(always)]
     pub(crate) fn clashing(&self, access: Access) -> &Lane
         ensures { result.now.ids.items ≡ ids_for access self.now }
     {
@@ -43,6 +44,7 @@ impl Location {
     }
 
     /// Makes room for so many more nodes.
+    #[inline(always)]
     pub(crate) fn reserve(&mut self, additional: usize) -> Result<(), NoRoom>
         ensures room { OnOk result (additional ≤ room_in self.new) }
         ensures no_less { room_in self.old ≤ room_in self.new }

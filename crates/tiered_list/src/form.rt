@@ -11,7 +11,7 @@ use crate::tiers::Tiers;
 use kdg_text::NoRoom;
 use std::collections::VecDeque;
 
-/// How many items stay in a ring at most where room is made.
+/// How many items there may be at most in a ring that takes more memory.
 const FEW: usize = 256;
 
 /// How a list is kept: a short one in a ring buffer, so that it takes little more than its items, and a
@@ -72,7 +72,8 @@ impl<T> Form<T> {
         }
     }
 
-    /// Makes room for so many more items, in tiers where there may then be more than a few.
+    /// Makes room for so many more items. A ring that has none moves to tiers where there may then be
+    /// more than a few.
     #[inline(always)]
     pub(crate) fn reserve(&mut self, additional: usize) -> Result<(), NoRoom>
     where

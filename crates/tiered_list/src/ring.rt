@@ -5,7 +5,7 @@ ghost use Rattle.std.specs.VecDeque.{deque_len, deque_capacity};
 
 use std::collections::VecDeque;
 
-/// Puts an item at a place, where there is memory for it.
+/// Puts an item at a place, where there is memory for it. At the ends none of the others moves.
 #[inline(always)]
 pub(crate) fn put_at<T>(ring: &mut VecDeque<T>, place: usize, item: T)
     requires place { place ≤ length ring.old.items }
@@ -18,13 +18,13 @@ pub(crate) fn put_at<T>(ring: &mut VecDeque<T>, place: usize, item: T)
     } else if place == 0 {
         ring.push_front_reserved(item);
     } else {
-        put_inside(ring, place, item);
+        put_within(ring, place, item);
     }
 }
 
-/// Puts an item at a place between others.
+/// The same, where those up to the nearer end move.
 #[inline(never)]
-fn put_inside<T>(ring: &mut VecDeque<T>, place: usize, item: T)
+fn put_within<T>(ring: &mut VecDeque<T>, place: usize, item: T)
     requires place { place ≤ length ring.old.items }
     requires room { deque_len ring.old < deque_capacity ring.old }
     ensures items { ring.new.items ≡ insert ring.old.items place item }
@@ -36,7 +36,7 @@ fn put_inside<T>(ring: &mut VecDeque<T>, place: usize, item: T)
     }
 }
 
-/// Takes the item at a place out.
+/// Takes the item at a place out. At the ends none of the others moves.
 #[inline(always)]
 pub(crate) fn take_at<T>(ring: &mut VecDeque<T>, place: usize) -> T
     requires { place < length ring.old.items }
@@ -49,13 +49,13 @@ pub(crate) fn take_at<T>(ring: &mut VecDeque<T>, place: usize) -> T
     } else if place + 1 == ring.len() {
         take_last(ring)
     } else {
-        take_inside(ring, place)
+        take_within(ring, place)
     }
 }
 
-/// Takes an item between others out.
+/// The same, where those up to the nearer end move.
 #[inline(never)]
-fn take_inside<T>(ring: &mut VecDeque<T>, place: usize) -> T
+fn take_within<T>(ring: &mut VecDeque<T>, place: usize) -> T
     requires { place < length ring.old.items }
     ensures item { slice_get ring.old.items place ≡ Some result }
     ensures items { ring.new.items ≡ remove ring.old.items place }

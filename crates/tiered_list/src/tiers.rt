@@ -95,6 +95,7 @@ impl<T> Tiers<T> {
     }
 
     /// Makes room for so many more items. After `NoRoom` the items are as they were.
+    #[inline(never)]
     pub(crate) fn reserve(&mut self, additional: usize) -> Result<(), NoRoom>
         ensures room { OnOk result (length (all_items self.old) + additional ≤ room_for self.new) }
         ensures no_less { room_for self.old ≤ room_for self.new }
@@ -137,6 +138,7 @@ impl<T> Tiers<T> {
     }
 
     /// Puts an item at a place, where `reserve` made room.
+    #[inline(never)]
     pub(crate) fn insert(&mut self, place: usize, item: T)
         requires inside { place ≤ length (all_items self.old) }
         requires room { length (all_items self.old) < room_for self.old }
@@ -226,6 +228,7 @@ impl<T> Tiers<T> {
     }
 
     /// Takes the item at a place out.
+    #[inline(never)]
     pub(crate) fn remove(&mut self, place: usize) -> T
         requires { place < length (all_items self.old) }
         ensures item { slice_get (all_items self.old) place ≡ Some result }
