@@ -5,7 +5,7 @@ use cell_store::{Bundle, Held, Store};
 use kdg_text::{NoRoom, Steps, Text};
 use rw_sets::RwSet;
 use std::sync::ledger::Ledger;
-use task_order::{Body, Task, TaskList};
+use task_order::{Body, PendingTasks, Task};
 
 /// What a task did: its bundle with the new values, its children, and the lines that it writes.
 #[derive(Drop)]
@@ -61,10 +61,10 @@ pub trait App {
 
     /// Whether a task may run although those of the pending tasks that are earlier haven't run yet:
     /// what they and their children may still do must not touch it.
-    fn safe(&self, task: &Task, pending: &TaskList) -> bool
+    fn safe<P: PendingTasks>(&self, task: &Task, pending: &P) -> bool
         requires fit { IsFitTask (meaning self.now) task.now }
-        requires pending { AreFitTasks (meaning self.now) pending.now }
-        ensures { result ≡ (meaning self.now).is_safe task.now (tasks_before task.now.key pending.now) };
+        requires pending { AreFitTasks (meaning self.now) (P.tasks pending.now) }
+        ensures { result ≡ (meaning self.now).is_safe task.now (tasks_before task.now.key (P.tasks pending.now)) };
 
     /// Does what the task does, on its bundle alone. Where memory runs out, the bundle comes back
     /// as it was.

@@ -8,7 +8,7 @@ use rw_sets::{Access, RwSet};
 use std::alloc::Global;
 use std::marker::Model;
 use std::sync::ledger::Ledger;
-use task_order::{Body, Task, TaskList};
+use task_order::{Body, PendingTasks, Task};
 
 /// People, each with one contact among them, who introduce their contacts to each other.
 ///
@@ -81,7 +81,7 @@ impl App for Introductions {
         false
     }
 
-    fn safe(&self, _task: &Task, _pending: &TaskList) -> bool {
+    fn safe<P: PendingTasks>(&self, _task: &Task, _pending: &P) -> bool {
         true
     }
 

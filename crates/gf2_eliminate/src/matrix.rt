@@ -19,7 +19,7 @@ use rw_sets::RwSet;
 use std::alloc::Global;
 use std::marker::Model;
 use std::sync::ledger::Ledger;
-use task_order::{Body, StartList, Task, TaskList};
+use task_order::{Body, PendingTasks, StartList, Task};
 
 /// A matrix of zeros and ones that is brought to reduced form over the field of two elements. Row
 /// `i`, counted from 1, has its line in cell `i - 1`, and the columns have theirs behind the rows.
@@ -120,7 +120,7 @@ impl App for Matrix {
         false
     }
 
-    fn safe(&self, _task: &Task, _pending: &TaskList) -> bool {
+    fn safe<P: PendingTasks>(&self, _task: &Task, _pending: &P) -> bool {
         true
     }
 

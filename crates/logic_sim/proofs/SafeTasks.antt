@@ -1,5 +1,5 @@
 -- The first of the pending tasks decides whether a task is safe.
-use Rattle.std.proofs.Common.{◌≡◌, ◌∙◌, ◌≤◌, true, false, List, [], ◌∷◌, ap, sym, refl, subst, arith, inl, inr}
+use Rattle.std.proofs.Common.{◌≡◌, ◌∙◌, ◌≤◌, true, false, List, [], ◌∷◌, Some, None, slice_get, ap, sym, refl, subst, arith, inl, inr}
 use Rattle.std.specs.Prelude.{◌==◌, nat_le}
 use Rattle.std.specs.List.{AllByRecursion}
 use Rattle.std.specs.Ordering.{is_lt, nat_cmp}
@@ -38,7 +38,7 @@ same_prio task (other ∷ tasks) low = elim (cases_Bool (is_earlier task.key oth
 ]
 
 -- where the first one has no lower priority than the task, none of the earlier ones has
-pub first_decides : (task first : Task) (rest pending : List Task) → IsAscending pending → pending ≡ first ∷ rest
+first_decides : (task first : Task) (rest pending : List Task) → IsAscending pending → pending ≡ first ∷ rest
     → nat_le task.key.prio first.key.prio ≡ is_safe task (tasks_before task.key pending)
 first_decides task first rest pending ascending is = elim (cases_Bool (nat_le task.key.prio first.key.prio)) [
   | inl low ↦
@@ -52,3 +52,14 @@ first_decides task first rest pending ascending is = elim (cases_Bool (nat_le ta
       let none : is_safe task (tasks_before task.key (first ∷ rest)) ≡ false = rw (earlier, differs) refl in
       high ∙ sym (subst (λ (tasks : List Task). is_safe task (tasks_before task.key tasks) ≡ false) (sym is) none)
 ]
+
+-- the earliest of the pending tasks decides
+pub earliest_decides : (task first : Task) (pending : List Task) → IsAscending pending → Some first ≡ slice_get pending 0
+    → nat_le task.key.prio first.key.prio ≡ is_safe task (tasks_before task.key pending)
+earliest_decides task first [] ascending is = absurd (cc)
+earliest_decides task first (other ∷ rest) ascending is = first_decides task first rest (other ∷ rest) ascending (cc)
+
+-- where no task is pending, each may run
+pub none_is_earlier : (task : Task) (pending : List Task) → None ≡ slice_get pending 0 → true ≡ is_safe task (tasks_before task.key pending)
+none_is_earlier task [] is = refl
+none_is_earlier task (other ∷ rest) is = absurd (cc)

@@ -14,7 +14,7 @@ use rw_sets::{Access, RwSet};
 use std::alloc::Global;
 use std::marker::Model;
 use std::sync::ledger::Ledger;
-use task_order::{Body, Start, StartList, Task, TaskList};
+use task_order::{Body, PendingTasks, Start, StartList, Task};
 
 impl Held for MeshNode {
     fn copy(&self) -> Result<MeshNode, NoRoom> {
@@ -187,7 +187,7 @@ impl App for Mesh {
         true
     }
 
-    fn safe(&self, _task: &Task, _pending: &TaskList) -> bool {
+    fn safe<P: PendingTasks>(&self, _task: &Task, _pending: &P) -> bool {
         true
     }
 

@@ -6,6 +6,7 @@ mod blocks;
 mod key;
 mod laws;
 mod path;
+mod pending_tasks;
 mod start;
 mod task;
 mod task_list;
@@ -17,6 +18,7 @@ pub use laws::{
     without_laws,
 };
 pub use path::Path;
+pub use pending_tasks::PendingTasks;
 pub use start::{Start, StartList};
 pub use task::{Body, Task};
 pub use task_list::TaskList;

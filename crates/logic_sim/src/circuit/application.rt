@@ -14,7 +14,7 @@ use kdg_text::{NoRoom, Steps, Text};
 use rw_sets::{Access, RwSet};
 use std::alloc::Global;
 use std::sync::ledger::Ledger;
-use task_order::{Body, Start, Task, TaskList};
+use task_order::{Body, PendingTasks, Start, Task};
 
 impl App for Circuit {
     ghost use Rattle.logic_sim.specs.Lawful as lawful;
@@ -47,8 +47,8 @@ impl App for Circuit {
         true
     }
 
-    fn safe(&self, task: &Task, pending: &TaskList) -> bool {
-        match pending.iter().next() {
+    fn safe<P: PendingTasks>(&self, task: &Task, pending: &P) -> bool {
+        match pending.earliest() {
             Some(first) => first.key.prio >= task.key.prio,
             None => true,
         }

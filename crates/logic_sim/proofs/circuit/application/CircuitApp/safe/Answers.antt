@@ -1,7 +1,8 @@
-use Rattle.std.proofs.Common.{◌∙◌, sym}
-use Rattle.logic_sim.proofs.SafeTasks.{first_decides}
+use Rattle.logic_sim.proofs.SafeTasks.{earliest_decides, none_is_earlier}
 use Rattle.logic_sim.proofs.circuit.application.CircuitApp.safe.Goals as goal
 
 pub returns-in-Some : goal.returns-in-Some
-returns-in-Some c =
-    first_decides c.args.task.now c.in-Some.first.now c.next.new.self c.args.pending.now c.iter.ensures.ascending (sym c.iter.ensures.rest ∙ c.in-Some.ensures.steps)
+returns-in-Some g c = earliest_decides c.args.task.now c.in-Some.first.now (g.P.PendingTasks.tasks c.args.pending.now) c.in-Some.ensures.ascending c.in-Some.ensures.first
+
+pub returns-in-None : goal.returns-in-None
+returns-in-None g c = none_is_earlier c.args.task.now (g.P.PendingTasks.tasks c.args.pending.now) c.in-None.ensures.first
