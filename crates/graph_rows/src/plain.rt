@@ -1,14 +1,18 @@
 use kdg_graph::{Graph, NodeId};
 use kdg_text::NoRoom;
 use std::alloc::Global;
-use task_order::Key;
+use task_order::{Key, TaskList};
 
-/// The sources, found by comparing the sets of all pairs of nodes.
-pub(crate) fn plain_sources(graph: &Graph, alloc: Global) -> Result<Vec<NodeId>, NoRoom> {
+/// The sources, found by comparing the sets of all pairs of nodes, whose tasks are given.
+pub(crate) fn plain_sources(
+    graph: &Graph,
+    tasks: &TaskList,
+    alloc: Global,
+) -> Result<Vec<NodeId>, NoRoom> {
     let mut sources = Vec::new(alloc);
-    for task in graph.tasks().iter() {
+    for task in tasks.iter() {
         if let Some(node) = graph.find(&task.key) {
-            if !graph.running(node) && !is_blocked(graph, &task.key) {
+            if !graph.running(node) && !is_blocked(graph, tasks, &task.key) {
                 sources.push(node)?;
             }
         }
@@ -17,11 +21,11 @@ pub(crate) fn plain_sources(graph: &Graph, alloc: Global) -> Result<Vec<NodeId>,
 }
 
 /// Whether some earlier node is in conflict with the node whose task has the key.
-fn is_blocked(graph: &Graph, key: &Key) -> bool {
+fn is_blocked(graph: &Graph, tasks: &TaskList, key: &Key) -> bool {
     let Some(node) = graph.find(key) else {
         return false;
     };
-    for other in graph.tasks().iter() {
+    for other in tasks.iter() {
         if other.key.compare(key).is_lt() {
             if let Some(earlier) = graph.find(&other.key) {
                 if graph.set(earlier).conflicts(graph.set(node)) {
@@ -35,12 +39,17 @@ fn is_blocked(graph: &Graph, key: &Key) -> bool {
 
 /// The later nodes in conflict with the node whose task has the key, found by comparing its set with
 /// that of each later node.
-pub(crate) fn plain_laters(graph: &Graph, alloc: Global, key: &Key) -> Result<Vec<NodeId>, NoRoom> {
+pub(crate) fn plain_laters(
+    graph: &Graph,
+    tasks: &TaskList,
+    alloc: Global,
+    key: &Key,
+) -> Result<Vec<NodeId>, NoRoom> {
     let mut laters = Vec::new(alloc);
     let Some(node) = graph.find(key) else {
         return Ok(laters);
     };
-    for other in graph.tasks().iter() {
+    for other in tasks.iter() {
         if key.compare(&other.key).is_lt() {
             if let Some(later) = graph.find(&other.key) {
                 if graph.set(node).conflicts(graph.set(later)) {
@@ -50,4 +59,21 @@ pub(crate) fn plain_laters(graph: &Graph, alloc: Global, key: &Key) -> Result<Ve
         }
     }
     Ok(laters)
+}
+
+/// The running nodes, found by the keys of all tasks.
+pub(crate) fn plain_running(
+    graph: &Graph,
+    tasks: &TaskList,
+    alloc: Global,
+) -> Result<Vec<NodeId>, NoRoom> {
+    let mut running = Vec::new(alloc);
+    for task in tasks.iter() {
+        if let Some(node) = graph.find(&task.key) {
+            if graph.running(node) {
+                running.push(node)?;
+            }
+        }
+    }
+    Ok(running)
 }

@@ -1,7 +1,7 @@
 ghost use Rattle.std.specs.Prelude.{IfOk};
 ghost use Rattle.kdg_graph.specs.Nodes.{HasNode};
 
-use crate::plain::{plain_laters, plain_sources};
+use crate::plain::{plain_laters, plain_running, plain_sources};
 use Access::{Read, Write};
 use kdg_graph::{Fresh, Graph, NodeId, SetChange};
 use kdg_text::NoRoom;
@@ -9,7 +9,7 @@ use rw_sets::{Access, RwSet};
 use std::alloc::Global;
 use std::process::Abort;
 use std::test::Fail;
-use task_order::{Body, Key, Path, Task};
+use task_order::{Body, Key, Path, PendingTasks, Task, TaskList};
 
 /// The first task with this number, at a priority.
 fn task(alloc: Global, prio: u64, number: u32) -> Result<Task, NoRoom> {
@@ -42,10 +42,9 @@ fn node(graph: &Graph, alloc: Global, prio: u64, number: u32) -> Result<NodeId, 
     Ok(graph.find(&key).ok_or("no such node")?)
 }
 
-/// A graph of three nodes, of which the first and the third share a location. They are put in out
-/// of order.
-fn three_nodes(rt: &impl Abort, alloc: Global) -> Result<Graph, NoRoom> {
-    let mut graph = Graph::new(alloc);
+/// The graph, which had no nodes, with three, of which the first and the third share a location.
+/// They are put in out of order.
+fn three_nodes(rt: &impl Abort, alloc: Global, mut graph: Graph) -> Result<Graph, NoRoom> {
     for (prio, number, loc, access) in [(1, 1, 6, Write), (2, 2, 5, Read), (1, 0, 5, Write)] {
         let task = task(alloc, prio, number)?;
         let set = set(alloc, &[(loc, access)])?;
@@ -84,7 +83,14 @@ fn end_first(rt: &impl Abort, graph: &mut Graph, alloc: Global) -> Result<(), Fa
 #[test]
 fn sources_wait_for_earlier_nodes(rt: HostRuntime) -> Result<(), Fail> {
     let alloc = rt.alloc();
-    let mut graph = three_nodes(&rt, alloc)?;
+    check_waiting(&rt, alloc, Graph::new(alloc))?;
+    check_waiting(&rt, alloc, Graph::ordered(alloc))
+}
+
+/// Puts three nodes into a graph without nodes, and checks its sources then, and after the first node
+/// has started and ended.
+fn check_waiting(rt: &impl Abort, alloc: Global, graph: Graph) -> Result<(), Fail> {
+    let mut graph = three_nodes(rt, alloc, graph)?;
     let first = node(&graph, alloc, 1, 0)?;
     let second = node(&graph, alloc, 1, 1)?;
     let third = node(&graph, alloc, 2, 2)?;
@@ -94,8 +100,8 @@ fn sources_wait_for_earlier_nodes(rt: HostRuntime) -> Result<(), Fail> {
     );
     assert_eq!(rt; laters(&graph, alloc, 1, 0)?.as_slice(), [third].as_slice());
     assert_eq!(rt; graph.least(), Some(first));
-    start_first(&rt, &mut graph, alloc)?;
-    end_first(&rt, &mut graph, alloc)?;
+    start_first(rt, &mut graph, alloc)?;
+    end_first(rt, &mut graph, alloc)?;
     assert_eq!(rt;
         sources(&graph, alloc)?.as_slice(),
         [second, third].as_slice()
@@ -129,9 +135,15 @@ fn rewrite_three(rt: &impl Abort, graph: &mut Graph, alloc: Global) -> Result<()
 #[test]
 fn a_rewrite_replaces_sets_and_adds_nodes(rt: HostRuntime) -> Result<(), Fail> {
     let alloc = rt.alloc();
-    let mut graph = three_nodes(&rt, alloc)?;
+    check_rewritten(&rt, alloc, Graph::new(alloc))?;
+    check_rewritten(&rt, alloc, Graph::ordered(alloc))
+}
+
+/// Puts three nodes into a graph without nodes, rewrites them, and checks what is there then.
+fn check_rewritten(rt: &impl Abort, alloc: Global, graph: Graph) -> Result<(), Fail> {
+    let mut graph = three_nodes(rt, alloc, graph)?;
     let third = node(&graph, alloc, 2, 2)?;
-    rewrite_three(&rt, &mut graph, alloc)?;
+    rewrite_three(rt, &mut graph, alloc)?;
     let fourth = node(&graph, alloc, 3, 3)?;
     assert_eq!(rt;
         laters(&graph, alloc, 1, 1)?.as_slice(),
@@ -140,7 +152,7 @@ fn a_rewrite_replaces_sets_and_adds_nodes(rt: HostRuntime) -> Result<(), Fail> {
     assert_eq!(rt; graph.task(fourth).body.at, 3);
     assert_eq!(rt; graph.set(fourth).contains(6), Some(Read));
     assert!(rt; !graph.running(fourth));
-    assert_eq!(rt; graph.tasks().len(), 3);
+    assert_eq!(rt; graph.len(), 3);
     Ok(())
 }
 
@@ -196,25 +208,64 @@ fn replace(
     Ok(())
 }
 
-/// Checks the sources and the later nodes of each node against a plain search.
-fn check_plain(rt: &impl Abort, graph: &Graph, alloc: Global) -> Result<(), Fail> {
-    let plain = plain_sources(graph, alloc)?;
-    assert_eq!(rt; sources(graph, alloc)?.as_slice(), plain.as_slice());
-    for task in graph.tasks().iter() {
-        let node = graph.find(&task.key).ok_or("no such node")?;
-        let laters: Vec<NodeId> = graph.later_of(node).collect(alloc)?;
-        let plain = plain_laters(graph, alloc, &task.key)?;
-        assert_eq!(rt; laters.as_slice(), plain.as_slice());
+/// Puts the task that a call puts in into a list of tasks, or takes out the one that it ends.
+fn follow(rt: &impl Abort, tasks: &mut TaskList, alloc: Global, call: Call) -> Result<(), NoRoom> {
+    match call {
+        Call::Insert(number, _) => {
+            let task = task(alloc, 1, number)?;
+            assert!(rt; tasks.get(&task.key).is_none());
+            tasks.insert(task).map_err(|_| NoRoom)?;
+        }
+        Call::Start(_) => {}
+        Call::End(number) | Call::Replace(number, _, _) => {
+            tasks.remove(&task(alloc, 1, number)?.key);
+        }
     }
     Ok(())
 }
 
-/// Does all this to a graph without nodes, which it checks after each step.
+/// Checks the sources and the later nodes of each node against a plain search, and how many nodes
+/// there are and which is the earliest against the list of their tasks.
+fn check_plain(
+    rt: &impl Abort,
+    graph: &Graph,
+    tasks: &TaskList,
+    alloc: Global,
+) -> Result<(), Fail> {
+    let plain = plain_sources(graph, tasks, alloc)?;
+    assert_eq!(rt; sources(graph, alloc)?.as_slice(), plain.as_slice());
+    for task in tasks.iter() {
+        let node = graph.find(&task.key).ok_or("no such node")?;
+        let laters: Vec<NodeId> = graph.later_of(node).collect(alloc)?;
+        let plain = plain_laters(graph, tasks, alloc, &task.key)?;
+        assert_eq!(rt; laters.as_slice(), plain.as_slice());
+    }
+    assert_eq!(rt; graph.len(), tasks.len());
+    assert_eq!(rt; graph.is_empty(), tasks.is_empty());
+    let running = plain_running(graph, tasks, alloc)?;
+    assert_eq!(rt; graph.running_len(), running.len());
+    assert_eq!(rt; earliest(graph), earliest(tasks));
+    Ok(())
+}
+
+/// The earliest of pending tasks, however they are kept.
+fn earliest<P: PendingTasks>(pending: &P) -> Option<&Task> {
+    pending.earliest()
+}
+
+/// Does all this to a graph of each kind.
 fn run_all(rt: &impl Abort, alloc: Global, calls: &[Call]) -> Result<(), Fail> {
-    let mut graph = Graph::new(alloc);
+    run_on(rt, alloc, Graph::new(alloc), calls)?;
+    run_on(rt, alloc, Graph::ordered(alloc), calls)
+}
+
+/// Does all this to a graph without nodes, which it checks after each step.
+fn run_on(rt: &impl Abort, alloc: Global, mut graph: Graph, calls: &[Call]) -> Result<(), Fail> {
+    let mut tasks = TaskList::new(alloc);
     for call in calls {
         run(rt, &mut graph, alloc, *call)?;
-        check_plain(rt, &graph, alloc)?;
+        follow(rt, &mut tasks, alloc, *call)?;
+        check_plain(rt, &graph, &tasks, alloc)?;
     }
     Ok(())
 }

@@ -31,7 +31,6 @@ pub mod Performed
 pub mod Picked
 pub mod ReadyIds
 pub mod Renewing
-pub mod RunningNodes
 pub mod Standing
 pub mod StandingDrains
 pub mod StandingEnds

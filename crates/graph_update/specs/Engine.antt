@@ -1,7 +1,6 @@
 -- What is kept of every engine, and what its calls find.
-use Rattle.std.specs.Prelude.{◌≡◌, ◌+◌, ◌<◌, ◌≤◌, ℕ, Bool, true, false, List, Contains, [], ◌∷◌, length, Some, unwrap_or}
+use Rattle.std.specs.Prelude.{◌≡◌, ◌+◌, ◌<◌, ◌≤◌, ℕ, true, false, List, Contains, [], ◌∷◌, length, Some}
 use Rattle.std.specs.List.{AllByRecursion}
-use Rattle.std.specs.Option.{option_map}
 use Rattle.task_order.specs.declared.key.Key.{Key}
 use Rattle.task_order.specs.declared.start.Start.{Start}
 use Rattle.task_order.specs.TaskList.{put_all}
@@ -34,10 +33,6 @@ pub record SomeRuns (nodes : List Node) : Type 0 where
   pub node : Node
   pub there : Contains nodes node
   pub running : node.running ≡ true
-
--- whether the node of a key is running, where there is one
-abbrev pub runs_with_key : List Node → Key → Bool
-runs_with_key nodes key = unwrap_or (option_map (λ node. node.running) (node_with_key nodes key)) false
 
 -- at most one step for each of the later nodes whose recorded sets conflict with that of the node of a key
 abbrev pub IsOneStepEach : List Node → Key → ℕ → ℕ → Type 0

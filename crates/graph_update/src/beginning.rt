@@ -1,7 +1,7 @@
 //! How an execution begins: its cells are all home, and each first task is a node with its declared
 //! set.
 
-ghost use Rattle.std.specs.Prelude.{◌≡◌, ◌+◌, ◌≤◌, ◌<◌, ◌^◌, length, IfOk};
+ghost use Rattle.std.specs.Prelude.{◌≡◌, ◌+◌, ◌≤◌, ◌<◌, ◌^◌, [], length, IfOk};
 ghost use Rattle.cell_store.specs.Values.{homes, values_of};
 ghost use Rattle.app_laws.specs.Applications.{AreFitStarts, IsFitTask, set_in};
 ghost use Rattle.graph_update.specs.Engine.{AreFirstNodes};
@@ -46,7 +46,7 @@ pub(crate) fn first_graph<A: App, L: Ledger>(
     ensures steps { steps.new ≤ steps.old + length first.now }
 {
     put_laws();
-    let mut graph = Graph::new(alloc);
+    let mut graph = empty_graph(alloc, app);
     for (number, start) in first.iter().enumerate() {
         let path = Path::root(alloc, number as u32)?;
         let key = Key {
@@ -63,6 +63,18 @@ pub(crate) fn first_graph<A: App, L: Ledger>(
         };
     }
     Ok(graph)
+}
+
+/// A graph without nodes. Where sets may change, later nodes are asked for, so that it keeps the order
+/// of all.
+fn empty_graph<A: App>(alloc: Global, app: &A) -> Graph
+    ensures { result ≡ [] }
+{
+    if app.sets_are_fixed() {
+        Graph::new(alloc)
+    } else {
+        Graph::ordered(alloc)
+    }
 }
 
 /// The set that a task declares in cells that are all home.

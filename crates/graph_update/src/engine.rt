@@ -9,7 +9,6 @@ ghost use Rattle.graph_update.specs.Events.{drainable, drained, marked};
 ghost use Rattle.graph_update.specs.Sound.{IsSound};
 
 use crate::beginning::{first_graph, home_store};
-use crate::counting::running_count;
 use crate::laws::{basis, begin_laws, drain_laws};
 use crate::ready::Ready;
 use crate::{BeginFault, Counts, OverCause};
@@ -148,8 +147,8 @@ impl<'a, A: App> Engine<'a, A> {
         Counts {
             created: self.created,
             ended: self.ended,
-            nodes: self.graph.tasks().len() as u64,
-            running: running_count(&self.graph),
+            nodes: self.graph.len() as u64,
+            running: self.graph.running_len() as u64,
         }
     }
 

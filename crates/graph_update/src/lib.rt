@@ -4,7 +4,6 @@
 mod answers;
 mod beginning;
 mod claiming;
-mod counting;
 mod engine;
 mod finish_laws;
 mod finishing;

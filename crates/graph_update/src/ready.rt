@@ -104,7 +104,7 @@ fn clear_ids<A: App>(
         if let Some(rest) = behind(left, node) {
             left = rest;
             ids.push(node)?;
-        } else if app.safe(graph.task(node), graph.tasks()) {
+        } else if app.safe(graph.task(node), graph) {
             ids.push(node)?;
         }
     }

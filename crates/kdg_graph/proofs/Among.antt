@@ -3,32 +3,30 @@ use Rattle.std.proofs.Common.{◌≡◌, ◌≢◌, ℕ, zero, suc, ◌<◌, Boo
 use Rattle.std.specs.Prelude.{Contains, IsSome}
 use Rattle.std.specs.Cmp.{tied_itself}
 use Rattle.std.specs.List.{AllByRecursion, filter, insert, remove}
+use Rattle.std.specs.Ordering.{is_lt}
 use Rattle.std.specs.declared.cmp.Ordering.TheVariants.{Less}
+use Rattle.std.proofs.lemmas.Bool.{true≢false}
 use Rattle.slab.specs.Slab.{Slab, get}
 use Rattle.task_order.specs.Key.{key_cmp, key_cmp_total}
 use Rattle.task_order.specs.TaskList.{IsAscending}
 use Rattle.kdg_graph.specs.declared.node_id.NodeId.{NodeId}
-use Rattle.kdg_graph.specs.Lanes.{IsLane, IsRank, IsStored, nodes_in}
+use Rattle.kdg_graph.specs.Lanes.{IsLane, IsRank}
 use Rattle.kdg_graph.specs.Locations.{IsLaneAmong}
 use Rattle.kdg_graph.specs.Node.{Node}
-use Rattle.kdg_graph.specs.NodeStock.{IsPlaceOf}
 use Rattle.kdg_graph.specs.Nodes.{HaveOwnIds, HasNode, IsGraph, ids_of, is_at, node_at, put_node, tasks_of}
 use Rattle.kdg_graph.specs.Rewrite.{without}
+use Rattle.kdg_graph.specs.Stored.{IsStored, nodes_of}
 use Rattle.kdg_graph.proofs.Filtered.{ascending_filtered}
 use Rattle.kdg_graph.proofs.Keeping.{ids-insert, ids-remove}
-use Rattle.kdg_graph.proofs.Lanes.{graph_of_stored, id_there, length-ids, some_node}
+use Rattle.kdg_graph.proofs.Lanes.{id_there, length-ids, some_node}
 use Rattle.kdg_graph.proofs.LookUps.{found_by_id, ids_find_nodes, nodes_have_ids}
 use Rattle.kdg_graph.proofs.Members.{all_at, all_from, from_filter, there as later_too}
 use Rattle.kdg_graph.proofs.Neighbours.{same_found}
-use Rattle.kdg_graph.proofs.Ordering.{insert_at_point}
-use Rattle.kdg_graph.proofs.Places.{id_at-place, place_inside, without-place, without_none}
-use Rattle.kdg_graph.proofs.Storing.{place_by_rank}
+use Rattle.kdg_graph.proofs.Ordering.{insert_at_point, is_before, not_itself}
+use Rattle.kdg_graph.proofs.Places.{IsPlaceOf, id_at-place, place_inside, without-place, without_none}
 
 pub graph_among : (nodes : List Node) → IsGraph nodes → IsLaneAmong nodes nodes (ids_of nodes)
 graph_among nodes graph = record { ids_are = refl; there = all_from (λ (node : Node). Contains nodes node) nodes (λ node has. has); ascending = graph.ascending }
-
-pub among_all : (slots : Slab Node) (ids : List NodeId) → IsStored slots ids → IsLaneAmong (nodes_in slots ids) (nodes_in slots ids) ids
-among_all slots ids is = subst (λ (l : List NodeId). IsLaneAmong (nodes_in slots ids) (nodes_in slots ids) l) (sym is.lane.ids_are) (graph_among (nodes_in slots ids) (graph_of_stored slots ids is))
 
 pub among_filtered : (p : Node → Bool) (nodes some : List Node) (before ids : List NodeId) → IsLaneAmong nodes some before → ids ≡ ids_of (filter p some) → IsLaneAmong nodes (filter p some) ids
 among_filtered p nodes some before ids among is = record {
@@ -39,12 +37,12 @@ among_filtered p nodes some before ids among is = record {
 
 -- ---- they are kept where all are
 
-pub lane_of_among : (slots : Slab Node) (all ids : List NodeId) (some : List Node) → IsStored slots all → IsLaneAmong (nodes_in slots all) some ids → IsLane slots some ids
-lane_of_among slots all ids some is among = record {
+pub lane_of_among : (slots : Slab Node) (ids : List NodeId) (some : List Node) → IsStored slots → IsLaneAmong (nodes_of slots) some ids → IsLane slots some ids
+lane_of_among slots ids some is among = record {
   ids_are = among.ids_are;
   ascending = among.ascending;
   stored = all_from (λ (node : Node). get slots node.id.at ≡ Some node) some (λ node has.
-      all_at (λ (n : Node). get slots n.id.at ≡ Some n) (nodes_in slots all) node is.lane.stored (all_at (λ (n : Node). Contains (nodes_in slots all) n) some node among.there has));
+      all_at (λ (n : Node). get slots n.id.at ≡ Some n) (nodes_of slots) node is.stored (all_at (λ (n : Node). Contains (nodes_of slots) n) some node among.there has));
 }
 
 -- ---- they have ids of their own
@@ -106,6 +104,43 @@ pub same_among : (nodes some : List Node) (ids : List NodeId) (id : NodeId) (nod
 same_among nodes some ids id node other graph among is found =
     let has : Contains some other × (other.id ≡ id) = ids_find_nodes some id other found in
     same_found nodes id node other graph (all_at (λ (n : Node). Contains nodes n) some other among.there has.0) has.1 is
+
+-- the place of a node is its rank
+place_by_rank : (id : NodeId) (nodes : List Node) (node : Node) (place : ℕ) → IsAscending (tasks_of nodes) → node_at nodes id ≡ Some node → IsRank node.task.key nodes place → IsPlaceOf id nodes place
+place_by_rank id [] node place up is rank = cc
+place_by_rank id (first ∷ nodes) node zero up is rank =
+    let by_case : (test : Bool) → is_at id first ≡ test → cond test (Some first) (node_at nodes id) ≡ Some node → is_at id first ≡ true = elim [
+      | true ↦ λ at _. at
+      | false ↦ λ _ found. absurd (true≢false (sym (is_earlier first nodes node id up found) ∙ rank.point.1 0 first (omega arith) (omega arith)))
+    ] in
+    by_case (is_at id first) refl is
+  where
+    is_earlier : (first : Node) (nodes : List Node) (node : Node) (id : NodeId) → IsAscending (tasks_of (first ∷ nodes)) → node_at nodes id ≡ Some node → is_before node.task.key first ≡ true
+    is_earlier first nodes node id up found = ap is_lt (later_all first nodes node id up.0 found)
+      where
+        later_all : (first : Node) (nodes : List Node) (node : Node) (id : NodeId) → AllByRecursion (λ task. key_cmp first.task.key task.key ≡ Less) (tasks_of nodes) → node_at nodes id ≡ Some node → key_cmp first.task.key node.task.key ≡ Less
+        later_all first [] node id all found = cc
+        later_all first (other ∷ nodes) node id all found =
+            let by_case : (test : Bool) → cond test (Some other) (node_at nodes id) ≡ Some node → key_cmp first.task.key node.task.key ≡ Less = elim [
+              | true ↦ λ here. let same : other ≡ node = cc in subst (λ (n : Node). key_cmp first.task.key n.task.key ≡ Less) same all.0
+              | false ↦ λ later. later_all first nodes node id all.1 later
+            ] in
+            by_case (is_at id other) found
+place_by_rank id (first ∷ nodes) node (suc place) up is rank =
+    let by_case : (test : Bool) → is_at id first ≡ test → cond test (Some first) (node_at nodes id) ≡ Some node → (is_at id first ≡ false) × IsPlaceOf id nodes place = elim [
+      | true ↦ λ _ here.
+          let same : first ≡ node = cc in
+          let earlier : is_before node.task.key first ≡ true = rank.point.0 0 first (omega arith) (omega arith) in
+          absurd (true≢false (sym (ap (λ (n : Node). is_before n.task.key first) same ∙ earlier) ∙ not_itself first.task.key))
+      | false ↦ λ at later. (
+        at,
+        place_by_rank id nodes node place up.1 later (record {
+          inside = omega (arith, rank.inside);
+          point = ((λ k d from upto. rank.point.0 (suc k) d (omega arith) (omega (arith, upto))), (λ k d from upto. rank.point.1 (suc k) d (omega (arith, from)) (omega (arith, upto))));
+        }),
+      )
+    ] in
+    by_case (is_at id first) refl is
 
 -- its place among some of them is its rank
 pub place_among : (nodes some : List Node) (ids : List NodeId) (id : NodeId) (node : Node) (place : ℕ) → IsGraph nodes → IsLaneAmong nodes some ids → node_at nodes id ≡ Some node → HasNode some id → IsRank node.task.key some place → IsPlaceOf id some place

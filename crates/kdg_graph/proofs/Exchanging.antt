@@ -118,10 +118,6 @@ left_as_was before now i p up inside at is loc =
     (midway_at before now (drop i before) p.0 true same ∙ sym (midway_at before now (drop (suc i) before) p.0 true same))
     (left_elsewhere before now i p loc inside at)
 
--- at first the set is the one before
-pub midway_first : (before now : Accesses) (loc : ℕ) → midway before now before loc ≡ access_at before loc
-midway_first before now loc = elim (is_same (access_at before loc) (access_at now loc)) as (λ b. cond b (access_at before loc) (access_at before loc) ≡ access_at before loc) [ true ↦ refl | false ↦ refl ]
-
 -- ---- midway, by the locations so far
 
 tested_now : (before now : Accesses) (i : ℕ) (p : ℕ × Access) (test : Bool) → IsAscendingSet now → i < length now → p ≡ get_or now i p → is_same (Some p.1) (access_at before p.0) ≡ test → is_same (access_at before p.0) (access_at now p.0) ≡ test

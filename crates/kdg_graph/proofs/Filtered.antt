@@ -79,7 +79,7 @@ put_first node (other ∷ nodes) all = ap (λ test. cond test (other ∷ put_nod
 not_before : (key first : Key) (other : Node) → is_lt (key_cmp first key) ≡ false → key_cmp first other.task.key ≡ Less → is_before key other ≡ false
 not_before key first other is later = false_from_ne_true _ (λ earlier. true≢false (sym (ap is_lt (key_cmp_total.trans first other.task.key key later (Less_from_test _ earlier))) ∙ is))
 
-none_before : (key first : Key) (nodes : List Node) → is_lt (key_cmp first key) ≡ false → AllByRecursion (λ other. key_cmp first other.key ≡ Less) (tasks_of nodes) → AllByRecursion (λ other. is_before key other ≡ false) nodes
+pub none_before : (key first : Key) (nodes : List Node) → is_lt (key_cmp first key) ≡ false → AllByRecursion (λ other. key_cmp first other.key ≡ Less) (tasks_of nodes) → AllByRecursion (λ other. is_before key other ≡ false) nodes
 none_before key first [] is all = tt
 none_before key first (other ∷ nodes) is all = (not_before key first other is all.0, none_before key first nodes is all.1)
 

@@ -4,11 +4,9 @@ use Rattle.std.specs.List.{AllByRecursion, insert, remove}
 use Rattle.std.specs.Option.{option_map}
 use Rattle.std.specs.Ordering.{is_lt}
 use Rattle.std.proofs.lemmas.Bool.{cond_both}
-use Rattle.task_order.specs.declared.task.Task.{Task}
 use Rattle.task_order.specs.TaskList.{IsAscending, IsNewKey}
 use Rattle.task_order.specs.Laws.{PutsKeepAscending}
 use Rattle.task_order.specs.Key.{key_cmp}
-use Rattle.std.specs.declared.cmp.Ordering.TheVariants.{Less}
 use Rattle.rw_sets.specs.Accesses.{Accesses, IsAscending as IsAscendingSet}
 use Rattle.kdg_graph.specs.declared.node_id.NodeId.{NodeId}
 use Rattle.kdg_graph.specs.declared.change.SetChange.{SetChange}
@@ -84,38 +82,6 @@ pub graph_with_set : (id : NodeId) (new : Accesses) → IsAscendingSet new → (
 graph_with_set id new up = graph_map (changed (record { node = id; set = new } ∷ [])) (λ node. refl) (λ node. refl) (change_keeps_set id new up)
 
 -- ---- a node is taken out
-
-all_left : (P : Task → Type 0) (nodes : List Node) (place : ℕ) → AllByRecursion P (tasks_of nodes) → AllByRecursion P (tasks_of (remove nodes place))
-all_left P [] place all = elim place as (λ n. AllByRecursion P (tasks_of (remove [] n))) [ zero ↦ tt | suc n ↦ tt ]
-all_left P (node ∷ nodes) zero all = all.1
-all_left P (node ∷ nodes) (suc place) all = (all.0, all_left P nodes place all.1)
-
-ascending_left : (nodes : List Node) (place : ℕ) → IsAscending (tasks_of nodes) → IsAscending (tasks_of (remove nodes place))
-ascending_left [] place up = elim place as (λ n. IsAscending (tasks_of (remove [] n))) [ zero ↦ tt | suc n ↦ tt ]
-ascending_left (node ∷ nodes) zero up = up.1
-ascending_left (node ∷ nodes) (suc place) up = (all_left (λ other. key_cmp node.task.key other.key ≡ Less) nodes place up.0, ascending_left nodes place up.1)
-
-sets_left : (nodes : List Node) (place : ℕ) → HaveSets nodes → HaveSets (remove nodes place)
-sets_left [] place sets = elim place as (λ n. HaveSets (remove [] n)) [ zero ↦ tt | suc n ↦ tt ]
-sets_left (node ∷ nodes) zero sets = sets.1
-sets_left (node ∷ nodes) (suc place) sets = (sets.0, sets_left nodes place sets.1)
-
-others_left : (first : Node) (nodes : List Node) (place : ℕ) → AllByRecursion (λ other. other.id ≢ first.id) nodes → AllByRecursion (λ other. other.id ≢ first.id) (remove nodes place)
-others_left first [] place all = elim place as (λ n. AllByRecursion (λ (other : Node). other.id ≢ first.id) (remove [] n)) [ zero ↦ tt | suc n ↦ tt ]
-others_left first (node ∷ nodes) zero all = all.1
-others_left first (node ∷ nodes) (suc place) all = (all.0, others_left first nodes place all.1)
-
-own_ids_left : (nodes : List Node) (place : ℕ) → HaveOwnIds nodes → HaveOwnIds (remove nodes place)
-own_ids_left [] place own = elim place as (λ n. HaveOwnIds (remove [] n)) [ zero ↦ tt | suc n ↦ tt ]
-own_ids_left (node ∷ nodes) zero own = own.1
-own_ids_left (node ∷ nodes) (suc place) own = (others_left node nodes place own.0, own_ids_left nodes place own.1)
-
-pub graph_removed : (nodes : List Node) (place : ℕ) → IsGraph nodes → IsGraph (remove nodes place)
-graph_removed nodes place graph = record {
-  sets = sets_left nodes place graph.sets;
-  ascending = ascending_left nodes place graph.ascending;
-  own_ids = own_ids_left nodes place graph.own_ids;
-}
 
 pub ids-remove : (nodes : List Node) (place : ℕ) → ids_of (remove nodes place) ≡ remove (ids_of nodes) place
 ids-remove [] place = elim place as (λ n. ids_of (remove [] n) ≡ remove [] n) [ zero ↦ refl | suc n ↦ refl ]

@@ -1,60 +1,22 @@
 -- Nodes that are kept under their ids, and lists of these ids.
-use Rattle.std.proofs.Common.{◌≡◌, ◌≢◌, ℕ, zero, suc, ◌<◌, Bool, true, false, cond, List, [], ◌∷◌, ◌++◌, length, map, get_or, Option, Some, None, refl, sym, ◌∙◌, ap, subst, arith, eq-eqb}
+use Rattle.std.proofs.Common.{◌≡◌, ◌≢◌, ℕ, zero, suc, ◌<◌, Bool, true, false, cond, List, [], ◌∷◌, length, map, get_or, Option, Some, None, refl, sym, ◌∙◌, ap, subst, arith, eq-eqb}
 use Rattle.std.specs.Prelude.{IsSome}
-use Rattle.std.specs.List.{AllByRecursion, remove}
-use Rattle.std.specs.Option.{option_to_list}
+use Rattle.std.specs.List.{AllByRecursion}
 use Rattle.std.specs.Ordering.{is_lt}
 use Rattle.std.proofs.lemmas.Bool.{cond_both}
 use Rattle.slab.specs.Slab.{Slab, ContainsKey, Updates, get}
 use Rattle.task_order.specs.Key.{key_cmp}
-use Rattle.task_order.specs.TaskList.{IsAscending}
 use Rattle.kdg_graph.specs.declared.node_id.NodeId.{NodeId}
 use Rattle.kdg_graph.specs.Node.{Node}
-use Rattle.kdg_graph.specs.Nodes.{HasNode, HaveOwnIds, HaveSets, IsGraph, ids_of, is_at, node_at, put_node, tasks_of}
-use Rattle.kdg_graph.specs.Lanes.{AreStored, IsStored, nodes_in}
+use Rattle.kdg_graph.specs.Nodes.{HasNode, ids_of, is_at, node_at, put_node}
+use Rattle.kdg_graph.specs.Lanes.{AreStored}
 use Rattle.kdg_graph.proofs.Places.{same_id}
-
--- ---- the nodes that have ids
-
-stored_nodes : (slots : Slab Node) (nodes : List Node) → AreStored slots nodes → nodes_in slots (ids_of nodes) ≡ nodes
-stored_nodes slots [] stored = refl
-stored_nodes slots (node ∷ nodes) stored = ap (λ found. option_to_list found ++ nodes_in slots (ids_of nodes)) stored.0 ∙ ap (λ rest. node ∷ rest) (stored_nodes slots nodes stored.1)
-
-pub nodes_of_ids : (slots : Slab Node) (nodes : List Node) (ids : List NodeId) → AreStored slots nodes → ids ≡ ids_of nodes → nodes_in slots ids ≡ nodes
-nodes_of_ids slots nodes ids stored same = ap (nodes_in slots) same ∙ stored_nodes slots nodes stored
-
-pub graph_of_stored : (slots : Slab Node) (ids : List NodeId) → IsStored slots ids → IsGraph (nodes_in slots ids)
-graph_of_stored slots ids is = record { ascending = is.lane.ascending; own_ids = is.own_ids; sets = is.sets }
-
-pub stored_of_graph : (slots : Slab Node) (ids : List NodeId) (nodes : List Node) → AreStored slots nodes → ids ≡ ids_of nodes → IsGraph nodes → IsStored slots ids
-stored_of_graph slots ids nodes stored same graph =
-    let are : nodes ≡ nodes_in slots ids = sym (nodes_of_ids slots nodes ids stored same) in
-    record {
-      lane = record {
-        stored = subst (AreStored slots) are stored;
-        ids_are = same ∙ ap ids_of are;
-        ascending = subst (λ (l : List Node). IsAscending (tasks_of l)) are graph.ascending;
-      };
-      own_ids = subst HaveOwnIds are graph.own_ids;
-      sets = subst HaveSets are graph.sets;
-    }
 
 pub length-ids : (nodes : List Node) → length (ids_of nodes) ≡ length nodes
 length-ids [] = refl
 length-ids (node ∷ nodes) = ap suc (length-ids nodes)
 
 -- ---- looking up
-
--- the id at a place finds the node there
-pub stored_at : (slots : Slab Node) (nodes : List Node) (ids : List NodeId) (place : ℕ) (id : NodeId) (d : Node) → AreStored slots nodes → ids ≡ ids_of nodes → place < length ids → id ≡ get_or ids place id → get slots id.at ≡ Some (get_or nodes place d)
-stored_at slots [] ids place id d stored same inside is = absurd (omega (arith, inside, ap length same))
-stored_at slots (node ∷ nodes) [] place id d stored same inside is = absurd (omega (arith, inside))
-stored_at slots (node ∷ nodes) (first ∷ ids) zero id d stored same inside is =
-    let first_is : first ≡ node.id = cc in
-    ap (λ (other : NodeId). get slots other.at) (is ∙ first_is) ∙ stored.0
-stored_at slots (node ∷ nodes) (first ∷ ids) (suc place) id d stored same inside is =
-    let rest : ids ≡ ids_of nodes = cc in
-    stored_at slots nodes ids place id d stored.1 rest (omega (arith, inside)) is
 
 -- a node is kept under its id
 pub stored_has : (slots : Slab Node) (nodes : List Node) (id : NodeId) → AreStored slots nodes → HasNode nodes id → get slots id.at ≡ node_at nodes id
@@ -75,7 +37,7 @@ some_node (node ∷ nodes) place inside = node
 
 -- ---- changes
 
-stored_others : (old new : Slab Node) (key : ℕ) (slot : Option Node) (nodes : List Node) → Updates old new key slot → AllByRecursion (λ node. node.id.at ≢ key) nodes → AreStored old nodes → AreStored new nodes
+pub stored_others : (old new : Slab Node) (key : ℕ) (slot : Option Node) (nodes : List Node) → Updates old new key slot → AllByRecursion (λ node. node.id.at ≢ key) nodes → AreStored old nodes → AreStored new nodes
 stored_others old new key slot [] updates differ stored = tt
 stored_others old new key slot (node ∷ nodes) updates differ stored = (updates.others node.id.at differ.0 ∙ stored.0, stored_others old new key slot nodes updates differ.1 stored.1)
 
@@ -103,22 +65,9 @@ stored_put old new node nodes none updates stored =
 at_differs : (a b : NodeId) → a ≢ b → a.at ≢ b.at
 at_differs a b differs same = differs (ap (λ n. let made : NodeId = record { at = n } in made) same)
 
-differ_at : (id : NodeId) (nodes : List Node) → AllByRecursion (λ other. other.id ≢ id) nodes → AllByRecursion (λ node. node.id.at ≢ id.at) nodes
+pub differ_at : (id : NodeId) (nodes : List Node) → AllByRecursion (λ other. other.id ≢ id) nodes → AllByRecursion (λ node. node.id.at ≢ id.at) nodes
 differ_at id [] all = tt
 differ_at id (node ∷ nodes) all = (at_differs node.id id all.0, differ_at id nodes all.1)
-
-differs_there : (id : NodeId) (nodes : List Node) (place : ℕ) (d : Node) → place < length nodes → AllByRecursion (λ other. other.id ≢ id) nodes → (get_or nodes place d).id ≢ id
-differs_there id [] place d inside all = absurd (omega (arith, inside))
-differs_there id (node ∷ nodes) zero d inside all = all.0
-differs_there id (node ∷ nodes) (suc place) d inside all = differs_there id nodes place d (omega (arith, inside)) all.1
-
-pub stored_left : (old new : Slab Node) (nodes : List Node) (place : ℕ) (d : Node) → HaveOwnIds nodes → place < length nodes → Updates old new (get_or nodes place d).id.at None → AreStored old nodes → AreStored new (remove nodes place)
-stored_left old new [] place d own inside updates stored = absurd (omega (arith, inside))
-stored_left old new (node ∷ nodes) zero d own inside updates stored = stored_others old new node.id.at None nodes updates (differ_at node.id nodes own.0) stored.1
-stored_left old new (node ∷ nodes) (suc place) d own inside updates stored =
-    let gone : NodeId = (get_or nodes place d).id in
-    let differs : gone ≢ node.id = differs_there node.id nodes place d (omega (arith, inside)) own.0 in
-    (updates.others node.id.at (λ same. at_differs gone node.id differs (sym same)) ∙ stored.0, stored_left old new nodes place d own.1 (omega (arith, inside)) updates stored.1)
 
 -- one node is changed, and keeps its id
 pub stored_map : (old new : Slab Node) (f : Node → Node) (id : NodeId) (nodes : List Node) (node now : Node) → ((other : Node) → is_at id other ≡ false → f other ≡ other) → ((other : Node) → (f other).id ≡ other.id)

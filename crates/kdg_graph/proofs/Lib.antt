@@ -9,6 +9,7 @@ pub mod Members
 pub mod LookUps
 pub mod Neighbours
 pub mod Rewritten
+pub mod InOrder
 pub mod Storing
 pub mod Rooms
 pub mod Fronts
@@ -25,6 +26,7 @@ pub mod Blocking
 pub mod Fronting
 pub mod Earliest
 pub mod Walking
+pub mod Ordered
 pub mod Exchanging
 pub mod Searching
 pub mod Sought

@@ -1,7 +1,7 @@
 -- Members of lists, of their filters and of their images.
-use Rattle.std.proofs.Common.{◌≡◌, ◌⊎◌, inl, inr, zero, suc, ◌||◌, Bool, true, false, cond, List, [], ◌∷◌, map, refl, sym, ◌∙◌, ap, subst, arith}
+use Rattle.std.proofs.Common.{◌≡◌, ◌⊎◌, inl, inr, zero, suc, ◌||◌, Bool, true, false, cond, List, [], ◌∷◌, map, Some, None, refl, sym, ◌∙◌, ap, subst, arith}
 use Rattle.std.specs.Prelude.{Contains}
-use Rattle.std.specs.List.{AllByRecursion, filter, list_any}
+use Rattle.std.specs.List.{AllByRecursion, filter, find, list_any}
 use Rattle.std.proofs.lemmas.Bool.{true≢false}
 
 pub none : {X : Type 0} (x : X) → Contains [] x → ⊥
@@ -78,3 +78,27 @@ none_passes {X} p (y ∷ xs) x is has =
 pub none_any : {X : Type 0} (p : X → Bool) (xs : List X) → ((x : X) → Contains xs x → p x ≡ false) → list_any p xs ≡ false
 none_any p [] each = refl
 none_any p (x ∷ xs) each = ap (λ test. test || list_any p xs) (each x (here x xs)) ∙ none_any p xs (λ y has. each y (there x y xs has))
+
+-- ---- what a test finds
+
+pub from_find : {X : Type 0} (p : X → Bool) (xs : List X) (x : X) → find p xs ≡ Some x → Contains xs x × (p x ≡ true)
+from_find p [] x found = absurd (let wrong : None ≡ Some x = found in cc)
+from_find {X} p (y ∷ xs) x found =
+    let by_case : (test : Bool) → p y ≡ test → cond test (Some y) (find p xs) ≡ Some x → Contains (y ∷ xs) x × (p x ≡ true) = elim [
+      | true ↦ λ is is_x. let same : y ≡ x = cc in (subst (λ (z : X). Contains (y ∷ xs) z) same (here y xs), ap p (sym same) ∙ is)
+      | false ↦ λ _ later. let rest : Contains xs x × (p x ≡ true) = from_find p xs x later in (there y x xs rest.0, rest.1)
+    ] in
+    by_case (p y) refl found
+
+pub none_found : {X : Type 0} (p : X → Bool) (xs : List X) (x : X) → find p xs ≡ None → Contains xs x → p x ≡ false
+none_found p [] x none_is has = absurd (none x has)
+none_found {X} p (y ∷ xs) x none_is has =
+    let by_case : (test : Bool) → p y ≡ test → cond test (Some y) (find p xs) ≡ None → (y ≡ x) ⊎ Contains xs x → p x ≡ false = elim [
+      | true ↦ λ _ wrong _. absurd (let w : Some y ≡ None = wrong in cc)
+      | false ↦ λ fails rest c. elim c [ inl same ↦ ap p (sym same) ∙ fails | inr later ↦ none_found p xs x rest later ]
+    ] in
+    by_case (p y) refl none_is (cases y x xs has)
+
+pub find_none : {X : Type 0} (p : X → Bool) (xs : List X) → ((x : X) → Contains xs x → p x ≡ false) → find p xs ≡ None
+find_none p [] each = refl
+find_none p (x ∷ xs) each = ap (λ test. cond test (Some x) (find p xs)) (each x (here x xs)) ∙ find_none p xs (λ y has. each y (there x y xs has))

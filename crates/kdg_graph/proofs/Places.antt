@@ -4,7 +4,6 @@ use Rattle.std.specs.List.{AllByRecursion, remove}
 use Rattle.kdg_graph.specs.declared.node_id.NodeId.{NodeId}
 use Rattle.kdg_graph.specs.Node.{Node}
 use Rattle.kdg_graph.specs.Nodes.{HaveOwnIds, is_at, node_at}
-use Rattle.kdg_graph.specs.NodeStock.{IsPlaceOf}
 use Rattle.kdg_graph.specs.Rewrite.{without}
 
 -- ---- ids and their test
@@ -21,6 +20,14 @@ not_at_by id node false is differ = refl
 
 pub not_at : (id : NodeId) (node : Node) → node.id ≢ id → is_at id node ≡ false
 not_at id node differ = not_at_by id node _ refl differ
+
+-- ---- the place of a node
+
+-- the node at the place, and none before it, has the id
+abbrev pub IsPlaceOf : NodeId → List Node → ℕ → Type 0
+IsPlaceOf id [] place = ⊥
+IsPlaceOf id (node ∷ nodes) zero = is_at id node ≡ true
+IsPlaceOf id (node ∷ nodes) (suc place) = (is_at id node ≡ false) × IsPlaceOf id nodes place
 
 pub place_inside : (id : NodeId) (nodes : List Node) (place : ℕ) → IsPlaceOf id nodes place → place < length nodes
 place_inside id [] place at = absurd at
@@ -59,9 +66,3 @@ without-place id (node ∷ nodes) (suc place) own at =
 pub map_none : (f : Node → Node) (id : NodeId) (nodes : List Node) → ((node : Node) → is_at id node ≡ false → f node ≡ node) → AllByRecursion (λ node. is_at id node ≡ false) nodes → map f nodes ≡ nodes
 map_none f id [] keeps all = refl
 map_none f id (node ∷ nodes) keeps all = λ i. keeps node all.0 i ∷ map_none f id nodes keeps all.1 i
-
--- a place of the list has one node
-pub get_or-there : (nodes : List Node) (place : ℕ) (d e : Node) → place < length nodes → get_or nodes place d ≡ get_or nodes place e
-get_or-there [] place d e inside = absurd (omega (arith, inside))
-get_or-there (node ∷ nodes) zero d e inside = refl
-get_or-there (node ∷ nodes) (suc place) d e inside = get_or-there nodes place d e (omega (arith, inside))

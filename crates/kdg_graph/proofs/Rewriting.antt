@@ -79,7 +79,7 @@ still_new item (other ∷ fresh) tasks differ all =
     (new_key_put_all other.task.key (item.task ∷ []) tasks ((λ same. differ.0 (sym same)), tt) all.0, still_new item fresh tasks differ.1 all.1)
 
 -- the other keys stay new where the first task is put in
-pub new_keys_next : (item : Fresh) (fresh : List Fresh) (tasks : List Task) → HaveNewKeys tasks (item ∷ fresh) → HaveNewKeys (put_in item.task tasks) fresh
+new_keys_next : (item : Fresh) (fresh : List Fresh) (tasks : List Task) → HaveNewKeys tasks (item ∷ fresh) → HaveNewKeys (put_in item.task tasks) fresh
 new_keys_next item fresh tasks keys = record { new = still_new item fresh tasks keys.own.0 keys.new.1; own = keys.own.1 }
 
 pub new_keys_rest : (item : Fresh) (fresh : List Fresh) (nodes : List Node) (id : NodeId) → HaveNewKeys (tasks_of nodes) (item ∷ fresh) → HaveNewKeys (tasks_of (put_node (new_node id item.task item.set) nodes)) fresh
@@ -88,6 +88,3 @@ new_keys_rest item fresh nodes id keys =
 
 pub added_first : (item : Fresh) (fresh : List Fresh) (nodes now : List Node) (id : NodeId) → AreAdded (put_node (new_node id item.task item.set) nodes) fresh now → AreAdded nodes (item ∷ fresh) now
 added_first item fresh nodes now id added = record { ids = id ∷ added.ids; one_each = ap suc added.one_each; nodes = added.nodes }
-
-pub added_none : (nodes : List Node) → AreAdded nodes [] nodes
-added_none nodes = record { ids = []; one_each = refl; nodes = refl }

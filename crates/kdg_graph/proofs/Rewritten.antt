@@ -29,7 +29,7 @@ in_put_new node (other ∷ nodes) =
     cond_both (is_lt (key_cmp other.task.key node.task.key)) (other ∷ put_node node nodes) (node ∷ other ∷ nodes) (λ (l : List Node). Contains l node)
     (λ _. there other node (put_node node nodes) (in_put_new node nodes)) (λ _. here node (other ∷ nodes))
 
-in_put_old : (node : Node) (nodes : List Node) (x : Node) → Contains nodes x → Contains (put_node node nodes) x
+pub in_put_old : (node : Node) (nodes : List Node) (x : Node) → Contains nodes x → Contains (put_node node nodes) x
 in_put_old node [] x has = absurd (none x has)
 in_put_old node (other ∷ nodes) x has =
     cond_both (is_lt (key_cmp other.task.key node.task.key)) (other ∷ put_node node nodes) (node ∷ other ∷ nodes) (λ (l : List Node). Contains l x)
@@ -158,7 +158,7 @@ has_found nodes id node is = subst IsSome (sym is) refl
 pub rewrites_replace_tasks : RewritesReplaceTasks
 rewrites_replace_tasks old ended changes fresh now node graph added is =
     tasks-added (with_sets changes (without ended old)) fresh now added
-    ∙ ap (put_all (fresh_tasks fresh)) (tasks-with_sets changes (without ended old) ∙ tasks-without ended old node.task graph (has_found old ended node is) (task_of_found old ended node is))
+    ∙ ap (put_all (fresh_tasks fresh)) (tasks-with_sets changes (without ended old) ∙ tasks-without ended old node.task graph (task_of_found old ended node is))
 
 pub rewrites_end_nodes : IsExactOrder → WithoutMakesNew → RewritesEndNodes
 rewrites_end_nodes exact makes_new old ended changes fresh now node graph keys added is =

@@ -66,7 +66,7 @@ rank_around key nodes (suc before) up inside earlier later = record {
   );
 }
 
-less_tied : (a b key : Key) → key_cmp a b ≡ Less → key_cmp b key ≡ Equal → key_cmp a key ≡ Less
+pub less_tied : (a b key : Key) → key_cmp a b ≡ Less → key_cmp b key ≡ Equal → key_cmp a key ≡ Less
 less_tied a b key less tied =
     key_cmp_total.antisymm a key ∙ ap ordering_reverse (sym (key_cmp_total.congr b key a tied)) ∙ sym (key_cmp_total.antisymm a b) ∙ less
 

@@ -1,11 +1,15 @@
 -- What a search for a key tells of the nodes of a graph.
-use Rattle.std.proofs.Common.{◌≡◌, ◌≢◌, inl, inr, eqb-true, ℕ, zero, suc, ◌<◌, true, false, List, [], ◌∷◌, length, get_or, Some, None, sym, ◌∙◌, ap, subst, arith}
+use Rattle.std.proofs.Common.{◌≡◌, ◌≢◌, inl, inr, eqb-true, ℕ, zero, suc, ◌<◌, Bool, true, false, cond, List, [], ◌∷◌, length, get_or, Option, Some, None, sym, ◌∙◌, ap, subst, arith}
 use Rattle.std.specs.Prelude.{Contains, slice_get}
 use Rattle.std.specs.Cmp.{tied_itself}
+use Rattle.std.specs.List.{find}
+use Rattle.std.specs.Option.{option_map}
 use Rattle.std.specs.Ordering.{is_eq, ordering_reverse}
 use Rattle.std.specs.declared.cmp.Ordering.TheVariants.{Less, Equal, Greater}
 use Rattle.std.proofs.lemmas.Bool.{false≢true}
-use Rattle.std.proofs.lemmas.Option.{get_or_from_slice_get, slice_get_cases, slice_get_within}
+use Rattle.std.proofs.lemmas.Option.{get_or_from_slice_get, slice_get-map, slice_get_cases, slice_get_within}
+use Rattle.slab.specs.Slab.{Slab, entries, get}
+use Rattle.slab.proofs.SlabLemmas.{Contains-entries}
 use Rattle.task_order.specs.declared.key.Key.{Key}
 use Rattle.task_order.specs.Key.{key_cmp, key_cmp_total}
 use Rattle.task_order.specs.TaskList.{IsAscending}
@@ -13,15 +17,16 @@ use Rattle.kdg_graph.specs.declared.node_id.NodeId.{NodeId}
 use Rattle.kdg_graph.specs.Lanes.{IsFound, IsGap, IsRankPast, is_id_at}
 use Rattle.kdg_graph.specs.Locations.{IsLaneAmong}
 use Rattle.kdg_graph.specs.Node.{Node}
-use Rattle.kdg_graph.specs.Nodes.{IsGraph, node_at, node_with_key, tasks_of}
+use Rattle.kdg_graph.specs.Nodes.{IsGraph, ids_of, node_at, node_with_key, tasks_of}
+use Rattle.kdg_graph.specs.Stored.{IsStored, nodes_of}
 use Rattle.kdg_graph.proofs.Among.{among_at, contains_at, same_by_number}
 use Rattle.kdg_graph.proofs.Lanes.{id_there, length-ids, some_node}
-use Rattle.kdg_graph.proofs.LookUps.{ids_find_nodes, key_later}
-use Rattle.kdg_graph.proofs.Members.{all_at, cases, none}
+use Rattle.kdg_graph.proofs.LookUps.{Equal_from_test, ids_find_nodes, key_later}
+use Rattle.kdg_graph.proofs.Members.{all_at, cases, find_none, from_find, none, none_found}
 use Rattle.kdg_graph.proofs.Neighbours.{same_found}
 use Rattle.kdg_graph.proofs.Ordering.{found_at_point, no_key_past_all}
 use Rattle.kdg_graph.proofs.Pasts.{past_nothing, past_tied, past_untied}
-use Rattle.kdg_graph.proofs.Searching.{found_tied}
+use Rattle.kdg_graph.proofs.Searching.{found_tied, less_tied}
 
 -- ---- the node with the key
 
@@ -30,6 +35,40 @@ none_at_gap key nodes place up gap = elim (slice_get_cases nodes place).1 [
   | inl here ↦ found_at_point key nodes place here.0 false up here.1 gap.rank.point (sym here.3) (ap is_eq (subst (λ (n : Node). key_cmp n.task.key key ≡ Greater) here.3 (gap.apart here.0 here.1)))
   | inr past ↦ no_key_past_all key nodes place past.0 gap.rank.point
 ]
+
+-- where the ids are those of all nodes the one that is found is the node's
+pub id_found_at : (key : Key) (nodes : List Node) (ids : List NodeId) (place : ℕ) → IsAscending (tasks_of nodes) → ids ≡ ids_of nodes → IsFound key nodes place → slice_get ids place ≡ option_map (λ node. node.id) (node_with_key nodes key)
+id_found_at key nodes ids place up same found = elim (slice_get_cases nodes place).1 [
+  | inl here ↦
+      let is : is_eq (key_cmp here.0.task.key key) ≡ true = ap is_eq (subst (λ (n : Node). key_cmp n.task.key key ≡ Equal) here.3 (found.tied here.0)) in
+      ap (λ l. slice_get l place) same
+      ∙ slice_get-map (λ (node : Node). node.id) nodes place
+      ∙ ap (option_map (λ (node : Node). node.id)) (here.2 ∙ sym (found_at_point key nodes place here.0 true up here.1 found.rank.point (sym here.3) is))
+  | inr past ↦ absurd (omega (arith, past.0, found.inside))
+]
+
+abbrev has_key : Key → Node → Bool
+has_key key node = is_eq (key_cmp node.task.key key)
+
+with_key : (key : Key) (nodes : List Node) (node : Node) → IsAscending (tasks_of nodes) → Contains nodes node → has_key key node ≡ true → node_with_key nodes key ≡ Some node
+with_key key [] node up has is = absurd (none node has)
+with_key key (other ∷ nodes) node up has is = elim (cases other node nodes has) [
+  | inl same ↦ ap (λ test. cond test (Some other) (node_with_key nodes key)) (ap (has_key key) same ∙ is) ∙ ap (λ (n : Node). Some n) same
+  | inr later ↦
+      let less : key_cmp other.task.key key ≡ Less = less_tied other.task.key node.task.key key (key_later other nodes node up.0 later) (Equal_from_test _ is) in
+      ap (λ test. cond test (Some other) (node_with_key nodes key)) (ap is_eq less) ∙ with_key key nodes node up.1 later is
+]
+
+-- a walk over the entries of a slab finds it
+pub with_key_stored : (slots : Slab Node) (key : Key) (found : Option (ℕ × Node)) → IsStored slots → found ≡ find (λ (entry : ℕ × Node). has_key key entry.1) (entries slots) → option_map (λ (entry : ℕ × Node). entry.1) found ≡ node_with_key (nodes_of slots) key
+with_key_stored slots key None is none_is =
+    sym (find_none (has_key key) (nodes_of slots) (λ node has.
+    let kept : get slots node.id.at ≡ Some node = all_at (λ (n : Node). get slots n.id.at ≡ Some n) (nodes_of slots) node is.stored has in
+    none_found (λ (entry : ℕ × Node). has_key key entry.1) (entries slots) (node.id.at, node) (sym none_is) ((Contains-entries slots node.id.at node).1 kept)))
+with_key_stored slots key (Some entry) is found_is =
+    let was = from_find (λ (e : ℕ × Node). has_key key e.1) (entries slots) entry (sym found_is) in
+    let kept : get slots entry.0 ≡ Some entry.1 = (Contains-entries slots entry.0 entry.1).0 was.0 in
+    sym (with_key key (nodes_of slots) entry.1 is.graph.ascending (is.all entry.0 entry.1 kept).1 was.1)
 
 -- ---- what is later than the key
 
@@ -46,7 +85,7 @@ past_found key some place up found =
 
 -- ---- the id of a node
 
-pub id_at : (ids : List NodeId) (place : ℕ) (id : NodeId) → is_id_at id ids place ≡ true → slice_get ids place ≡ Some id
+id_at : (ids : List NodeId) (place : ℕ) (id : NodeId) → is_id_at id ids place ≡ true → slice_get ids place ≡ Some id
 id_at [] place id is = absurd (false≢true is)
 id_at (first ∷ ids) zero id is = ap (λ (other : NodeId). Some other) (same_by_number first id (eqb-true first.at id.at is))
 id_at (first ∷ ids) (suc place) id is = id_at ids place id is

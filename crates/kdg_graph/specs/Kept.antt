@@ -1,10 +1,19 @@
 -- What is kept beside the nodes of a graph.
-use Rattle.std.specs.Prelude.{◌≡◌, ◌≤◌, List, length}
+use Rattle.std.specs.Prelude.{◌≡◌, ◌≤◌, List, length, Option, IfSome}
+use Rattle.std.specs.Borrow.{Bor}
 use Rattle.kdg_graph.specs.declared.location.Location.{Location}
 use Rattle.kdg_graph.specs.Node.{Node}
-use Rattle.kdg_graph.specs.Nodes.{IsGraph}
+use Rattle.kdg_graph.specs.Nodes.{IsGraph, ids_of}
+use Rattle.kdg_graph.specs.declared.lane.Lane.{Lane}
 use Rattle.kdg_graph.specs.Locations.{AreFiled}
 use Rattle.kdg_graph.specs.Selected.{HaveMarks, MarkedIds, unblocked_of}
+
+-- all ids in key order, where a list of them is kept
+abbrev pub IsOrder : List Node → Option Lane → Type 0
+IsOrder nodes order = IfSome order (λ lane. lane.ids.items ≡ ids_of nodes)
+
+abbrev pub IsOrderShown : List Node → Option (Bor Lane) → Type 0
+IsOrderShown nodes order = IfSome order (λ lane. lane.now.ids.items ≡ ids_of nodes)
 
 -- the nodes of each location, and the unblocked nodes, with room and marks for as many as there are nodes
 pub record IsKept (nodes : List Node) (locations : List Location) (unblocked : MarkedIds) : Type 0 where

@@ -1,8 +1,7 @@
 -- Nodes that are kept under their ids, and lists of ids in the order of the nodes' keys.
-use Rattle.std.specs.Prelude.{◌≡◌, ◌==◌, ℕ, suc, ◌<◌, ◌≤◌, Bool, true, false, List, [], ◌∷◌, ◌++◌, length, slice_get, slice_index_or, MatchResult, Option, Some, None, Result}
+use Rattle.std.specs.Prelude.{◌≡◌, ◌==◌, ℕ, suc, ◌<◌, ◌≤◌, Bool, true, false, List, length, slice_get, slice_index_or, MatchResult, Option, Some, None, Result}
 use Rattle.std.specs.List.{AllByRecursion}
 use Rattle.std.specs.List.Sorted.{IsPartitionPoint}
-use Rattle.std.specs.Option.{option_to_list}
 use Rattle.std.specs.Ordering.{is_lt}
 use Rattle.std.specs.declared.cmp.Ordering.{Ordering}
 use Rattle.std.specs.declared.cmp.Ordering.TheVariants.{Less, Equal, Greater}
@@ -12,12 +11,7 @@ use Rattle.task_order.specs.Key.{key_cmp}
 use Rattle.task_order.specs.TaskList.{IsAscending}
 use Rattle.kdg_graph.specs.declared.node_id.NodeId.{NodeId}
 use Rattle.kdg_graph.specs.Node.{Node}
-use Rattle.kdg_graph.specs.Nodes.{HaveOwnIds, HaveSets, ids_of, tasks_of}
-
--- the nodes that have these ids
-abbrev pub nodes_in : Slab Node → List NodeId → List Node
-nodes_in slots [] = []
-nodes_in slots (id ∷ ids) = option_to_list (get slots id.at) ++ nodes_in slots ids
+use Rattle.kdg_graph.specs.Nodes.{ids_of, tasks_of}
 
 -- each node is kept under its id
 abbrev pub AreStored : Slab Node → List Node → Type 0
@@ -28,12 +22,6 @@ pub record IsLane (slots : Slab Node) (nodes : List Node) (ids : List NodeId) : 
   pub stored : AreStored slots nodes
   pub ids_are : ids ≡ ids_of nodes
   pub ascending : IsAscending (tasks_of nodes)
-
--- the nodes that have the ids are kept under them and ascend, each has an id of its own, and the locations of their sets ascend
-pub record IsStored (slots : Slab Node) (ids : List NodeId) : Type 0 where
-  pub lane : IsLane slots (nodes_in slots ids) ids
-  pub own_ids : HaveOwnIds (nodes_in slots ids)
-  pub sets : HaveSets (nodes_in slots ids)
 
 -- so many of the nodes are earlier than the key, and they stand first
 pub record IsRank (key : Key) (nodes : List Node) (place : ℕ) : Type 0 where

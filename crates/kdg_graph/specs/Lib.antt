@@ -2,9 +2,9 @@ pub mod Node
 pub mod Nodes
 pub mod Edges
 pub mod Rewrite
-pub mod Listing
 pub mod Laws
 pub mod Lanes
+pub mod Stored
 pub mod NodeStock
 pub mod Locations
 pub mod Selected

@@ -32,11 +32,6 @@ pub record IsGraph (nodes : List Node) : Type 0 where
   pub own_ids : HaveOwnIds nodes
   pub sets : HaveSets nodes
 
--- the same, beside a list of the nodes' tasks
-pub record IsListed (nodes : List Node) (tasks : List Task) : Type 0 where
-  pub graph : IsGraph nodes
-  pub tasks_are : tasks ≡ tasks_of nodes
-
 -- whether the node has the id
 abbrev pub is_at : NodeId → Node → Bool
 is_at id node = node.id.at == id.at

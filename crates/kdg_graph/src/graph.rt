@@ -1,4 +1,4 @@
-ghost use Rattle.std.specs.Prelude.{◌≡◌, [], Some, IfOk, IfErr, IfNone, IfSome, OnOk, OnErr};
+ghost use Rattle.std.specs.Prelude.{◌≡◌, ◌↔◌, [], Some, IfOk, IfErr, IfNone, IfSome, IsTrue, OnOk, OnErr, filter, length};
 ghost use Rattle.std.specs.Option.{option_map};
 ghost use Rattle.task_order.specs.TaskList.{IsNewKey};
 ghost use Rattle.kdg_graph.specs.Node.{new_node};
@@ -7,39 +7,40 @@ ghost use Rattle.kdg_graph.specs.Edges.{laters_of, sources_of};
 ghost use Rattle.kdg_graph.specs.Rewrite.{AreChangesOf, HaveNewKeys, IsRewritten};
 
 use crate::entry::Entry;
-use crate::listing::list_all;
 use crate::node_list::NodeList;
 use crate::{Fresh, Laters, NodeId, SetChange, Sources};
 use rw_sets::RwSet;
 use std::alloc::Global;
 use std::marker::Model;
-use task_order::{Key, Task, TaskList, key_order, put_in_laws, without_laws};
+use task_order::{Key, PendingTasks, Task, key_order};
 
 /// Pending tasks in the order of their keys. Each is a node, with an id, a recorded set, and a mark
 /// where the task is running.
 ///
-/// A node is found by its id at once, and by its key in the logarithm of their number. At each
-/// location the graph has those that name it in order, and it keeps the unblocked nodes, of which
-/// the sources are those that are not running. So a start moves nothing; where a node goes or
-/// changes its set, only those are tested again that it may have blocked alone, which at each
-/// location are the nodes behind it up to the first that writes there; and one that comes blocks
-/// these without a test.
+/// A node is found by its id at once. At each location the graph has those that name it in order, and
+/// it keeps the unblocked nodes, of which the first is the earliest of all, and the sources are those
+/// that are not running. So a start moves nothing; where a node goes or changes its set, only those
+/// are tested again that it may have blocked alone, which at each location are the nodes behind it up
+/// to the first that writes there; and one that comes blocks these without a test.
+///
+/// Nothing of that needs the order of all nodes. A graph that was made by `ordered` keeps it besides,
+/// in which a node is found by its key, and `later_of` tells at once whether the next node of all is
+/// the next one in conflict.
 #[derive(Drop)]
 pub struct Graph {
     nodes: NodeList,
-    tasks: TaskList,
 }
 
 impl Model for Graph {
     ghost use Rattle.std.specs.Prelude.{List};
     ghost use Rattle.kdg_graph.specs.Node.{Node};
-    ghost use Rattle.kdg_graph.specs.Nodes.{IsListed};
+    ghost use Rattle.kdg_graph.specs.Nodes.{IsGraph};
 
     ghost Value = { List Node };
 
     ghost view = { λ g. g.nodes.nodes };
 
-    ghost invariant = { λ g. IsListed g.nodes.nodes g.tasks };
+    ghost invariant = { λ g. IsGraph g.nodes.nodes };
 }
 
 impl Graph {
@@ -49,7 +50,15 @@ impl Graph {
     {
         Graph {
             nodes: NodeList::new(alloc),
-            tasks: TaskList::new(alloc),
+        }
+    }
+
+    /// A graph without nodes that keeps all that come in key order besides. It takes no memory.
+    pub fn ordered(alloc: Global) -> Graph
+        ensures { result ≡ [] }
+    {
+        Graph {
+            nodes: NodeList::ordered(alloc),
         }
     }
 
@@ -66,13 +75,7 @@ impl Graph {
         if self.nodes.reserve(&set).is_err() {
             return Err((task, set));
         }
-        let Ok(copy) = task.copy() else {
-            return Err((task, set));
-        };
-        match self.tasks.insert(copy) {
-            Ok(()) => Ok(self.nodes.put(task, set)),
-            Err(_) => Err((task, set)),
-        }
+        Ok(self.nodes.put(task, set))
     }
 
     /// Takes the node of a task that has ended out, replaces the sets that are named, and puts the
@@ -94,14 +97,10 @@ impl Graph {
         ensures returned { IfErr result (λ back. back ≡ (changed, fresh)) }
         ensures unchanged { OnErr result (self.new ≡ self.old) }
     {
-        put_in_laws();
-        without_laws();
-        let reserved = self.nodes.reserve_all(&changed, &fresh);
-        if reserved.is_err() || list_all(&mut self.tasks, &fresh).is_err() {
+        if self.nodes.reserve_all(&changed, &fresh).is_err() {
             return Err((changed, fresh));
         }
-        let task = self.nodes.remove(ended);
-        let _ = self.tasks.remove(&task.key);
+        self.nodes.remove(ended);
         self.nodes.set_sets(changed);
         self.nodes.put_all(fresh);
         Ok(())
@@ -130,7 +129,8 @@ impl Graph {
         ensures laters { IfSome (node_at self.now node) (λ of. result ≡ laters_of self.now of) }
         ensures graph { IsGraph self.now }
     {
-        Laters::of(self.nodes.nodes(), self.nodes.locations(), node)
+        let nodes = &self.nodes;
+        Laters::of(nodes.nodes(), nodes.order(), nodes.locations(), node)
     }
 
     /// The earliest node.
@@ -140,10 +140,10 @@ impl Graph {
         ensures empty { IfNone result (self.now ≡ []) }
         ensures graph { IsGraph self.now }
     {
-        self.nodes.nodes().least()
+        self.nodes.least()
     }
 
-    /// The node whose task has the key.
+    /// The node whose task has the key. This goes over all nodes, unless the graph keeps their order.
     pub fn find(&self, key: &Key) -> Option<NodeId>
         ensures found { result ≡ option_map (λ node. node.id) (node_with_key self.now key.now) }
         ensures there { IfSome result (λ id. HasNode self.now id) }
@@ -151,7 +151,7 @@ impl Graph {
         ensures graph { IsGraph self.now }
     {
         key_order();
-        self.nodes.nodes().find(key)
+        self.nodes.find(key)
     }
 
     /// The task of a node.
@@ -181,12 +181,26 @@ impl Graph {
         entry.running
     }
 
-    /// The tasks of all nodes.
-    pub fn tasks(&self) -> &TaskList
-        ensures tasks { result.now ≡ tasks_of self.now }
+    /// How many nodes there are.
+    pub fn len(&self) -> usize
+        ensures len { result ≡ length self.now }
         ensures graph { IsGraph self.now }
     {
-        &self.tasks
+        self.nodes.nodes().len()
+    }
+
+    /// Whether there is no node.
+    pub fn is_empty(&self) -> bool
+        ensures { IsTrue result ↔ (self.now ≡ []) }
+    {
+        self.len() == 0
+    }
+
+    /// How many nodes are running. This goes over all of them.
+    pub fn running_len(&self) -> usize
+        ensures { result ≡ length (filter (λ node. node.running) self.now) }
+    {
+        self.nodes.nodes().running_len()
     }
 
     /// A node as it is kept.
@@ -195,5 +209,14 @@ impl Graph {
         ensures { node_at self.now node ≡ Some result.now }
     {
         self.nodes.nodes().entry(node)
+    }
+}
+
+impl PendingTasks for Graph {
+    ghost tasks = { tasks_of };
+
+    fn earliest(&self) -> Option<&Task> {
+        let least = self.least()?;
+        Some(self.task(least))
     }
 }

@@ -9,7 +9,6 @@ mod graph;
 mod lane;
 mod laters;
 mod laws;
-mod listing;
 mod location;
 mod locations;
 mod node_id;

@@ -296,8 +296,8 @@ impl Locations {
     }
 
     /// The first node later than a node whose recorded set conflicts with a set. The first of all later
-    /// nodes is given: none is earlier, so the search ends where it is found. The node mostly stands at
-    /// a place, or close behind it, among those of a location that the set writes.
+    /// nodes may be given: none is earlier, so the search ends where it is found. The node mostly stands
+    /// at a place, or close behind it, among those of a location that the set writes.
     pub(crate) fn first_in_conflict(
         &self,
         nodes: &OrderedNodes,
@@ -305,11 +305,11 @@ impl Locations {
         id: NodeId,
         key: &Key,
         near: usize,
-        next: NodeId,
+        next: Option<NodeId>,
     ) -> Option<NodeId>
         requires key { HasKey nodes.now.nodes id key.now }
         requires filed { AreFiled nodes.now.nodes self.now.locations.items }
-        requires next { least_of (later_than key.now nodes.now.nodes) ≡ Some next }
+        requires next { IfSome next (λ id. least_of (later_than key.now nodes.now.nodes) ≡ Some id) }
         ensures first { result ≡ least_of (filter (λ other. conflicts_with set.now other.set) (later_than key.now nodes.now.nodes)) }
         ensures graph { IsGraph nodes.now.nodes }
     {
@@ -317,7 +317,7 @@ impl Locations {
         let mut first = None;
         for pair in set.items() {
             let other = self.first_behind(nodes, id, key, near, pair.0, pair.1);
-            if other == Some(next) {
+            if next.is_some() && other == next {
                 return other;
             }
             first = nodes.earlier(first, other);

@@ -1,13 +1,17 @@
-ghost use Rattle.std.specs.Prelude.{◌≡◌, ◌+◌, ◌<◌, ◌≤◌, ℕ, [], ◌∷◌, Some, OnOk, length};
+ghost use Rattle.std.specs.Prelude.{◌≡◌, ◌+◌, ◌<◌, ◌≤◌, ℕ, [], ◌∷◌, Some, IfSome, OnOk, length};
 ghost use Rattle.std.specs.List.{AllByRecursion};
+ghost use Rattle.std.specs.Option.{option_map};
 ghost use Rattle.task_order.specs.TaskList.{IsNewKey};
 ghost use Rattle.kdg_graph.specs.Node.{new_node};
-ghost use Rattle.kdg_graph.specs.Nodes.{IsGraph, HasNode, put_node, started, task_at, tasks_of};
+ghost use Rattle.kdg_graph.specs.Nodes.{IsGraph, HasNode, ids_of, least_of, node_with_key, put_node, started, task_at, tasks_of};
 ghost use Rattle.kdg_graph.specs.Edges.{sources_of};
 ghost use Rattle.kdg_graph.specs.Locations.{AreFiled, HasRoom, HaveNoLess, room_at};
+ghost use Rattle.kdg_graph.specs.Kept.{IsOrder};
+ghost use Rattle.kdg_graph.specs.NodeStock.{places_in};
 ghost use Rattle.kdg_graph.specs.Rewrite.{AreAdded, AreOfOwnNodes, HaveNewKeys, without, with_sets};
 
 use crate::exchange::refresh_lacking;
+use crate::lane::Lane;
 use crate::locations::Locations;
 use crate::ordered_nodes::OrderedNodes;
 use crate::room::{reserve_changed, reserve_fresh};
@@ -17,33 +21,35 @@ use kdg_text::NoRoom;
 use rw_sets::{RwSet, lookup_laws};
 use std::alloc::Global;
 use std::marker::Model;
-use task_order::Task;
+use task_order::{Key, Task};
 
-/// The nodes of a graph, the order of those of each location, and the unblocked ones.
+/// The nodes of a graph, the order of those of each location, the unblocked ones, and the order of all
+/// where one is wanted.
 #[derive(Drop)]
 pub(crate) struct NodeList {
     nodes: OrderedNodes,
+    order: Option<Lane>,
     locations: Locations,
     sources: SourceLane,
 }
 
 impl Model for NodeList {
     ghost use Rattle.std.specs.Prelude.{◌-◌, length};
-    ghost use Rattle.kdg_graph.specs.Kept.{IsKept};
+    ghost use Rattle.kdg_graph.specs.Kept.{IsKept, IsOrder};
     ghost use Rattle.kdg_graph.specs.Locations.{rooms_of};
-    ghost use Rattle.kdg_graph.specs.NodeStock.{NodeStock, numbers_with_marks};
+    ghost use Rattle.kdg_graph.specs.NodeStock.{NodeStock, numbers_with_marks, places_in};
 
     ghost Value = { NodeStock };
 
     ghost view = { λ l. record {
       nodes = l.nodes.nodes;
-      places = l.nodes.places;
+      places = places_in l.order l.nodes.numbers;
       numbers = numbers_with_marks l.nodes.numbers l.nodes.keys l.sources.marks;
       marks = l.sources.room - length l.nodes.nodes;
       rooms = rooms_of l.locations.locations.items;
     } };
 
-    ghost invariant = { λ l. IsKept l.nodes.nodes l.locations.locations.items l.sources };
+    ghost invariant = { λ l. IsKept l.nodes.nodes l.locations.locations.items l.sources × IsOrder l.nodes.nodes l.order };
 }
 
 impl NodeList {
@@ -51,8 +57,24 @@ impl NodeList {
     pub(crate) fn new(alloc: Global) -> NodeList
         ensures { result.nodes ≡ [] }
     {
+        NodeList::with_order(alloc, None)
+    }
+
+    /// The same, where all nodes are kept in key order besides.
+    pub(crate) fn ordered(alloc: Global) -> NodeList
+        ensures { result.nodes ≡ [] }
+    {
+        NodeList::with_order(alloc, Some(Lane::new(alloc)))
+    }
+
+    /// No node, with a list of them all where one is wanted.
+    fn with_order(alloc: Global, order: Option<Lane>) -> NodeList
+        requires { IfSome order (λ lane. lane.ids.items ≡ []) }
+        ensures { result.nodes ≡ [] }
+    {
         NodeList {
             nodes: OrderedNodes::new(alloc),
+            order,
             locations: Locations::new(alloc),
             sources: SourceLane::new(alloc),
         }
@@ -64,6 +86,30 @@ impl NodeList {
         ensures graph { IsGraph self.now.nodes }
     {
         &self.nodes
+    }
+
+    /// All nodes in key order, where that is kept.
+    pub(crate) fn order(&self) -> Option<&Lane>
+        ensures { IfSome result (λ lane. lane.now.ids.items ≡ ids_of self.now.nodes) }
+    {
+        self.order.as_ref()
+    }
+
+    /// The earliest node, which is the first unblocked one.
+    pub(crate) fn least(&self) -> Option<NodeId>
+        ensures { result ≡ least_of self.now.nodes }
+    {
+        self.sources.lane().get(0)
+    }
+
+    /// The node whose task has the key.
+    pub(crate) fn find(&self, key: &Key) -> Option<NodeId>
+        ensures { result ≡ option_map (λ node. node.id) (node_with_key self.now.nodes key.now) }
+    {
+        match &self.order {
+            Some(order) => self.nodes.find_in(order, key),
+            None => self.nodes.find(key),
+        }
     }
 
     /// The nodes of each location.
@@ -120,6 +166,9 @@ impl NodeList {
         ensures nodes { self.new.nodes ≡ self.old.nodes }
     {
         self.nodes.reserve(additional)?;
+        if let Some(order) = &mut self.order {
+            order.reserve(additional)?;
+        }
         let nodes = self.nodes.len().checked_add(additional).ok_or(NoRoom)?;
         self.sources.reserve(nodes, self.nodes.keys())
     }
@@ -139,8 +188,8 @@ impl NodeList {
         ensures rooms { (loc : ℕ) → room_at self.old.rooms loc ≤ room_at self.new.rooms loc + 1 }
         ensures graph { IsGraph self.new.nodes }
     {
-        let place = self.nodes.rank(&task.key);
-        let id = self.nodes.put(place, task, set);
+        let id = self.nodes.put(task, set);
+        enter_order(&mut self.order, &self.nodes, id);
         self.locations.enter(&self.nodes, id);
         let node = self.nodes.entry(id);
         self.sources.refresh(&self.nodes, &self.locations, id);
@@ -159,10 +208,10 @@ impl NodeList {
         ensures rooms { HaveNoLess self.old.rooms self.new.rooms }
         ensures graph { IsGraph self.new.nodes }
     {
-        let place = self.nodes.place_of(id);
         self.sources.forget(&self.nodes, id);
         self.locations.leave(&self.nodes, id);
-        let node = self.nodes.remove(place);
+        leave_order(&mut self.order, &self.nodes, id);
+        let node = self.nodes.remove(id);
         self.sources
             .refresh_fronts(&self.nodes, &self.locations, &node.set, &node.task.key);
         node.task
@@ -264,5 +313,34 @@ impl NodeList {
         ensures graph { IsGraph self.new.nodes }
     {
         self.nodes.mark_running(id);
+    }
+}
+
+/// Puts a node into the order of all, where that is kept and has room for it.
+#[inline(always)]
+fn enter_order(order: &mut Option<Lane>, nodes: &OrderedNodes, id: NodeId)
+    requires there { HasNode nodes.now.nodes id }
+    requires others { IsOrder (without id nodes.now.nodes) order.old }
+    requires room { IfSome order.old (λ lane. length lane.ids.items < lane.ids.capacity) }
+    ensures order { IsOrder nodes.now.nodes order.new }
+    ensures places { (before after : ℕ) → before ≤ after + 1 → places_in order.old before ≤ places_in order.new after + 1 }
+{
+    let _graph = nodes.len();
+    if let Some(lane) = order {
+        nodes.put_into(lane, id);
+    }
+}
+
+/// Takes a node out of the order of all, where that is kept.
+#[inline(always)]
+fn leave_order(order: &mut Option<Lane>, nodes: &OrderedNodes, id: NodeId)
+    requires there { HasNode nodes.now.nodes id }
+    requires all { IsOrder nodes.now.nodes order.old }
+    ensures order { IsOrder (without id nodes.now.nodes) order.new }
+    ensures places { (before after : ℕ) → before ≤ after → places_in order.old before ≤ places_in order.new after }
+{
+    let _graph = nodes.len();
+    if let Some(lane) = order {
+        nodes.take_from(lane, id);
     }
 }

@@ -1,14 +1,10 @@
-ghost use Rattle.std.specs.Prelude.{◌≡◌, ◌+◌, ◌<◌, ◌≤◌, [], ◌∷◌, Some, IfSome, MatchResult, OnOk, length, slice_index_or};
-ghost use Rattle.std.specs.List.{remove};
+ghost use Rattle.std.specs.Prelude.{◌≡◌, ◌+◌, ◌<◌, ◌≤◌, ◌||◌, Bool, List, [], ◌∷◌, Some, IfSome, MatchResult, OnOk, filter, length};
 ghost use Rattle.std.specs.Option.{option_map};
 ghost use Rattle.task_order.specs.TaskList.{IsNewKey};
-ghost use Rattle.kdg_graph.specs.Node.{new_node};
+ghost use Rattle.kdg_graph.specs.Node.{Node, new_node};
 ghost use Rattle.kdg_graph.specs.Nodes.{IsGraph, HasNode, ids_of, least_of, node_at, node_with_key, put_node, set_at, started, tasks_of};
 ghost use Rattle.kdg_graph.specs.Lanes.{IsRank, IsRankPast, IsSearched};
 ghost use Rattle.kdg_graph.specs.Locations.{IsLaneAmong, is_first_before};
-ghost use Rattle.std.specs.Prelude.{Bool, List, filter, ◌||◌};
-ghost use Rattle.kdg_graph.specs.Node.{Node};
-ghost use Rattle.kdg_graph.specs.NodeStock.{IsPlaceOf};
 ghost use Rattle.kdg_graph.specs.Rewrite.{with_sets, without};
 
 use crate::NodeId;
@@ -22,24 +18,24 @@ use std::marker::Model;
 use std::mem;
 use task_order::{Key, Task, put_in_laws};
 
-/// Nodes under their ids, and their ids in key order.
+/// Nodes under their ids. They are seen in key order, and are kept in none: who needs an order keeps
+/// the ids of some of them in a list of their own.
 #[derive(Drop)]
 pub(crate) struct OrderedNodes {
     slots: Slab<Entry>,
-    order: Lane,
 }
 
 impl Model for OrderedNodes {
-    ghost use Rattle.std.specs.Prelude.{◌-◌, length};
+    ghost use Rattle.std.specs.Prelude.{◌-◌};
     ghost use Rattle.slab.specs.Slab.{slab_len};
-    ghost use Rattle.kdg_graph.specs.Lanes.{nodes_in, IsStored};
+    ghost use Rattle.kdg_graph.specs.Stored.{nodes_of, IsStored};
     ghost use Rattle.kdg_graph.specs.NodeStock.{NodeShelf};
 
     ghost Value = { NodeShelf };
 
-    ghost view = { λ o. record { nodes = nodes_in o.slots o.order.ids.items; places = o.order.ids.capacity - length o.order.ids.items; numbers = o.slots.capacity - slab_len o.slots; keys = o.slots.capacity } };
+    ghost view = { λ o. record { nodes = nodes_of o.slots; numbers = o.slots.capacity - slab_len o.slots; keys = o.slots.capacity } };
 
-    ghost invariant = { λ o. IsStored o.slots o.order.ids.items };
+    ghost invariant = { λ o. IsStored o.slots };
 }
 
 impl OrderedNodes {
@@ -49,7 +45,6 @@ impl OrderedNodes {
     {
         OrderedNodes {
             slots: Slab::new(alloc),
-            order: Lane::new(alloc),
         }
     }
 
@@ -58,7 +53,14 @@ impl OrderedNodes {
         ensures len { result ≡ length self.now.nodes }
         ensures graph { IsGraph self.now.nodes }
     {
-        self.order.len()
+        self.slots.len()
+    }
+
+    /// How many nodes are running. This goes over all of them.
+    pub(crate) fn running_len(&self) -> usize
+        ensures { result ≡ length (filter (λ node. node.running) self.now.nodes) }
+    {
+        self.slots.iter().filter(|(_, node)| node.running).count()
     }
 
     /// The number that each id, and that of each node to come until `reserve`, is below.
@@ -68,29 +70,12 @@ impl OrderedNodes {
         self.slots.capacity()
     }
 
-    /// The node at a place in the order.
-    pub(crate) fn at(&self, place: usize) -> &Entry
-        requires { place < length self.now.nodes }
-        ensures { result.now ≡ slice_index_or self.now.nodes place result.now }
-    {
-        let id = self.order.at(place);
-        &self.slots[id.at]
-    }
-
     /// The node with an id.
     pub(crate) fn entry(&self, id: NodeId) -> &Entry
         requires { HasNode self.now.nodes id }
         ensures { node_at self.now.nodes id ≡ Some result.now }
     {
         &self.slots[id.at]
-    }
-
-    /// How many nodes are earlier than the key.
-    pub(crate) fn rank(&self, key: &Key) -> usize
-        ensures rank { IsRank key.now self.now.nodes result }
-        ensures graph { IsGraph self.now.nodes }
-    {
-        self.order.rank(&self.slots, key)
     }
 
     /// How many of some of the nodes, by their ids in key order, are earlier than the key.
@@ -200,65 +185,43 @@ impl OrderedNodes {
         }
     }
 
-    /// The place of a node in the order.
-    pub(crate) fn place_of(&self, id: NodeId) -> usize
-        requires { HasNode self.now.nodes id }
-        ensures place { IsPlaceOf id self.now.nodes result }
-        ensures inside { result < length self.now.nodes }
-    {
-        match self.place_among(&self.order, id) {
-            Ok(place) | Err(place) => place,
-        }
-    }
-
-    /// The place of the node with the key, or else how many nodes are earlier.
-    fn search(&self, key: &Key) -> Result<usize, usize>
-        ensures found { IsSearched key.now self.now.nodes result }
-        ensures graph { IsGraph self.now.nodes }
-    {
-        self.order.search(&self.slots, key)
-    }
-
-    /// The id of the node whose task has the key, found by a search from the place on where a node was
-    /// last taken out.
-    pub(crate) fn find(&self, key: &Key) -> Option<NodeId>
+    /// The id of the node whose task has the key, found by a search among all of the nodes, by their ids
+    /// in key order, that begins where one was last taken out.
+    pub(crate) fn find_in(&self, order: &Lane, key: &Key) -> Option<NodeId>
+        requires { order.now.ids.items ≡ ids_of self.now.nodes }
         ensures { result ≡ option_map (λ node. node.id) (node_with_key self.now.nodes key.now) }
     {
-        match self.search(key) {
-            Ok(place) => Some(self.at(place).id),
+        match order.search(&self.slots, key) {
+            Ok(place) => order.get(place),
             Err(_) => None,
         }
     }
 
-    /// The id of the earliest node.
-    pub(crate) fn least(&self) -> Option<NodeId>
-        ensures { result ≡ least_of self.now.nodes }
+    /// The id of the node whose task has the key. This goes over all nodes.
+    pub(crate) fn find(&self, key: &Key) -> Option<NodeId>
+        ensures { result ≡ option_map (λ node. node.id) (node_with_key self.now.nodes key.now) }
     {
-        if self.len() == 0 {
-            return None;
-        }
-        Some(self.order.at(0))
+        let (_, node) = self
+            .slots
+            .iter()
+            .find(|(_, node)| node.task.key.compare(key).is_eq())?;
+        Some(node.id)
     }
 
     /// Makes room for so many more nodes.
     pub(crate) fn reserve(&mut self, additional: usize) -> Result<(), NoRoom>
-        ensures places { OnOk result (additional ≤ self.new.places) }
         ensures numbers { OnOk result (additional ≤ self.new.numbers) }
         ensures nodes { self.new.nodes ≡ self.old.nodes }
     {
         self.slots.reserve(additional)?;
-        self.order.reserve(additional)?;
         Ok(())
     }
 
-    /// Puts a node at its place, where `reserve` made room. It takes no memory.
-    pub(crate) fn put(&mut self, place: usize, task: Task, set: RwSet) -> NodeId
-        requires places { 0 < self.old.places }
+    /// Puts a node in, where `reserve` made room. It takes no memory.
+    pub(crate) fn put(&mut self, task: Task, set: RwSet) -> NodeId
         requires numbers { 0 < self.old.numbers }
         requires new { IsNewKey task.key (tasks_of self.old.nodes) }
-        requires rank { IsRank task.key self.old.nodes place }
         ensures nodes { self.new.nodes ≡ put_node (new_node result task set) self.old.nodes }
-        ensures places { self.old.places ≤ self.new.places + 1 }
         ensures numbers { self.old.numbers ≤ self.new.numbers + 1 }
         ensures keys { self.new.keys ≡ self.old.keys }
         ensures key { result.at < self.new.keys }
@@ -276,21 +239,18 @@ impl OrderedNodes {
             set,
             running: false,
         });
-        self.order.insert(place, id);
         id
     }
 
-    /// Takes the node at a place out. It takes no memory.
-    pub(crate) fn remove(&mut self, place: usize) -> Entry
-        requires { place < length self.old.nodes }
-        ensures node { result ≡ slice_index_or self.old.nodes place result }
-        ensures nodes { self.new.nodes ≡ remove self.old.nodes place }
-        ensures places { self.old.places ≤ self.new.places }
+    /// Takes a node out. It takes no memory.
+    pub(crate) fn remove(&mut self, id: NodeId) -> Entry
+        requires { HasNode self.old.nodes id }
+        ensures node { node_at self.old.nodes id ≡ Some result }
+        ensures nodes { self.new.nodes ≡ without id self.old.nodes }
         ensures numbers { self.old.numbers ≤ self.new.numbers }
         ensures keys { self.new.keys ≡ self.old.keys }
         ensures graph { IsGraph self.new.nodes }
     {
-        let id = self.order.remove(place);
         self.slots.remove(id.at)
     }
 
@@ -299,7 +259,6 @@ impl OrderedNodes {
         requires { HasNode self.old.nodes id }
         ensures before { set_at self.old.nodes id ≡ Some result }
         ensures nodes { self.new.nodes ≡ with_sets (record { node = id; set = set } ∷ []) self.old.nodes }
-        ensures places { self.old.places ≤ self.new.places }
         ensures numbers { self.old.numbers ≤ self.new.numbers }
         ensures keys { self.new.keys ≡ self.old.keys }
         ensures graph { IsGraph self.new.nodes }
@@ -313,7 +272,6 @@ impl OrderedNodes {
     pub(crate) fn mark_running(&mut self, id: NodeId)
         requires { HasNode self.old.nodes id }
         ensures nodes { self.new.nodes ≡ started id self.old.nodes }
-        ensures places { self.old.places ≤ self.new.places }
         ensures numbers { self.old.numbers ≤ self.new.numbers }
         ensures keys { self.new.keys ≡ self.old.keys }
         ensures graph { IsGraph self.new.nodes }

@@ -12,7 +12,7 @@ pub returns-clause-there : goal.returns-clause-there
 returns-clause-there c =
     let is : c.find.result ≡ option_map (λ (node : Node). node.id) (node_with_key c.args.self.now c.args.key.now) = search rules in
     subst (λ (found : Option NodeId). IfSome found (HasNode c.args.self.now)) (sym is)
-    (there_by_key c.key_order.ensures.exact c.args.self.now c.args.key.now _ (subst IsGraph c.self.view_is c.self.invariant.graph) refl)
+    (there_by_key c.key_order.ensures.exact c.args.self.now c.args.key.now _ (subst IsGraph c.self.view_is c.self.invariant) refl)
 
 pub returns-clause-absent : goal.returns-clause-absent
 returns-clause-absent c =

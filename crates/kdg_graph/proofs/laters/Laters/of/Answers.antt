@@ -1,7 +1,6 @@
-use Rattle.std.proofs.Common.{◌≡◌, ◌∙◌, List, Some, add-one, ap, refl, sym}
+use Rattle.std.proofs.Common.{◌≡◌, ◌∙◌, List, Some, ap, refl, sym}
 use Rattle.kdg_graph.specs.Node.{Node}
 use Rattle.kdg_graph.specs.Nodes.{node_at}
-use Rattle.kdg_graph.proofs.Walking.{past_there}
 use Rattle.kdg_graph.proofs.laters.Laters.of.Goals as goal
 
 pub invariant_of-result : goal.invariant_of-result
@@ -9,4 +8,4 @@ invariant_of-result c =
     let nodes : List Node = c.args.nodes.now.nodes in
     let node : Node = record { id = c.node.inside.id; task = c.node.inside.task; set = c.node.inside.set; running = c.node.inside.running } in
     let found : node_at nodes c.args.id ≡ Some node = c.entry-node.ensures ∙ ap (λ (n : Node). Some n) (sym c.node.view_is) in
-    record { key_of = record { node = node; there = found; key_is = refl }; filed = c.requires.filed; past = rw add-one (past_there nodes c.args.id c.place_of.result node c.len-graph.ensures.graph.ascending c.place_of.ensures.place found) }
+    (record { key_of = record { node = node; there = found; key_is = refl }; filed = c.requires.filed }, c.requires.order)

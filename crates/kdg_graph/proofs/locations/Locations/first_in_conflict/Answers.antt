@@ -1,4 +1,4 @@
-use Rattle.std.proofs.Common.{rules, ◌≡◌, ◌<◌, ◌∙◌, ℕ, Bool, List, add-one, ap, arith, get_or, length, Some, subst, sym, take}
+use Rattle.std.proofs.Common.{rules, ◌≡◌, ◌<◌, ◌∙◌, ℕ, Bool, List, add-one, ap, arith, get_or, length, subst, sym, take}
 use Rattle.std.proofs.Math.Seq.{take-length}
 use Rattle.std.specs.Prelude.{Contains}
 use Rattle.std.specs.List.{filter, list_any}
@@ -11,7 +11,7 @@ use Rattle.kdg_graph.specs.Nodes.{later_than, least_of}
 use Rattle.kdg_graph.proofs.Earliest.{conflicts_by_pairs, first_of_none, first_there, later_among, one_pair_more}
 use Rattle.kdg_graph.proofs.Filtered.{same_filter}
 use Rattle.kdg_graph.proofs.Filing.{again}
-use Rattle.kdg_graph.proofs.Walking.{first_met}
+use Rattle.kdg_graph.proofs.Walking.{ends_early}
 use Rattle.kdg_graph.proofs.locations.Locations.first_in_conflict.Goals as goal
 
 abbrev clashes_so_far : ℕ → Accesses → Node → Bool
@@ -48,8 +48,8 @@ returns-then-eq-clause-first c =
     let p : ℕ × Access = get_or ps i (0, Read) in
     let at : get_or ps i p ≡ p = sym (again ps i (0, Read) p inside) in
     let has : Contains c.args.set.now p = subst (λ (l : Accesses). Contains l p) c.items-pair-items.ensures.all (i, inside, at) in
-    let met : c.first_behind-other.result ≡ Some c.args.next = search rules in
-    met ∙ sym (first_met c.args.key.now c.args.nodes.now.nodes c.args.set.now p c.args.next c.len-graph.ensures.graph c.items-pair-items.ensures.ascending has c.requires.next (sym c.first_behind-other.ensures ∙ met))
+    let met : c.first_behind-other.result ≡ c.args.next = search rules in
+    ends_early c.args.key.now c.args.nodes.now.nodes c.args.set.now p c.args.next c.first_behind-other.result c.len-graph.ensures.graph c.items-pair-items.ensures.ascending has (sym c.is_some.ensures ∙ c.if-is_some.true) c.requires.next met c.first_behind-other.ensures
 
 pub returns-clause-first : goal.returns-clause-first
 returns-clause-first c =

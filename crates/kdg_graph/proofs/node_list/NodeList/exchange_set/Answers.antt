@@ -13,6 +13,7 @@ use Rattle.kdg_graph.specs.declared.location.Location.{Location}
 use Rattle.kdg_graph.specs.Selected.{AreSelected, is_unblocked, refreshed}
 use Rattle.kdg_graph.proofs.Exchanging.{filed_before}
 use Rattle.kdg_graph.proofs.Selecting.{but, found_node}
+use Rattle.kdg_graph.proofs.Ordered.{order_kept, places_kept}
 use Rattle.kdg_graph.proofs.Settling.{found_changed, ids-changed, length-changed, marks_kept, select_but, select_left, settled_exchanged, without_changed}
 use Rattle.kdg_graph.proofs.node_list.NodeList.exchange_set.Goals as goal
 
@@ -20,7 +21,7 @@ pub exchange-requires-clause-there : goal.exchange-requires-clause-there
 exchange-requires-clause-there c =
     let nodes : List Node = c.self.inside.nodes.nodes in
     let gone = found_node nodes c.args.id (subst (λ (stock : NodeStock). HasNode stock.nodes c.args.id) (sym c.self.view_is) c.requires.there) in
-    subst IsSome (sym (found_changed c.args.id gone.0 c.args.set nodes c.set_set-before.new.self.nodes c.self.invariant.graph c.set_set-before.ensures.graph gone.1 c.set_set-before.ensures.nodes)) refl
+    subst IsSome (sym (found_changed c.args.id gone.0 c.args.set nodes c.set_set-before.new.self.nodes c.self.invariant.0.graph c.set_set-before.ensures.graph gone.1 c.set_set-before.ensures.nodes)) refl
 
 pub exchange-requires-clause-filed : goal.exchange-requires-clause-filed
 exchange-requires-clause-filed c =
@@ -28,12 +29,12 @@ exchange-requires-clause-filed c =
     let now : List Node = c.set_set-before.new.self.nodes in
     let locations : List Location = c.self.inside.locations.locations.items in
     let gone = found_node nodes c.args.id (subst (λ (stock : NodeStock). HasNode stock.nodes c.args.id) (sym c.self.view_is) c.requires.there) in
-    let left = without_changed c.args.id gone.0 c.args.set nodes now c.self.invariant.graph c.set_set-before.ensures.graph gone.1 c.set_set-before.ensures.nodes in
+    let left = without_changed c.args.id gone.0 c.args.set nodes now c.self.invariant.0.graph c.set_set-before.ensures.graph gone.1 c.set_set-before.ensures.nodes in
     let before : Accesses = c.set_set-before.result in
     let had : Some before ≡ Some gone.0.set = sym c.set_set-before.ensures.before ∙ ap (option_map (λ (n : Node). n.set)) gone.1 in
     let is_before : gone.0.set ≡ before = cc in
-    let filed : AreFiledWith (without c.args.id now) (record gone.0 { set = c.args.set }) (access_at gone.0.set) locations = filed_before nodes (without c.args.id now) c.args.id gone.0 c.args.set locations c.self.invariant.graph gone.1 left c.self.invariant.filed in
-    subst (λ (o : Option Node). IfSome o (λ (n : Node). AreFiledWith (without c.args.id now) n (access_at before) locations)) (sym (found_changed c.args.id gone.0 c.args.set nodes now c.self.invariant.graph c.set_set-before.ensures.graph gone.1 c.set_set-before.ensures.nodes))
+    let filed : AreFiledWith (without c.args.id now) (record gone.0 { set = c.args.set }) (access_at gone.0.set) locations = filed_before nodes (without c.args.id now) c.args.id gone.0 c.args.set locations c.self.invariant.0.graph gone.1 left c.self.invariant.0.filed in
+    subst (λ (o : Option Node). IfSome o (λ (n : Node). AreFiledWith (without c.args.id now) n (access_at before) locations)) (sym (found_changed c.args.id gone.0 c.args.set nodes now c.self.invariant.0.graph c.set_set-before.ensures.graph gone.1 c.set_set-before.ensures.nodes))
     (subst (λ (l : Accesses). AreFiledWith (without c.args.id now) (record gone.0 { set = c.args.set }) (access_at l) locations) is_before filed)
 
 pub exchange-requires-clause-room : goal.exchange-requires-clause-room
@@ -42,21 +43,21 @@ exchange-requires-clause-room c =
     let gone = found_node nodes c.args.id (subst (λ (stock : NodeStock). HasNode stock.nodes c.args.id) (sym c.self.view_is) c.requires.there) in
     let rooms : List ℕ = rooms_of c.self.inside.locations.locations.items in
     let room : HasRoom 1 c.args.set rooms = subst (λ (stock : NodeStock). HasRoom 1 c.args.set stock.rooms) (sym c.self.view_is) c.requires.rooms in
-    subst (λ (o : Option Node). IfSome o (λ (n : Node). HasRoom 1 n.set rooms)) (sym (found_changed c.args.id gone.0 c.args.set nodes c.set_set-before.new.self.nodes c.self.invariant.graph c.set_set-before.ensures.graph gone.1 c.set_set-before.ensures.nodes)) room
+    subst (λ (o : Option Node). IfSome o (λ (n : Node). HasRoom 1 n.set rooms)) (sym (found_changed c.args.id gone.0 c.args.set nodes c.set_set-before.new.self.nodes c.self.invariant.0.graph c.set_set-before.ensures.graph gone.1 c.set_set-before.ensures.nodes)) room
 
 pub entry-node-requires : goal.entry-node-requires
 entry-node-requires c =
     let nodes : List Node = c.self.inside.nodes.nodes in
     let gone = found_node nodes c.args.id (subst (λ (stock : NodeStock). HasNode stock.nodes c.args.id) (sym c.self.view_is) c.requires.there) in
-    subst IsSome (sym (found_changed c.args.id gone.0 c.args.set nodes c.set_set-before.new.self.nodes c.self.invariant.graph c.set_set-before.ensures.graph gone.1 c.set_set-before.ensures.nodes)) refl
+    subst IsSome (sym (found_changed c.args.id gone.0 c.args.set nodes c.set_set-before.new.self.nodes c.self.invariant.0.graph c.set_set-before.ensures.graph gone.1 c.set_set-before.ensures.nodes)) refl
 
 pub refresh-requires-clause-some : goal.refresh-requires-clause-some
 refresh-requires-clause-some c =
     let nodes : List Node = c.self.inside.nodes.nodes in
     let now : List Node = c.set_set-before.new.self.nodes in
     let gone = found_node nodes c.args.id (subst (λ (stock : NodeStock). HasNode stock.nodes c.args.id) (sym c.self.view_is) c.requires.there) in
-    let left = without_changed c.args.id gone.0 c.args.set nodes now c.self.invariant.graph c.set_set-before.ensures.graph gone.1 c.set_set-before.ensures.nodes in
-    let others = select_left nodes (is_unblocked nodes) c.args.id c.forget.new.self.ids (c.forget.ensures.ids (is_unblocked nodes) c.self.invariant.unblocked_are) in
+    let left = without_changed c.args.id gone.0 c.args.set nodes now c.self.invariant.0.graph c.set_set-before.ensures.graph gone.1 c.set_set-before.ensures.nodes in
+    let others = select_left nodes (is_unblocked nodes) c.args.id c.forget.new.self.ids (c.forget.ensures.ids (is_unblocked nodes) c.self.invariant.0.unblocked_are) in
     let changes = record { node = c.args.id; set = c.args.set } ∷ [] in
     let long = ap length c.set_set-before.ensures.nodes ∙ length-changed changes nodes in
     record {
@@ -71,8 +72,8 @@ invariant_of-self c =
     let nodes : List Node = c.self.inside.nodes.nodes in
     let now : List Node = c.set_set-before.new.self.nodes in
     let gone = found_node nodes c.args.id (subst (λ (stock : NodeStock). HasNode stock.nodes c.args.id) (sym c.self.view_is) c.requires.there) in
-    let left = without_changed c.args.id gone.0 c.args.set nodes now c.self.invariant.graph c.set_set-before.ensures.graph gone.1 c.set_set-before.ensures.nodes in
-    let others = select_left nodes (is_unblocked nodes) c.args.id c.forget.new.self.ids (c.forget.ensures.ids (is_unblocked nodes) c.self.invariant.unblocked_are) in
+    let left = without_changed c.args.id gone.0 c.args.set nodes now c.self.invariant.0.graph c.set_set-before.ensures.graph gone.1 c.set_set-before.ensures.nodes in
+    let others = select_left nodes (is_unblocked nodes) c.args.id c.forget.new.self.ids (c.forget.ensures.ids (is_unblocked nodes) c.self.invariant.0.unblocked_are) in
     let some = select_but now (is_unblocked nodes) c.args.id c.forget.new.self.ids (subst (λ (l : List Node). AreSelected l (is_unblocked nodes) c.forget.new.self.ids) (sym left) others) in
     let first : Node → Bool = refreshed now (c.args.id ∷ []) (but c.args.id (is_unblocked nodes)) in
     let entry : Node = record { id = c.node.inside.id; task = c.node.inside.task; set = c.node.inside.set; running = c.node.inside.running } in
@@ -82,15 +83,22 @@ invariant_of-self c =
     let after : AreSelected now second c.refresh_lacking.new.sources.ids = c.refresh_lacking.ensures.ids first (c.refresh.ensures.ids (but c.args.id (is_unblocked nodes)) some) in
     let Settled : Accesses → Node → Type 0 = λ was n. AreSelected now (refreshed now (ids_of (fronts_after (lacking n.set was) n.task.key now)) (refreshed now (ids_of (fronts_after (lacking was n.set) n.task.key now)) first)) c.refresh_lacking-2.new.sources.ids in
     let all : Settled before entry = c.refresh_lacking-2.ensures.ids second after in
-    let found : Some c.entry-node.result.now ≡ Some changed = sym c.entry-node.ensures ∙ found_changed c.args.id gone.0 c.args.set nodes now c.self.invariant.graph c.set_set-before.ensures.graph gone.1 c.set_set-before.ensures.nodes in
+    let found : Some c.entry-node.result.now ≡ Some changed = sym c.entry-node.ensures ∙ found_changed c.args.id gone.0 c.args.set nodes now c.self.invariant.0.graph c.set_set-before.ensures.graph gone.1 c.set_set-before.ensures.nodes in
     let is_changed : c.entry-node.result.now ≡ changed = cc in
     let had : Some before ≡ Some gone.0.set = sym c.set_set-before.ensures.before ∙ ap (option_map (λ (n : Node). n.set)) gone.1 in
-    let is_before : before ≡ gone.0.set = cc in
-    record {
-      graph = c.set_set-before.ensures.graph;
-      filed = c.exchange.ensures.filed;
-      unblocked_are = settled_exchanged c.args.id gone.0 c.args.set nodes now c.refresh_lacking-2.new.sources.ids c.self.invariant.graph c.set_set-before.ensures.graph gone.1 c.set_set-before.ensures.nodes
-          (subst (Settled gone.0.set) (c.node.view_is ∙ is_changed) (subst (λ (was : Accesses). Settled was entry) is_before all));
-      room = c.refresh_lacking-2.ensures.some.room;
-      marks = c.refresh_lacking-2.ensures.some.marks;
-    }
+    let is_before : before ≡ gone.0.set = cc in (
+      record {
+        graph = c.set_set-before.ensures.graph;
+        filed = c.exchange.ensures.filed;
+        unblocked_are = settled_exchanged c.args.id gone.0 c.args.set nodes now c.refresh_lacking-2.new.sources.ids c.self.invariant.0.graph c.set_set-before.ensures.graph gone.1 c.set_set-before.ensures.nodes
+            (subst (Settled gone.0.set) (c.node.view_is ∙ is_changed) (subst (λ (was : Accesses). Settled was entry) is_before all));
+        room = c.refresh_lacking-2.ensures.some.room;
+        marks = c.refresh_lacking-2.ensures.some.marks;
+      },
+      order_kept nodes now c.self.inside.order (ap ids_of c.set_set-before.ensures.nodes ∙ ids-changed (record { node = c.args.id; set = c.args.set } ∷ []) nodes) c.self.invariant.1,
+    )
+
+pub returns-clause-places : goal.returns-clause-places
+returns-clause-places c =
+    let was = ap (λ (stock : NodeStock). stock.places) c.self.view_is in
+    omega (arith, was, places_kept c.self.inside.order c.self.inside.nodes.numbers c.set_set-before.new.self.numbers c.set_set-before.ensures.numbers)

@@ -3,6 +3,7 @@ use Rattle.kdg_graph.specs.Node.{Node}
 use Rattle.kdg_graph.specs.Nodes.{ids_of, started}
 use Rattle.kdg_graph.specs.Locations.{AreFiled}
 use Rattle.kdg_graph.specs.Selected.{unblocked_of}
+use Rattle.kdg_graph.proofs.Ordered.{order_kept}
 use Rattle.kdg_graph.proofs.Settling.{filed_started, ids-started, length-started, marks_kept, unblocked_started}
 use Rattle.kdg_graph.proofs.node_list.NodeList.mark_running.Goals as goal
 
@@ -10,11 +11,13 @@ pub invariant_of-self : goal.invariant_of-self
 invariant_of-self c =
     let nodes : List Node = c.self.inside.nodes.nodes in
     let is : c.mark_running.new.self.nodes ≡ started c.args.id nodes = c.mark_running.ensures.nodes in
-    let long = ap length is ∙ length-started c.args.id nodes in
-    record {
-      graph = c.mark_running.ensures.graph;
-      filed = subst (λ (l : List Node). AreFiled l c.self.inside.locations.locations.items) (sym is) (filed_started c.args.id nodes c.self.inside.locations.locations.items c.self.invariant.filed);
-      unblocked_are = c.self.invariant.unblocked_are ∙ sym (ap unblocked_of is ∙ unblocked_started c.args.id nodes);
-      room = omega (arith, long, c.self.invariant.room);
-      marks = marks_kept nodes c.mark_running.new.self.nodes c.self.inside.sources.marks (ap ids_of is ∙ ids-started c.args.id nodes) c.self.invariant.marks;
-    }
+    let long = ap length is ∙ length-started c.args.id nodes in (
+      record {
+        graph = c.mark_running.ensures.graph;
+        filed = subst (λ (l : List Node). AreFiled l c.self.inside.locations.locations.items) (sym is) (filed_started c.args.id nodes c.self.inside.locations.locations.items c.self.invariant.0.filed);
+        unblocked_are = c.self.invariant.0.unblocked_are ∙ sym (ap unblocked_of is ∙ unblocked_started c.args.id nodes);
+        room = omega (arith, long, c.self.invariant.0.room);
+        marks = marks_kept nodes c.mark_running.new.self.nodes c.self.inside.sources.marks (ap ids_of is ∙ ids-started c.args.id nodes) c.self.invariant.0.marks;
+      },
+      order_kept nodes c.mark_running.new.self.nodes c.self.inside.order (ap ids_of is ∙ ids-started c.args.id nodes) c.self.invariant.1,
+    )

@@ -3,10 +3,12 @@ use Rattle.std.specs.Prelude.{IfSome}
 use Rattle.kdg_graph.specs.Node.{Node, new_node}
 use Rattle.kdg_graph.specs.NodeStock.{NodeStock}
 use Rattle.kdg_graph.specs.Nodes.{HaveOwnIds, ids_of}
+use Rattle.kdg_graph.specs.Kept.{IsOrder}
 use Rattle.kdg_graph.specs.Fronts.{fronts_after}
 use Rattle.kdg_graph.specs.Locations.{AreFiled, HasRoom, rooms_of}
 use Rattle.kdg_graph.specs.Rewrite.{without}
 use Rattle.kdg_graph.specs.Selected.{AreSelected, HaveMarks, forgotten, is_unblocked, refreshed}
+use Rattle.kdg_graph.proofs.Ordered.{place_left}
 use Rattle.kdg_graph.proofs.Selecting.{but, length-put}
 use Rattle.kdg_graph.proofs.Rooms.{keys_have_marks}
 use Rattle.kdg_graph.proofs.Settling.{found_put, marks_put, same_found_put, select_but, settled_put, without_put}
@@ -23,7 +25,7 @@ enter-requires-clause-filed c =
     let nodes : List Node = c.self.inside.nodes.nodes in
     let node : Node = new_node c.put-id.result c.args.task c.args.set in
     let left : without c.put-id.result c.put-id.new.self.nodes ≡ nodes = ap (without c.put-id.result) c.put-id.ensures.nodes ∙ without_put node nodes (subst HaveOwnIds c.put-id.ensures.nodes c.put-id.ensures.graph.own_ids) in
-    subst (λ (l : List Node). AreFiled l c.self.inside.locations.locations.items) (sym left) c.self.invariant.filed
+    subst (λ (l : List Node). AreFiled l c.self.inside.locations.locations.items) (sym left) c.self.invariant.0.filed
 
 pub refresh-requires-clause-some : goal.refresh-requires-clause-some
 refresh-requires-clause-some c =
@@ -35,9 +37,9 @@ refresh-requires-clause-some c =
     let inside : c.put-id.result.at < c.self.inside.sources.marks = omega (arith, keys, c.put-id.ensures.key, c.put-id.ensures.keys) in
     record {
       test = but c.put-id.result (is_unblocked nodes);
-      selected = select_but c.put-id.new.self.nodes (is_unblocked nodes) c.put-id.result c.self.inside.sources.ids (subst (λ (l : List Node). AreSelected l (is_unblocked nodes) c.self.inside.sources.ids) (sym left) c.self.invariant.unblocked_are);
+      selected = select_but c.put-id.new.self.nodes (is_unblocked nodes) c.put-id.result c.self.inside.sources.ids (subst (λ (l : List Node). AreSelected l (is_unblocked nodes) c.self.inside.sources.ids) (sym left) c.self.invariant.0.unblocked_are);
       room = omega (arith, long, c.requires.marks, ap (λ (stock : NodeStock). stock.marks) c.self.view_is);
-      marks = subst (λ (l : List Node). HaveMarks l c.self.inside.sources.marks) (sym c.put-id.ensures.nodes) (marks_put node nodes c.self.inside.sources.marks c.self.invariant.marks inside);
+      marks = subst (λ (l : List Node). HaveMarks l c.self.inside.sources.marks) (sym c.put-id.ensures.nodes) (marks_put node nodes c.self.inside.sources.marks c.self.invariant.0.marks inside);
     }
 
 pub invariant_of-self : goal.invariant_of-self
@@ -46,19 +48,38 @@ invariant_of-self c =
     let now : List Node = c.put-id.new.self.nodes in
     let node : Node = new_node c.put-id.result c.args.task c.args.set in
     let left : without c.put-id.result now ≡ nodes = ap (without c.put-id.result) c.put-id.ensures.nodes ∙ without_put node nodes (subst HaveOwnIds c.put-id.ensures.nodes c.put-id.ensures.graph.own_ids) in
-    let others = select_but now (is_unblocked nodes) c.put-id.result c.self.inside.sources.ids (subst (λ (l : List Node). AreSelected l (is_unblocked nodes) c.self.inside.sources.ids) (sym left) c.self.invariant.unblocked_are) in
+    let others = select_but now (is_unblocked nodes) c.put-id.result c.self.inside.sources.ids (subst (λ (l : List Node). AreSelected l (is_unblocked nodes) c.self.inside.sources.ids) (sym left) c.self.invariant.0.unblocked_are) in
     let first : Node → Bool = refreshed now (c.put-id.result ∷ []) (but c.put-id.result (is_unblocked nodes)) in
     let entry : Node = record { id = c.node.inside.id; task = c.node.inside.task; set = c.node.inside.set; running = c.node.inside.running } in
     let all : AreSelected now (forgotten (ids_of (fronts_after entry.set entry.task.key now)) first) c.forget_fronts.new.self.ids = c.forget_fronts.ensures.ids first (c.refresh.ensures.ids (but c.put-id.result (is_unblocked nodes)) others) in
-    let same : entry ≡ node = c.node.view_is ∙ same_found_put node c.entry-node.result.now nodes now c.put-id.ensures.nodes c.put-id.ensures.graph c.entry-node.ensures in
-    record {
-      graph = c.put-id.ensures.graph;
-      filed = c.enter.ensures.filed;
-      unblocked_are = settled_put node nodes now [] (is_unblocked nodes) c.forget_fronts.new.self.ids c.self.invariant.graph.ascending c.put-id.ensures.graph c.put-id.ensures.nodes (λ n _ _. refl)
-          (subst (λ (n : Node). AreSelected now (forgotten (ids_of (fronts_after n.set n.task.key now)) first) c.forget_fronts.new.self.ids) same all);
-      room = c.forget_fronts.ensures.some.room;
-      marks = c.forget_fronts.ensures.some.marks;
-    }
+    let same : entry ≡ node = c.node.view_is ∙ same_found_put node c.entry-node.result.now nodes now c.put-id.ensures.nodes c.put-id.ensures.graph c.entry-node.ensures in (
+      record {
+        graph = c.put-id.ensures.graph;
+        filed = c.enter.ensures.filed;
+        unblocked_are = settled_put node nodes now [] (is_unblocked nodes) c.forget_fronts.new.self.ids c.self.invariant.0.graph.ascending c.put-id.ensures.graph c.put-id.ensures.nodes (λ n _ _. refl)
+            (subst (λ (n : Node). AreSelected now (forgotten (ids_of (fronts_after n.set n.task.key now)) first) c.forget_fronts.new.self.ids) same all);
+        room = c.forget_fronts.ensures.some.room;
+        marks = c.forget_fronts.ensures.some.marks;
+      },
+      c.enter_order.ensures.order,
+    )
+
+pub enter_order-requires-clause-others : goal.enter_order-requires-clause-others
+enter_order-requires-clause-others c =
+    let nodes : List Node = c.self.inside.nodes.nodes in
+    let node : Node = new_node c.put-id.result c.args.task c.args.set in
+    let left : without c.put-id.result c.put-id.new.self.nodes ≡ nodes = ap (without c.put-id.result) c.put-id.ensures.nodes ∙ without_put node nodes (subst HaveOwnIds c.put-id.ensures.nodes c.put-id.ensures.graph.own_ids) in
+    subst (λ (l : List Node). IsOrder l c.self.inside.order) (sym left) c.self.invariant.1
+
+pub enter_order-requires-clause-room : goal.enter_order-requires-clause-room
+enter_order-requires-clause-room c =
+    let was = ap (λ (stock : NodeStock). stock.places) c.self.view_is in
+    place_left c.self.inside.order c.self.inside.nodes.numbers (omega (arith, was, c.requires.places))
+
+pub returns-clause-places : goal.returns-clause-places
+returns-clause-places c =
+    let was = ap (λ (stock : NodeStock). stock.places) c.self.view_is in
+    omega (arith, was, c.enter_order.ensures.places c.self.inside.nodes.numbers c.put-id.new.self.numbers c.put-id.ensures.numbers)
 
 pub returns-clause-marks : goal.returns-clause-marks
 returns-clause-marks c =

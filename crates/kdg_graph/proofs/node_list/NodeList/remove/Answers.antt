@@ -1,29 +1,26 @@
 use Rattle.std.proofs.Common.{◌≡◌, ◌∙◌, List, Some, ap, length, subst, sym, arith}
 use Rattle.std.specs.Option.{option_map}
-use Rattle.std.proofs.lemmas.List.Edits.{length-remove}
 use Rattle.kdg_graph.specs.Node.{Node}
 use Rattle.kdg_graph.specs.NodeStock.{NodeStock}
 use Rattle.kdg_graph.specs.Nodes.{node_at, task_at}
+use Rattle.kdg_graph.specs.Kept.{IsOrder}
 use Rattle.kdg_graph.specs.Locations.{AreFiled}
 use Rattle.kdg_graph.specs.Rewrite.{without}
 use Rattle.kdg_graph.specs.Selected.{AreSelected, HaveMarks, is_unblocked}
-use Rattle.kdg_graph.proofs.Places.{node_at-place, without-place}
+use Rattle.kdg_graph.proofs.Ordered.{length-without}
 use Rattle.kdg_graph.proofs.Settling.{marks_without, select_left, settled_without}
 use Rattle.kdg_graph.proofs.node_list.NodeList.remove.Goals as goal
 
 pub refresh_fronts-requires-clause-filed : goal.refresh_fronts-requires-clause-filed
-refresh_fronts-requires-clause-filed c =
-    let nodes : List Node = c.self.inside.nodes.nodes in
-    let now = c.remove-node.ensures.nodes ∙ without-place c.args.id nodes c.place_of-place.result c.self.invariant.graph.own_ids c.place_of-place.ensures.place in
-    subst (λ (l : List Node). AreFiled l c.leave.new.self.locations.items) (sym now) c.leave.ensures.filed
+refresh_fronts-requires-clause-filed c = subst (λ (l : List Node). AreFiled l c.leave.new.self.locations.items) (sym c.remove-node.ensures.nodes) c.leave.ensures.filed
 
 pub refresh_fronts-requires-clause-some : goal.refresh_fronts-requires-clause-some
 refresh_fronts-requires-clause-some c =
     let nodes : List Node = c.self.inside.nodes.nodes in
-    let now = c.remove-node.ensures.nodes ∙ without-place c.args.id nodes c.place_of-place.result c.self.invariant.graph.own_ids c.place_of-place.ensures.place in
-    let left = select_left nodes (is_unblocked nodes) c.args.id c.forget.new.self.ids (c.forget.ensures.ids (is_unblocked nodes) c.self.invariant.unblocked_are) in
-    let fewer = ap length c.remove-node.ensures.nodes in
-    let one = length-remove nodes c.place_of-place.result c.place_of-place.ensures.inside in
+    let now : c.remove-node.new.self.nodes ≡ without c.args.id nodes = c.remove-node.ensures.nodes in
+    let left = select_left nodes (is_unblocked nodes) c.args.id c.forget.new.self.ids (c.forget.ensures.ids (is_unblocked nodes) c.self.invariant.0.unblocked_are) in
+    let fewer = ap length now in
+    let one = length-without c.args.id nodes c.remove-node.result c.self.invariant.0.graph c.remove-node.ensures.node in
     record {
       test = is_unblocked nodes;
       selected = subst (λ (l : List Node). AreSelected l (is_unblocked nodes) c.forget.new.self.ids) (sym now) left;
@@ -35,34 +32,37 @@ pub invariant_of-self : goal.invariant_of-self
 invariant_of-self c =
     let nodes : List Node = c.self.inside.nodes.nodes in
     let node : Node = record { id = c.node.inside.id; task = c.node.inside.task; set = c.node.inside.set; running = c.node.inside.running } in
-    let is : node_at nodes c.args.id ≡ Some node =
-    node_at-place c.args.id nodes c.place_of-place.result c.remove-node.result c.place_of-place.ensures.place ∙ ap (λ (n : Node). Some n) (sym c.remove-node.ensures.node ∙ sym c.node.view_is) in
-    let now = c.remove-node.ensures.nodes ∙ without-place c.args.id nodes c.place_of-place.result c.self.invariant.graph.own_ids c.place_of-place.ensures.place in
-    let left = select_left nodes (is_unblocked nodes) c.args.id c.forget.new.self.ids (c.forget.ensures.ids (is_unblocked nodes) c.self.invariant.unblocked_are) in
-    let others = subst (λ (l : List Node). AreSelected l (is_unblocked nodes) c.forget.new.self.ids) (sym now) left in
-    record {
-      graph = c.remove-node.ensures.graph;
-      filed = subst (λ (l : List Node). AreFiled l c.leave.new.self.locations.items) (sym now) c.leave.ensures.filed;
-      unblocked_are = settled_without c.args.id node nodes c.remove-node.new.self.nodes c.refresh_fronts.new.self.ids c.self.invariant.graph is now (c.refresh_fronts.ensures.ids (is_unblocked nodes) others);
-      room = c.refresh_fronts.ensures.some.room;
-      marks = c.refresh_fronts.ensures.some.marks;
-    }
+    let is : node_at nodes c.args.id ≡ Some node = c.remove-node.ensures.node ∙ ap (λ (n : Node). Some n) (sym c.node.view_is) in
+    let now : c.remove-node.new.self.nodes ≡ without c.args.id nodes = c.remove-node.ensures.nodes in
+    let left = select_left nodes (is_unblocked nodes) c.args.id c.forget.new.self.ids (c.forget.ensures.ids (is_unblocked nodes) c.self.invariant.0.unblocked_are) in
+    let others = subst (λ (l : List Node). AreSelected l (is_unblocked nodes) c.forget.new.self.ids) (sym now) left in (
+      record {
+        graph = c.remove-node.ensures.graph;
+        filed = subst (λ (l : List Node). AreFiled l c.leave.new.self.locations.items) (sym now) c.leave.ensures.filed;
+        unblocked_are = settled_without c.args.id node nodes c.remove-node.new.self.nodes c.refresh_fronts.new.self.ids c.self.invariant.0.graph is now (c.refresh_fronts.ensures.ids (is_unblocked nodes) others);
+        room = c.refresh_fronts.ensures.some.room;
+        marks = c.refresh_fronts.ensures.some.marks;
+      },
+      subst (λ (l : List Node). IsOrder l c.leave_order.new.order) (sym now) c.leave_order.ensures.order,
+    )
 
 pub returns-clause-task : goal.returns-clause-task
 returns-clause-task c =
     ap (λ (stock : NodeStock). task_at stock.nodes c.args.id) (sym c.self.view_is)
-    ∙ ap (option_map (λ (node : Node). node.task)) (node_at-place c.args.id c.self.inside.nodes.nodes c.place_of-place.result c.remove-node.result c.place_of-place.ensures.place)
-    ∙ ap (λ (node : Node). Some node.task) (sym c.remove-node.ensures.node ∙ sym c.node.view_is)
+    ∙ ap (option_map (λ (node : Node). node.task)) c.remove-node.ensures.node
+    ∙ ap (λ (node : Node). Some node.task) (sym c.node.view_is)
 
 pub returns-clause-nodes : goal.returns-clause-nodes
-returns-clause-nodes c =
-    c.remove-node.ensures.nodes ∙ without-place c.args.id c.self.inside.nodes.nodes c.place_of-place.result c.self.invariant.graph.own_ids c.place_of-place.ensures.place
-    ∙ ap (λ (stock : NodeStock). without c.args.id stock.nodes) c.self.view_is
+returns-clause-nodes c = c.remove-node.ensures.nodes ∙ ap (λ (stock : NodeStock). without c.args.id stock.nodes) c.self.view_is
+
+pub returns-clause-places : goal.returns-clause-places
+returns-clause-places c =
+    let was = ap (λ (stock : NodeStock). stock.places) c.self.view_is in
+    omega (arith, was, c.leave_order.ensures.places c.self.inside.nodes.numbers c.remove-node.new.self.numbers c.remove-node.ensures.numbers)
 
 pub returns-clause-marks : goal.returns-clause-marks
 returns-clause-marks c =
-    let nodes : List Node = c.self.inside.nodes.nodes in
     let fewer = ap length c.remove-node.ensures.nodes in
-    let one = length-remove nodes c.place_of-place.result c.place_of-place.ensures.inside in
+    let one = length-without c.args.id c.self.inside.nodes.nodes c.remove-node.result c.self.invariant.0.graph c.remove-node.ensures.node in
     let was = ap (λ (stock : NodeStock). stock.marks) c.self.view_is in
-    omega (arith, fewer, one, was, c.self.invariant.room, c.forget.ensures.room, c.refresh_fronts.ensures.room)
+    omega (arith, fewer, one, was, c.self.invariant.0.room, c.forget.ensures.room, c.refresh_fronts.ensures.room)

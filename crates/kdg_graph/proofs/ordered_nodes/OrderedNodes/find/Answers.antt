@@ -1,24 +1,33 @@
-use Rattle.std.proofs.Common.{◌≡◌, ◌∙◌, Option, Some, true, ap, subst, sym}
+use Rattle.std.proofs.Common.{rules, ◌≡◌, ◌∙◌, ℕ, None, Some, ap}
+use Rattle.std.specs.List.{find}
 use Rattle.std.specs.Option.{option_map}
 use Rattle.std.specs.Ordering.{is_eq}
-use Rattle.std.specs.declared.cmp.Ordering.TheVariants.{Equal}
+use Rattle.std.proofs.lemmas.Iterator.Consumers.{YieldsList-from_first}
+use Rattle.std.proofs.lemmas.Iterator.Search.{find_from_yields_List}
+use Rattle.slab.specs.Slab.{entries}
 use Rattle.task_order.specs.Key.{key_cmp}
-use Rattle.kdg_graph.specs.declared.node_id.NodeId.{NodeId}
 use Rattle.kdg_graph.specs.Node.{Node}
-use Rattle.kdg_graph.proofs.Ordering.{found_at_point}
-use Rattle.kdg_graph.proofs.Sought.{none_at_gap}
+use Rattle.kdg_graph.specs.Nodes.{node_with_key}
+use Rattle.kdg_graph.specs.NodeStock.{NodeShelf}
+use Rattle.kdg_graph.proofs.Sought.{with_key_stored}
 use Rattle.kdg_graph.proofs.ordered_nodes.OrderedNodes.find.Goals as goal
 
-abbrev by_id : Option Node → Option NodeId
-by_id found = option_map (λ (node : Node). node.id) found
+pub returns-in_err-node : goal.returns-in_err-node
+returns-in_err-node c =
+    let slots = c.self.inside.slots in
+    let has_key : ℕ × Node → _ = λ entry. is_eq (key_cmp entry.1.task.key c.args.key.now) in
+    let found : option_map (λ item. (item.0, item.1.now)) c.find.result ≡ find has_key (entries slots) =
+    find_from_yields_List has_key _ _ _ c.find.ensures.ran (YieldsList-from_first (λ item. (item.0, item.1.now)) (λ rest. rest) (entries slots) c.iter.ensures.rest) (λ x b q k. search rules) in
+    c.from_residual.ensures
+    ∙ ap (option_map (λ (node : Node). node.id)) (with_key_stored slots c.args.key.now None c.self.invariant (rw c.in_err-node.was at found))
+    ∙ ap (λ (shelf : NodeShelf). option_map (λ (node : Node). node.id) (node_with_key shelf.nodes c.args.key.now)) c.self.view_is
 
-pub returns-in-Ok : goal.returns-in-Ok
-returns-in-Ok c =
-    let node : Node = c.at.result.now in
-    let found = c.in-Ok.ensures.found in
-    let is : is_eq (key_cmp node.task.key c.args.key.now) ≡ true = ap is_eq (subst (λ (n : Node). key_cmp n.task.key c.args.key.now ≡ Equal) (sym c.at.ensures) (found.tied node)) in
-    ap (λ (n : Node). Some n.id) c.behind-self.view_is
-    ∙ sym (ap by_id (found_at_point c.args.key.now c.args.self.now.nodes c.in-Ok.place node true c.in-Ok.ensures.graph.ascending found.inside found.rank.point c.at.ensures is))
-
-pub returns-in-Err : goal.returns-in-Err
-returns-in-Err c = sym (ap by_id (none_at_gap c.args.key.now c.args.self.now.nodes c.in-Err.field-0 c.in-Err.ensures.graph.ascending c.in-Err.ensures.found))
+pub returns : goal.returns
+returns c =
+    let slots = c.self.inside.slots in
+    let has_key : ℕ × Node → _ = λ entry. is_eq (key_cmp entry.1.task.key c.args.key.now) in
+    let found : option_map (λ item. (item.0, item.1.now)) c.find.result ≡ find has_key (entries slots) =
+    find_from_yields_List has_key _ _ _ c.find.ensures.ran (YieldsList-from_first (λ item. (item.0, item.1.now)) (λ rest. rest) (entries slots) c.iter.ensures.rest) (λ x b q k. search rules) in
+    ap (λ (node : Node). Some node.id) c.node.view_is
+    ∙ ap (option_map (λ (node : Node). node.id)) (with_key_stored slots c.args.key.now (Some (c.in_ok-node.field-0-0, c.in_ok-node.node.now)) c.self.invariant (rw c.in_ok-node.was at found))
+    ∙ ap (λ (shelf : NodeShelf). option_map (λ (node : Node). node.id) (node_with_key shelf.nodes c.args.key.now)) c.self.view_is

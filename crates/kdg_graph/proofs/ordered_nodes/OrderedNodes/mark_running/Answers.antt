@@ -3,31 +3,25 @@ use Rattle.slab.specs.Slab.{get}
 use Rattle.kdg_graph.specs.Node.{Node}
 use Rattle.kdg_graph.specs.Nodes.{HasNode, started}
 use Rattle.kdg_graph.specs.NodeStock.{NodeShelf}
-use Rattle.kdg_graph.specs.Lanes.{nodes_in}
-use Rattle.kdg_graph.proofs.Lanes.{graph_of_stored}
 use Rattle.kdg_graph.proofs.Storing.{key_of, started_stored}
 use Rattle.kdg_graph.proofs.ordered_nodes.OrderedNodes.mark_running.Goals as goal
 
 pub index_mut-named-requires : goal.index_mut-named-requires
-index_mut-named-requires c = key_of c.self.inside.slots c.self.inside.order.ids.items c.args.id c.self.invariant (subst (λ (shelf : NodeShelf). HasNode shelf.nodes c.args.id) (sym c.self.view_is) c.requires)
+index_mut-named-requires c = key_of c.self.inside.slots c.args.id c.self.invariant (subst (λ (shelf : NodeShelf). HasNode shelf.nodes c.args.id) (sym c.self.view_is) c.requires)
 
 pub invariant_of-self : goal.invariant_of-self
 invariant_of-self c =
     let slots = c.self.inside.slots in
-    let ids = c.self.inside.order.ids.items in
     let node : Node = record { id = c.named.inside.id; task = c.named.inside.task; set = c.named.inside.set; running = c.named.inside.running } in
-    let has : HasNode (nodes_in slots ids) c.args.id = subst (λ (shelf : NodeShelf). HasNode shelf.nodes c.args.id) (sym c.self.view_is) c.requires in
     let found : get slots c.args.id.at ≡ Some node = c.index_mut-named.ensures.value ∙ ap (λ (n : Node). Some n) (sym c.named.view_is) in
-    (started_stored slots ids c.args.id node c.self.invariant has found).0
+    (started_stored slots c.args.id node c.self.invariant found).0
 
 pub returns-clause-nodes : goal.returns-clause-nodes
 returns-clause-nodes c =
     let slots = c.self.inside.slots in
-    let ids = c.self.inside.order.ids.items in
     let node : Node = record { id = c.named.inside.id; task = c.named.inside.task; set = c.named.inside.set; running = c.named.inside.running } in
-    let has : HasNode (nodes_in slots ids) c.args.id = subst (λ (shelf : NodeShelf). HasNode shelf.nodes c.args.id) (sym c.self.view_is) c.requires in
     let found : get slots c.args.id.at ≡ Some node = c.index_mut-named.ensures.value ∙ ap (λ (n : Node). Some n) (sym c.named.view_is) in
-    (started_stored slots ids c.args.id node c.self.invariant has found).1 ∙ ap (λ (shelf : NodeShelf). started c.args.id shelf.nodes) c.self.view_is
+    (started_stored slots c.args.id node c.self.invariant found).1 ∙ ap (λ (shelf : NodeShelf). started c.args.id shelf.nodes) c.self.view_is
 
 pub returns-clause-graph : goal.returns-clause-graph
-returns-clause-graph c = graph_of_stored _ _ (invariant_of-self c)
+returns-clause-graph c = (invariant_of-self c).graph

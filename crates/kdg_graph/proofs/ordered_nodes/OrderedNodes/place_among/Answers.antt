@@ -26,4 +26,4 @@ returns-clause-found c some among =
     let node : Node = record { id = c.node.inside.id; task = c.node.inside.task; set = c.node.inside.set; running = c.node.inside.running } in
     let is : node_at c.args.self.now.nodes c.args.id ≡ Some node = c.entry-node.ensures ∙ ap (λ (n : Node). Some n) (sym c.node.view_is) in
     subst (λ (o : Option Node). IfSome o (λ (n : Node). IsSearched n.task.key some c.search.result)) (sym is)
-    (c.search.ensures.found some (lane_of_among c.self.inside.slots c.self.inside.order.ids.items c.args.lane.now.ids.items some c.self.invariant (subst (λ (shelf : NodeShelf). IsLaneAmong shelf.nodes some c.args.lane.now.ids.items) (sym c.self.view_is) among)))
+    (c.search.ensures.found some (lane_of_among c.self.inside.slots c.args.lane.now.ids.items some c.self.invariant (subst (λ (shelf : NodeShelf). IsLaneAmong shelf.nodes some c.args.lane.now.ids.items) (sym c.self.view_is) among)))

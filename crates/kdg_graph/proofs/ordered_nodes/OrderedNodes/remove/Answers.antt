@@ -1,27 +1,24 @@
-use Rattle.std.proofs.Common.{◌∙◌, ◌<◌, List, ap, length, subst, sym}
-use Rattle.std.specs.List.{remove}
-use Rattle.kdg_graph.specs.declared.node_id.NodeId.{NodeId}
+use Rattle.std.proofs.Common.{◌∙◌, ap, subst, sym}
+use Rattle.kdg_graph.specs.Nodes.{HasNode, node_at}
 use Rattle.kdg_graph.specs.NodeStock.{NodeShelf}
-use Rattle.kdg_graph.specs.Lanes.{IsStored, nodes_in}
-use Rattle.kdg_graph.proofs.Lanes.{graph_of_stored}
-use Rattle.kdg_graph.proofs.Storing.{key_at, removed_stored}
+use Rattle.kdg_graph.specs.Rewrite.{without}
+use Rattle.kdg_graph.proofs.Storing.{entry_of, key_of, removed_stored}
 use Rattle.kdg_graph.proofs.ordered_nodes.OrderedNodes.remove.Goals as goal
 
 pub remove-requires : goal.remove-requires
-remove-requires c =
-    key_at c.self.inside.slots c.self.inside.order.ids.items c.args.place c.remove-id.result c.self.invariant (subst (λ (shelf : NodeShelf). c.args.place < length shelf.nodes) (sym c.self.view_is) c.requires) c.remove-id.ensures.id
+remove-requires c = key_of c.self.inside.slots c.args.id c.self.invariant (subst (λ (shelf : NodeShelf). HasNode shelf.nodes c.args.id) (sym c.self.view_is) c.requires)
 
 pub invariant_of-self : goal.invariant_of-self
-invariant_of-self c =
-    let inside : c.args.place < length (nodes_in c.self.inside.slots c.self.inside.order.ids.items) = subst (λ (shelf : NodeShelf). c.args.place < length shelf.nodes) (sym c.self.view_is) c.requires in
-    let made = removed_stored c.self.inside.slots c.remove.new.self c.self.inside.order.ids.items c.args.place c.remove-id.result c.self.invariant inside c.remove-id.ensures.id c.remove.ensures.updates in
-    subst (λ (l : List NodeId). IsStored c.remove.new.self l) (sym c.remove-id.ensures.ids) made.0
+invariant_of-self c = (removed_stored c.self.inside.slots c.remove.new.self c.args.id c.self.invariant c.remove.ensures.updates).0
+
+pub returns-clause-node : goal.returns-clause-node
+returns-clause-node c =
+    ap (λ (shelf : NodeShelf). node_at shelf.nodes c.args.id) (sym c.self.view_is)
+    ∙ sym (entry_of c.self.inside.slots c.args.id c.self.invariant (subst (λ (shelf : NodeShelf). HasNode shelf.nodes c.args.id) (sym c.self.view_is) c.requires))
+    ∙ c.remove.ensures.value
 
 pub returns-clause-nodes : goal.returns-clause-nodes
-returns-clause-nodes c =
-    let inside : c.args.place < length (nodes_in c.self.inside.slots c.self.inside.order.ids.items) = subst (λ (shelf : NodeShelf). c.args.place < length shelf.nodes) (sym c.self.view_is) c.requires in
-    let made = removed_stored c.self.inside.slots c.remove.new.self c.self.inside.order.ids.items c.args.place c.remove-id.result c.self.invariant inside c.remove-id.ensures.id c.remove.ensures.updates in
-    ap (nodes_in c.remove.new.self) c.remove-id.ensures.ids ∙ made.1 ∙ ap (λ (shelf : NodeShelf). remove shelf.nodes c.args.place) c.self.view_is
+returns-clause-nodes c = (removed_stored c.self.inside.slots c.remove.new.self c.args.id c.self.invariant c.remove.ensures.updates).1 ∙ ap (λ (shelf : NodeShelf). without c.args.id shelf.nodes) c.self.view_is
 
 pub returns-clause-graph : goal.returns-clause-graph
-returns-clause-graph c = graph_of_stored _ _ (invariant_of-self c)
+returns-clause-graph c = (invariant_of-self c).graph
