@@ -45,6 +45,14 @@ left_by nodes id node loc access false graph is has = filter_with (clashes_at lo
 
 -- ---- steps
 
+-- what is filed at the next location is the others that are there
+pub others_next : (nodes : List Node) (id : NodeId) (ps : Accesses) (i : ℕ) (p : ℕ × Access) (locations : List Location) (old : Location) → IsGraph nodes → IsAscendingSet ps → i < length ps → p ≡ get_or ps i p → p.0 < length locations → old ≡ get_or locations p.0 old
+    → ((loc : ℕ) (access : Access) → lane_of locations loc access ≡ ids_of (clashing_at loc access (cond (is_some (access_at (take i ps) loc)) nodes (without id nodes))))
+    → (access : Access) → IsLaneAmong nodes (clashing_at p.0 access (without id nodes)) (ids_for access old)
+others_next nodes id ps i p locations old graph up inside at within here filed access =
+    others_among nodes id p.0 access (ids_for access old) graph
+    (ap (ids_for access) here ∙ sym (lane_at locations p.0 access old within) ∙ filed p.0 access ∙ ap (λ found. ids_of (clashing_at p.0 access (cond (is_some found) nodes (without id nodes)))) (not_before ps i p up inside at))
+
 pub enter_step : (nodes : List Node) (id : NodeId) (node : Node) (ps : Accesses) (i : ℕ) (p : ℕ × Access) (locations : List Location) (old now : Location) → IsGraph nodes → node_at nodes id ≡ Some node → ps ≡ node.set → IsAscendingSet ps
     → i < length ps → p ≡ get_or ps i p → p.0 < length locations → old ≡ get_or locations p.0 old
     → ((access : Access) (some : List Node) → IsLaneAmong nodes some (ids_for access old) → IfSome (node_at nodes id) (λ (n : Node). ids_for access now ≡ ids_of (put_if (excludes access p.1) n some)))
@@ -52,10 +60,8 @@ pub enter_step : (nodes : List Node) (id : NodeId) (node : Node) (ps : Accesses)
     → (loc : ℕ) (access : Access) → lane_of (set locations p.0 now) loc access ≡ ids_of (clashing_at loc access (cond (is_some (access_at (take (suc i) ps) loc)) nodes (without id nodes)))
 enter_step nodes id node ps i p locations old now graph is are up inside at within here lanes filed loc access =
     let rest : List Node = without id nodes in
-    let before : ids_for access old ≡ ids_of (clashing_at p.0 access rest) =
-    ap (ids_for access) here ∙ sym (lane_at locations p.0 access old within) ∙ filed p.0 access ∙ ap (λ found. ids_of (clashing_at p.0 access (cond (is_some found) nodes rest))) (not_before ps i p up inside at) in
     let put : ids_for access now ≡ ids_of (put_if (excludes access p.1) node (clashing_at p.0 access rest)) =
-    subst (λ (o : Option Node). IfSome o (λ (n : Node). ids_for access now ≡ ids_of (put_if (excludes access p.1) n (clashing_at p.0 access rest)))) is (lanes access (clashing_at p.0 access rest) (others_among nodes id p.0 access (ids_for access old) graph before)) in
+    subst (λ (o : Option Node). IfSome o (λ (n : Node). ids_for access now ≡ ids_of (put_if (excludes access p.1) n (clashing_at p.0 access rest)))) is (lanes access (clashing_at p.0 access rest) (others_next nodes id ps i p locations old graph up inside at within here filed access)) in
     let has : access_at node.set p.0 ≡ Some p.1 = ap (λ (l : Accesses). access_at l p.0) (sym are) ∙ pair_found ps i p up inside at in
     let changed : lane_of (set locations p.0 now) p.0 access ≡ ids_of (clashing_at p.0 access (cond (is_some (access_at (take (suc i) ps) p.0)) nodes rest)) =
     lane_changed locations p.0 now access within ∙ put ∙ ap ids_of (sym (clashing_with nodes id node p.0 access (Some p.1) graph is has))

@@ -30,3 +30,4 @@ pub mod Ordered
 pub mod Exchanging
 pub mod Searching
 pub mod Sought
+pub mod Arriving

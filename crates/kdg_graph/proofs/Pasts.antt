@@ -20,7 +20,7 @@ use Rattle.kdg_graph.proofs.Ordering.{Less_from_test, earlier_at, is_before, not
 abbrev pub is_past : Key → Node → Bool
 is_past key node = is_lt (key_cmp key node.task.key)
 
-rank_rest : (key : Key) (node : Node) (some : List Node) (place : ℕ) → IsRank key (node ∷ some) (suc place) → IsRank key some place
+pub rank_rest : (key : Key) (node : Node) (some : List Node) (place : ℕ) → IsRank key (node ∷ some) (suc place) → IsRank key some place
 rank_rest key node some place rank = record {
   inside = omega (arith, rank.inside);
   point = ((λ k d from upto. rank.point.0 (suc k) d (omega arith) (omega (arith, upto))), (λ k d from upto. rank.point.1 (suc k) d (omega (arith, from)) (omega (arith, upto))));
@@ -47,7 +47,7 @@ past_cons key node some place is rank = record {
 }
 
 -- an earlier node isn't later, nor is one at the key
-earlier_not_past : (key : Key) (node : Node) → is_before key node ≡ true → is_past key node ≡ false
+pub earlier_not_past : (key : Key) (node : Node) → is_before key node ≡ true → is_past key node ≡ false
 earlier_not_past key node is = turned node.task.key key (Less_from_test _ is)
 
 tied_not_past : (key : Key) (node : Node) → is_eq (key_cmp node.task.key key) ≡ true → is_past key node ≡ false

@@ -96,6 +96,12 @@ gap_ended slots key nodes ids place lane between = record {
   apart = λ d inside. compared_in slots key nodes ids place Greater lane inside between.later d;
 }
 
+-- where the last is earlier, or none is there, all are
+pub all_earlier : (slots : Slab Node) (key : Key) (nodes : List Node) (ids : List NodeId) (len : ℕ) → IsLane slots nodes ids → len ≡ length ids → ((place : ℕ) → suc place ≡ len → cmp_at slots key ids place ≡ Less) → IsRank key nodes len
+all_earlier slots key nodes ids len lane is earlier =
+    let between : IsBetween slots key ids len len = record { ordered = omega arith; inside = omega (arith, is); earlier = earlier; later = later_past slots key ids len (omega (arith, is)) } in
+    (gap_ended slots key nodes ids len lane between).rank
+
 -- ---- what a search tells
 
 pub inside_tied : (slots : Slab Node) (key : Key) (ids : List NodeId) (place : ℕ) → cmp_at slots key ids place ≡ Equal → place < length ids

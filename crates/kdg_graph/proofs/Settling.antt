@@ -69,9 +69,6 @@ without_put new (node ∷ nodes) own =
 pub found_put : (new : Node) (nodes now : List Node) → now ≡ put_node new nodes → IsGraph now → node_at now new.id ≡ Some new
 found_put new nodes now is graph = nodes_have_ids now new graph (subst (λ (l : List Node). Contains l new) (sym is) (in_put_new new nodes))
 
-pub same_found_put : (new found : Node) (nodes now : List Node) → now ≡ put_node new nodes → IsGraph now → node_at now new.id ≡ Some found → found ≡ new
-same_found_put new found nodes now is graph has = let same : Some found ≡ Some new = sym has ∙ found_put new nodes now is graph in cc
-
 -- ---- the fronts behind a node don't see it
 
 pub fronts_put : (set : Accesses) (new : Node) (nodes : List Node) → fronts_after set new.task.key (put_node new nodes) ≡ fronts_after set new.task.key nodes

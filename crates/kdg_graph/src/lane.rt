@@ -81,13 +81,17 @@ impl Lane {
         self.ids.reserve(additional)
     }
 
-    /// How many of the nodes are earlier than the key, for a node that is to be put in: a search that
-    /// begins where one was last put in.
+    /// How many of the nodes are earlier than the key, for a node that is to be put in: mostly all, or
+    /// else a search that begins where one was last put in.
     #[inline(always)]
     pub(crate) fn rank(&self, slots: &Slab<Entry>, key: &Key) -> usize
         ensures rank { (nodes : List Node) → IsLane slots.now nodes self.now.ids.items → IsRank key.now nodes result }
         ensures inside { result ≤ length self.now.ids.items }
     {
+        let len = self.len();
+        if len == 0 || self.compare_at(slots, len - 1, key).is_lt() {
+            return len;
+        }
         match self.search_near(slots, key, self.put_at) {
             Ok(place) | Err(place) => place,
         }

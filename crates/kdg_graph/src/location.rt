@@ -1,9 +1,9 @@
-ghost use Rattle.std.specs.Prelude.{◌≡◌, ◌+◌, ◌<◌, ◌≤◌, [], IfSome, List, OnOk};
+ghost use Rattle.std.specs.Prelude.{◌≡◌, ◌+◌, ◌<◌, ◌≤◌, [], true, IfSome, List, OnOk};
 ghost use Rattle.rw_sets.specs.declared.access.Access.TheVariants.{Read, Write};
 ghost use Rattle.rw_sets.specs.declared.access.Access.{Access};
 ghost use Rattle.rw_sets.specs.Accesses.{excludes};
 ghost use Rattle.kdg_graph.specs.Node.{Node};
-ghost use Rattle.kdg_graph.specs.Nodes.{HasNode, ids_of, node_at};
+ghost use Rattle.kdg_graph.specs.Nodes.{HasNode, earlier_than, ids_of, later_than, node_at};
 ghost use Rattle.kdg_graph.specs.Locations.{IsLaneAmong, ids_for, put_if, room_in, without_if};
 
 use crate::NodeId;
@@ -12,6 +12,13 @@ use crate::ordered_nodes::OrderedNodes;
 use kdg_text::NoRoom;
 use rw_sets::Access;
 use std::alloc::Global;
+
+/// Whether no earlier node names a location that a node names, and whether no later one does.
+#[derive(Clone, Copy)]
+pub(crate) struct Ends {
+    pub(crate) first: bool,
+    pub(crate) last: bool,
+}
 
 /// The nodes whose recorded sets name one location, and those of them that write it, in key order.
 #[derive(Drop)]
@@ -55,16 +62,24 @@ impl Location {
         self.writers.reserve(additional)
     }
 
-    /// Files a node, where `reserve` made room. It takes no memory.
-    pub(crate) fn enter(&mut self, nodes: &OrderedNodes, id: NodeId, access: Access)
+    /// Files a node, where `reserve` made room, and tells whether it is the first and the last here. It
+    /// takes no memory.
+    pub(crate) fn enter(&mut self, nodes: &OrderedNodes, id: NodeId, access: Access) -> Ends
         requires there { HasNode nodes.now.nodes id }
         requires room { 1 ≤ room_in self.old }
         ensures lanes { (other : Access) (some : List Node) → IsLaneAmong nodes.now.nodes some (ids_for other self.old) → IfSome (node_at nodes.now.nodes id) (λ node. ids_for other self.new ≡ ids_of (put_if (excludes other access) node some)) }
+        ensures first { (some : List Node) → IsLaneAmong nodes.now.nodes some (ids_for Write self.old) → IfSome (node_at nodes.now.nodes id) (λ node. result.first ≡ true → earlier_than node.task.key some ≡ []) }
+        ensures last { (some : List Node) → IsLaneAmong nodes.now.nodes some (ids_for Write self.old) → IfSome (node_at nodes.now.nodes id) (λ node. result.last ≡ true → later_than node.task.key some ≡ []) }
         ensures room { room_in self.old ≤ room_in self.new + 1 }
     {
-        nodes.put_into(&mut self.named, id);
+        let others = self.named.len();
+        let place = nodes.put_into(&mut self.named, id);
         if access.is_write() {
-            nodes.put_into(&mut self.writers, id);
+            let _ = nodes.put_into(&mut self.writers, id);
+        }
+        Ends {
+            first: place == 0,
+            last: place == others,
         }
     }
 

@@ -1,9 +1,10 @@
-ghost use Rattle.std.specs.Prelude.{◌≡◌, ◌==◌, ◌-◌, ◌≤◌, ◌<◌, ◌+◌, ℕ, [], take, drop, filter, length, slice_index_or, Some, OnOk, IfNone, IfSome};
+ghost use Rattle.std.specs.Prelude.{◌≡◌, ◌==◌, ◌-◌, ◌≤◌, ◌<◌, ◌+◌, ℕ, [], take, drop, filter, length, slice_index_or, true, false, Some, OnOk, IfNone, IfSome};
 ghost use Rattle.rw_sets.specs.declared.access.Access.TheVariants.{Read};
 ghost use Rattle.rw_sets.specs.Accesses.{access_at, conflicts_with};
 ghost use Rattle.kdg_graph.specs.Exchange.{AreFiledWith, midway};
 ghost use Rattle.kdg_graph.specs.Nodes.{HasKey, HasNode, IsGraph, ids_of, least_of, later_than, node_at};
 ghost use Rattle.kdg_graph.specs.Edges.{is_blocked};
+ghost use Rattle.kdg_graph.specs.Fronts.{fronts_after};
 ghost use Rattle.kdg_graph.specs.Lanes.{IsRankPast};
 ghost use Rattle.kdg_graph.specs.Locations.{AreFiled, HasRoom, HaveNoLess, HaveSameLanes, clashing_at, front_after, is_first_before, lane_of, room_at, rooms_of};
 ghost use Rattle.kdg_graph.specs.Rewrite.{without};
@@ -11,7 +12,7 @@ ghost use Rattle.kdg_graph.specs.Rewrite.{without};
 use crate::NodeId;
 use crate::exchange::SetWalk;
 use crate::lane::Lane;
-use crate::location::Location;
+use crate::location::{Ends, Location};
 use crate::ordered_nodes::OrderedNodes;
 use kdg_text::NoRoom;
 use rw_sets::{Access, RwSet, conflict_laws};
@@ -49,19 +50,28 @@ impl Locations {
     }
 
     /// Files a node that stands among the nodes, where `reserve` made room at each location of its
-    /// set. It takes no memory.
-    pub(crate) fn enter(&mut self, nodes: &OrderedNodes, id: NodeId)
+    /// set, and tells whether it is the first and the last at all of them: then nothing blocks it, and
+    /// it blocks nothing. It takes no memory.
+    pub(crate) fn enter(&mut self, nodes: &OrderedNodes, id: NodeId) -> Ends
         requires there { HasNode nodes.now.nodes id }
         requires room { IfSome (node_at nodes.now.nodes id) (λ node. HasRoom 1 node.set (rooms_of self.old.locations.items)) }
         requires filed { AreFiled (without id nodes.now.nodes) self.old.locations.items }
         ensures filed { AreFiled nodes.now.nodes self.new.locations.items }
+        ensures first { IfSome (node_at nodes.now.nodes id) (λ node. result.first ≡ true → is_blocked nodes.now.nodes node ≡ false) }
+        ensures last { IfSome (node_at nodes.now.nodes id) (λ node. result.last ≡ true → fronts_after node.set node.task.key nodes.now.nodes ≡ []) }
         ensures room { (loc : ℕ) → room_at (rooms_of self.old.locations.items) loc ≤ room_at (rooms_of self.new.locations.items) loc + 1 }
     {
+        conflict_laws();
         let _graph = nodes.len();
         let node = nodes.entry(id);
+        let mut first = true;
+        let mut last = true;
         for pair in node.set.items() {
-            self.locations[pair.0 as usize].enter(nodes, id, pair.1);
+            let here = self.locations[pair.0 as usize].enter(nodes, id, pair.1);
+            first &= here.first;
+            last &= here.last;
         }
+        Ends { first, last }
     }
 
     /// Files a node that stands among the nodes no more. It takes no memory.
@@ -124,7 +134,7 @@ impl Locations {
             if walk.has(pair.0, pair.1) {
                 continue;
             }
-            self.locations[pair.0 as usize].enter(nodes, id, pair.1);
+            let _ = self.locations[pair.0 as usize].enter(nodes, id, pair.1);
         }
     }
 

@@ -190,10 +190,11 @@ impl NodeList {
     {
         let id = self.nodes.put(task, set);
         enter_order(&mut self.order, &self.nodes, id);
-        self.locations.enter(&self.nodes, id);
-        let node = self.nodes.entry(id);
-        self.sources.refresh(&self.nodes, &self.locations, id);
-        self.sources.forget_fronts(&self.nodes, &self.locations, id, &node.set, &node.task.key);
+        let ends = self.locations.enter(&self.nodes, id);
+        self.sources
+            .enter(&self.nodes, &self.locations, id, ends.first);
+        self.sources
+            .forget_behind(&self.nodes, &self.locations, id, ends.last);
         id
     }
 
@@ -327,7 +328,7 @@ fn enter_order(order: &mut Option<Lane>, nodes: &OrderedNodes, id: NodeId)
 {
     let _graph = nodes.len();
     if let Some(lane) = order {
-        nodes.put_into(lane, id);
+        let _ = nodes.put_into(lane, id);
     }
 }
 

@@ -160,17 +160,19 @@ impl OrderedNodes {
         }
     }
 
-    /// Puts a node into a list of ids in key order, which has room for it.
-    pub(crate) fn put_into(&self, lane: &mut Lane, id: NodeId)
+    /// Puts a node into a list of ids in key order, which has room for it, and tells its place there.
+    pub(crate) fn put_into(&self, lane: &mut Lane, id: NodeId) -> usize
         requires there { HasNode self.now.nodes id }
         requires room { length lane.old.ids.items < lane.old.ids.capacity }
         ensures ids { (some : List Node) → IsLaneAmong self.now.nodes some lane.old.ids.items → IfSome (node_at self.now.nodes id) (λ node. lane.new.ids.items ≡ ids_of (put_node node some)) }
+        ensures place { (some : List Node) → IsLaneAmong self.now.nodes some lane.old.ids.items → IfSome (node_at self.now.nodes id) (λ node. IsRank node.task.key some result) }
         ensures room { lane.old.ids.capacity ≤ lane.new.ids.capacity }
         ensures len { length lane.new.ids.items ≡ length lane.old.ids.items + 1 }
     {
         let node = self.entry(id);
         let place = self.rank_among(lane, &node.task.key);
         lane.insert(place, id);
+        place
     }
 
     /// Takes a node out of a list of ids in key order, if it is there.

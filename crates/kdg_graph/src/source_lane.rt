@@ -1,7 +1,8 @@
-ghost use Rattle.std.specs.Prelude.{◌≡◌, ◌∷◌, ◌≤◌, ◌==◌, [], Bool, true, OnOk};
+ghost use Rattle.std.specs.Prelude.{◌≡◌, ◌∷◌, ◌≤◌, ◌==◌, [], Bool, true, false, IfSome, OnOk};
 ghost use Rattle.std.specs.List.{list_any};
 ghost use Rattle.kdg_graph.specs.Node.{Node};
-ghost use Rattle.kdg_graph.specs.Nodes.{HasKey, HasNode, IsGraph, ids_of};
+ghost use Rattle.kdg_graph.specs.Nodes.{HasKey, HasNode, IsGraph, ids_of, node_at};
+ghost use Rattle.kdg_graph.specs.Edges.{is_blocked};
 ghost use Rattle.kdg_graph.specs.Fronts.{fronts_after};
 ghost use Rattle.kdg_graph.specs.Locations.{AreFiled, front_after};
 ghost use Rattle.kdg_graph.specs.Selected.{AreSelected, AreSome, forgotten, refreshed, retested};
@@ -102,7 +103,7 @@ impl SourceLane {
         ensures marks { self.new.marks ≡ self.old.marks }
     {
         if !self.is_listed(id) {
-            nodes.put_into(&mut self.lane, id);
+            let _ = nodes.put_into(&mut self.lane, id);
             self.listed[id.at] = true;
         }
     }
@@ -132,6 +133,58 @@ impl SourceLane {
             self.forget(nodes, id);
         } else {
             self.list(nodes, id);
+        }
+    }
+
+    /// Refreshes a node that came, which nothing blocks where it is known to be first.
+    #[inline(always)]
+    pub(crate) fn enter(
+        &mut self,
+        nodes: &OrderedNodes,
+        locations: &Locations,
+        id: NodeId,
+        first: bool,
+    )
+        requires graph { IsGraph nodes.now.nodes }
+        requires there { HasNode nodes.now.nodes id }
+        requires filed { AreFiled nodes.now.nodes locations.now.locations.items }
+        requires first { IfSome (node_at nodes.now.nodes id) (λ node. first ≡ true → is_blocked nodes.now.nodes node ≡ false) }
+        requires some { AreSome nodes.now.nodes self.old }
+        ensures ids { (test : Node → Bool) → AreSelected nodes.now.nodes test self.old.ids → AreSelected nodes.now.nodes (refreshed nodes.now.nodes (id ∷ []) test) self.new.ids }
+        ensures some { AreSome nodes.now.nodes self.new }
+        ensures room { self.old.room ≤ self.new.room }
+        ensures marks { self.new.marks ≡ self.old.marks }
+    {
+        if first {
+            self.list(nodes, id);
+        } else {
+            self.refresh(nodes, locations, id);
+        }
+    }
+
+    /// Takes the nodes of the fronts behind a node out, unless it is known to be last.
+    #[inline(always)]
+    pub(crate) fn forget_behind(
+        &mut self,
+        nodes: &OrderedNodes,
+        locations: &Locations,
+        id: NodeId,
+        last: bool,
+    )
+        requires graph { IsGraph nodes.now.nodes }
+        requires there { HasNode nodes.now.nodes id }
+        requires filed { AreFiled nodes.now.nodes locations.now.locations.items }
+        requires last { IfSome (node_at nodes.now.nodes id) (λ node. last ≡ true → fronts_after node.set node.task.key nodes.now.nodes ≡ []) }
+        requires some { AreSome nodes.now.nodes self.old }
+        ensures ids { (test : Node → Bool) → AreSelected nodes.now.nodes test self.old.ids
+            → IfSome (node_at nodes.now.nodes id) (λ node. AreSelected nodes.now.nodes (forgotten (ids_of (fronts_after node.set node.task.key nodes.now.nodes)) test) self.new.ids) }
+        ensures some { AreSome nodes.now.nodes self.new }
+        ensures room { self.old.room ≤ self.new.room }
+        ensures marks { self.new.marks ≡ self.old.marks }
+    {
+        if !last {
+            let node = nodes.entry(id);
+            self.forget_fronts(nodes, locations, id, &node.set, &node.task.key);
         }
     }
 

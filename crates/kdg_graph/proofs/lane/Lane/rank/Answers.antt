@@ -1,6 +1,19 @@
-use Rattle.std.proofs.Common.{◌<◌, length, arith}
-use Rattle.kdg_graph.proofs.Searching.{found_ended, gap_ended, inside_tied}
+use Rattle.std.proofs.Common.{◌≡◌, ◌∙◌, ◌<◌, ◌-◌, ap, arith, length, sym}
+use Rattle.kdg_graph.specs.Lanes.{cmp_at}
+use Rattle.kdg_graph.proofs.Ordering.{Less_from_test}
+use Rattle.kdg_graph.proofs.Searching.{all_earlier, found_ended, gap_ended, inside_tied}
 use Rattle.kdg_graph.proofs.lane.Lane.rank.Goals as goal
+use Rattle.kdg_graph.proofs.lane.Lane.rank.Goals.{then-len-eq0-via-then-len-eq0, then-len-eq0-via-else-len-eq0+then-is_lt}
+
+pub returns-then-len-eq0-clause-rank : goal.returns-then-len-eq0-clause-rank
+returns-then-len-eq0-clause-rank c nodes lane =
+    all_earlier c.args.slots.now c.args.key.now nodes c.args.self.now.ids.items c.len-len.result lane c.len-len.ensures.len (λ place is.
+    elim c.then-len-eq0.branch [
+      | then-len-eq0-via-then-len-eq0 w ↦ absurd (omega (arith, is, w.if-len-eq0.true))
+      | then-len-eq0-via-else-len-eq0+then-is_lt w ↦
+          let last : place ≡ c.len-len.result - 1 = omega (arith, is) in
+          ap (cmp_at c.args.slots.now c.args.key.now c.args.self.now.ids.items) last ∙ sym w.compare_at.ensures.order ∙ Less_from_test _ (sym w.is_lt.ensures ∙ w.if-is_lt.true)
+    ])
 
 pub returns-in-Ok-clause-rank : goal.returns-in-Ok-clause-rank
 returns-in-Ok-clause-rank c nodes lane =

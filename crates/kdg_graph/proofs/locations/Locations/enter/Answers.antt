@@ -1,14 +1,19 @@
-use Rattle.std.proofs.Common.{rules, ◌≡◌, ℕ, ◌<◌, ◌≤◌, ◌∙◌, List, Option, Some, cond, add-one, ap, arith, get_or, length, refl, subst, sym, take}
+use Rattle.std.proofs.Common.{rules, ◌≡◌, ℕ, ◌<◌, ◌≤◌, ◌∙◌, List, [], Option, Some, true, false, cond, add-one, ap, arith, below_more, get_or, length, refl, subst, sym, take}
 use Rattle.std.proofs.Math.Seq.{take-length}
+use Rattle.std.proofs.lemmas.Bool.{and_parts}
 use Rattle.std.specs.Prelude.{IfSome, is_some}
 use Rattle.rw_sets.specs.declared.access.Access.{Access}
-use Rattle.rw_sets.specs.declared.access.Access.TheVariants.{Read}
+use Rattle.rw_sets.specs.declared.access.Access.TheVariants.{Read, Write}
 use Rattle.rw_sets.specs.Accesses.{Accesses, IsAscending as IsAscendingSet, access_at}
-use Rattle.kdg_graph.specs.Locations.{HasRoom, clashing_at, room_at, room_in, rooms_of}
+use Rattle.kdg_graph.specs.Edges.{is_blocked}
+use Rattle.kdg_graph.specs.Fronts.{fronts_after}
+use Rattle.kdg_graph.specs.Locations.{HasRoom, IsLaneAmong, clashing_at, ids_for, room_at, room_in, rooms_of}
 use Rattle.kdg_graph.specs.Node.{Node}
-use Rattle.kdg_graph.specs.Nodes.{ids_of, node_at}
+use Rattle.kdg_graph.specs.Nodes.{earlier_than, ids_of, later_than, node_at}
 use Rattle.kdg_graph.specs.Rewrite.{without}
-use Rattle.kdg_graph.proofs.Filing.{again, enter_step, filed_part, room_next, room_step}
+use Rattle.kdg_graph.proofs.Arriving.{each_pair, first_unblocked, last_without_fronts}
+use Rattle.kdg_graph.proofs.Filing.{again, enter_step, filed_part, others_next, room_next, room_step}
+use Rattle.kdg_graph.proofs.Selecting.{at_some}
 use Rattle.kdg_graph.proofs.Shelving.{room_there, within_room}
 use Rattle.kdg_graph.proofs.locations.Locations.enter.Goals as goal
 
@@ -28,8 +33,8 @@ index_mut-requires c =
     let within = within_room c.loop-pair.self.locations.items p.0 (room_next ps i p c.args.self.now.locations.items c.loop-pair.self.locations.items up inside at own c.loop-pair.invariant.room) in
     search (rules, within)
 
-pub enter-requires-clause-room : goal.enter-requires-clause-room
-enter-requires-clause-room c =
+pub enter-here-requires-clause-room : goal.enter-here-requires-clause-room
+enter-here-requires-clause-room c =
     let nodes : List Node = c.args.nodes.now.nodes in
     let node : Node = record { id = c.node.inside.id; task = c.node.inside.task; set = c.node.inside.set; running = c.node.inside.running } in
     let found : node_at nodes c.args.id ≡ Some node = c.entry-node.ensures ∙ ap (λ (n : Node). Some n) (sym c.node.view_is) in
@@ -59,9 +64,20 @@ loop-pair-preserved c =
     let all : HasRoom 1 node.set (rooms_of c.args.self.now.locations.items) = subst (λ (o : Option Node). IfSome o (λ (n : Node). HasRoom 1 n.set (rooms_of c.args.self.now.locations.items))) found c.requires.room in
     let own : HasRoom 1 ps (rooms_of c.args.self.now.locations.items) = subst (λ (l : Accesses). HasRoom 1 l (rooms_of c.args.self.now.locations.items)) (sym c.items-pair-items.ensures.all) all in
     let within = within_room c.loop-pair.self.locations.items p.0 (room_next ps i p c.args.self.now.locations.items c.loop-pair.self.locations.items up inside at own c.loop-pair.invariant.room) in
+    let others : List Node = clashing_at p.0 Write (without c.args.id nodes) in
+    let among : IsLaneAmong nodes others (ids_for Write c.index_mut.result.now) =
+    others_next nodes c.args.id ps i p c.loop-pair.self.locations.items c.index_mut.result.now c.len-graph.ensures.graph up inside at within c.index_mut.ensures.value c.loop-pair.invariant.filed Write in
     record {
-      filed = rw add-one (enter_step nodes c.args.id node ps i p c.loop-pair.self.locations.items c.index_mut.result.now c.enter.new.self c.len-graph.ensures.graph found c.items-pair-items.ensures.all up inside at within c.index_mut.ensures.value c.enter.ensures.lanes c.loop-pair.invariant.filed);
-      room = rw add-one (room_step ps i p c.args.self.now.locations.items c.loop-pair.self.locations.items c.index_mut.result.now c.enter.new.self up inside at within c.index_mut.ensures.value c.enter.ensures.room c.loop-pair.invariant.room);
+      first = λ held is both.
+          let parts = and_parts c.loop-pair.first c.enter-here.result.first both in
+          let here = at_some (λ (n : Node). c.enter-here.result.first ≡ true → earlier_than n.task.key others ≡ []) (node_at nodes c.args.id) held is (c.enter-here.ensures.first others among) in
+          below_more _ _ (c.loop-pair.invariant.first held is parts.0) (here parts.1);
+      last = λ held is both.
+          let parts = and_parts c.loop-pair.last c.enter-here.result.last both in
+          let here = at_some (λ (n : Node). c.enter-here.result.last ≡ true → later_than n.task.key others ≡ []) (node_at nodes c.args.id) held is (c.enter-here.ensures.last others among) in
+          below_more _ _ (c.loop-pair.invariant.last held is parts.0) (here parts.1);
+      filed = rw add-one (enter_step nodes c.args.id node ps i p c.loop-pair.self.locations.items c.index_mut.result.now c.enter-here.new.self c.len-graph.ensures.graph found c.items-pair-items.ensures.all up inside at within c.index_mut.ensures.value c.enter-here.ensures.lanes c.loop-pair.invariant.filed);
+      room = rw add-one (room_step ps i p c.args.self.now.locations.items c.loop-pair.self.locations.items c.index_mut.result.now c.enter-here.new.self up inside at within c.index_mut.ensures.value c.enter-here.ensures.room c.loop-pair.invariant.room);
     }
 
 pub returns-clause-filed : goal.returns-clause-filed
@@ -76,3 +92,26 @@ returns-clause-filed c loc access =
     c.loop-pair.invariant.filed loc access
     ∙ ap (λ (l : Accesses). ids_of (clashing_at loc access (cond (is_some (access_at l loc)) nodes (without c.args.id nodes)))) all
     ∙ ap ids_of (sym (filed_part nodes c.args.id node loc access (access_at node.set loc) c.len-graph.ensures.graph found refl))
+
+pub returns-clause-first : goal.returns-clause-first
+returns-clause-first c =
+    let nodes : List Node = c.args.nodes.now.nodes in
+    let node : Node = record { id = c.node.inside.id; task = c.node.inside.task; set = c.node.inside.set; running = c.node.inside.running } in
+    let found : node_at nodes c.args.id ≡ Some node = c.entry-node.ensures ∙ ap (λ (n : Node). Some n) (sym c.node.view_is) in
+    let ps : Accesses = c.items-pair-items.result.now in
+    let end : length ps ≤ c.loop-pair.pair-index = omega (arith, c.loop-pair-test.false) in
+    let none : ℕ × Access → Type 0 = λ p. earlier_than node.task.key (clashing_at p.0 Write (without c.args.id nodes)) ≡ [] in
+    subst (λ (o : Option Node). IfSome o (λ (n : Node). c.loop-pair.first ≡ true → is_blocked nodes n ≡ false)) (sym found) (λ is.
+    first_unblocked c.conflict_laws.ensures.decided c.conflict_laws.ensures.mutual nodes c.args.id node c.len-graph.ensures.graph c.items-pair-items.ensures.ascending found
+    (each_pair none ps node.set c.loop-pair.pair-index c.items-pair-items.ensures.all end (c.loop-pair.invariant.first node found is)))
+
+pub returns-clause-last : goal.returns-clause-last
+returns-clause-last c =
+    let nodes : List Node = c.args.nodes.now.nodes in
+    let node : Node = record { id = c.node.inside.id; task = c.node.inside.task; set = c.node.inside.set; running = c.node.inside.running } in
+    let found : node_at nodes c.args.id ≡ Some node = c.entry-node.ensures ∙ ap (λ (n : Node). Some n) (sym c.node.view_is) in
+    let ps : Accesses = c.items-pair-items.result.now in
+    let end : length ps ≤ c.loop-pair.pair-index = omega (arith, c.loop-pair-test.false) in
+    let none : ℕ × Access → Type 0 = λ p. later_than node.task.key (clashing_at p.0 Write (without c.args.id nodes)) ≡ [] in
+    subst (λ (o : Option Node). IfSome o (λ (n : Node). c.loop-pair.last ≡ true → fronts_after n.set n.task.key nodes ≡ [])) (sym found) (λ is.
+    last_without_fronts nodes c.args.id node c.len-graph.ensures.graph found (each_pair none ps node.set c.loop-pair.pair-index c.items-pair-items.ensures.all end (c.loop-pair.invariant.last node found is)))

@@ -2,33 +2,33 @@ use Rattle.std.proofs.Common.{◌≡◌, ◌<◌, ◌∙◌, Bool, List, [], ◌
 use Rattle.std.specs.Prelude.{IfSome}
 use Rattle.kdg_graph.specs.Node.{Node, new_node}
 use Rattle.kdg_graph.specs.NodeStock.{NodeStock}
-use Rattle.kdg_graph.specs.Nodes.{HaveOwnIds, ids_of}
+use Rattle.kdg_graph.specs.Nodes.{HaveOwnIds, ids_of, node_at}
 use Rattle.kdg_graph.specs.Kept.{IsOrder}
 use Rattle.kdg_graph.specs.Fronts.{fronts_after}
 use Rattle.kdg_graph.specs.Locations.{AreFiled, HasRoom, rooms_of}
 use Rattle.kdg_graph.specs.Rewrite.{without}
 use Rattle.kdg_graph.specs.Selected.{AreSelected, HaveMarks, forgotten, is_unblocked, refreshed}
 use Rattle.kdg_graph.proofs.Ordered.{place_left}
-use Rattle.kdg_graph.proofs.Selecting.{but, length-put}
+use Rattle.kdg_graph.proofs.Selecting.{at_some, but, length-put}
 use Rattle.kdg_graph.proofs.Rooms.{keys_have_marks}
-use Rattle.kdg_graph.proofs.Settling.{found_put, marks_put, same_found_put, select_but, settled_put, without_put}
+use Rattle.kdg_graph.proofs.Settling.{found_put, marks_put, select_but, settled_put, without_put}
 use Rattle.kdg_graph.proofs.node_list.NodeList.put.Goals as goal
 
-pub enter-requires-clause-room : goal.enter-requires-clause-room
-enter-requires-clause-room c =
+pub enter-ends-requires-clause-room : goal.enter-ends-requires-clause-room
+enter-ends-requires-clause-room c =
     let node : Node = new_node c.put-id.result c.args.task c.args.set in
     let room : HasRoom 1 c.args.set (rooms_of c.self.inside.locations.locations.items) = subst (λ (stock : NodeStock). HasRoom 1 c.args.set stock.rooms) (sym c.self.view_is) c.requires.rooms in
     subst (λ (o : Option Node). IfSome o (λ (n : Node). HasRoom 1 n.set (rooms_of c.self.inside.locations.locations.items))) (sym (found_put node c.self.inside.nodes.nodes c.put-id.new.self.nodes c.put-id.ensures.nodes c.put-id.ensures.graph)) room
 
-pub enter-requires-clause-filed : goal.enter-requires-clause-filed
-enter-requires-clause-filed c =
+pub enter-ends-requires-clause-filed : goal.enter-ends-requires-clause-filed
+enter-ends-requires-clause-filed c =
     let nodes : List Node = c.self.inside.nodes.nodes in
     let node : Node = new_node c.put-id.result c.args.task c.args.set in
     let left : without c.put-id.result c.put-id.new.self.nodes ≡ nodes = ap (without c.put-id.result) c.put-id.ensures.nodes ∙ without_put node nodes (subst HaveOwnIds c.put-id.ensures.nodes c.put-id.ensures.graph.own_ids) in
     subst (λ (l : List Node). AreFiled l c.self.inside.locations.locations.items) (sym left) c.self.invariant.0.filed
 
-pub refresh-requires-clause-some : goal.refresh-requires-clause-some
-refresh-requires-clause-some c =
+pub enter-requires-clause-some : goal.enter-requires-clause-some
+enter-requires-clause-some c =
     let nodes : List Node = c.self.inside.nodes.nodes in
     let node : Node = new_node c.put-id.result c.args.task c.args.set in
     let left : without c.put-id.result c.put-id.new.self.nodes ≡ nodes = ap (without c.put-id.result) c.put-id.ensures.nodes ∙ without_put node nodes (subst HaveOwnIds c.put-id.ensures.nodes c.put-id.ensures.graph.own_ids) in
@@ -50,16 +50,15 @@ invariant_of-self c =
     let left : without c.put-id.result now ≡ nodes = ap (without c.put-id.result) c.put-id.ensures.nodes ∙ without_put node nodes (subst HaveOwnIds c.put-id.ensures.nodes c.put-id.ensures.graph.own_ids) in
     let others = select_but now (is_unblocked nodes) c.put-id.result c.self.inside.sources.ids (subst (λ (l : List Node). AreSelected l (is_unblocked nodes) c.self.inside.sources.ids) (sym left) c.self.invariant.0.unblocked_are) in
     let first : Node → Bool = refreshed now (c.put-id.result ∷ []) (but c.put-id.result (is_unblocked nodes)) in
-    let entry : Node = record { id = c.node.inside.id; task = c.node.inside.task; set = c.node.inside.set; running = c.node.inside.running } in
-    let all : AreSelected now (forgotten (ids_of (fronts_after entry.set entry.task.key now)) first) c.forget_fronts.new.self.ids = c.forget_fronts.ensures.ids first (c.refresh.ensures.ids (but c.put-id.result (is_unblocked nodes)) others) in
-    let same : entry ≡ node = c.node.view_is ∙ same_found_put node c.entry-node.result.now nodes now c.put-id.ensures.nodes c.put-id.ensures.graph c.entry-node.ensures in (
+    let all : AreSelected now (forgotten (ids_of (fronts_after node.set node.task.key now)) first) c.forget_behind.new.self.ids =
+    at_some (λ (n : Node). AreSelected now (forgotten (ids_of (fronts_after n.set n.task.key now)) first) c.forget_behind.new.self.ids) (node_at now c.put-id.result) node (found_put node nodes now c.put-id.ensures.nodes c.put-id.ensures.graph)
+    (c.forget_behind.ensures.ids first (c.enter.ensures.ids (but c.put-id.result (is_unblocked nodes)) others)) in (
       record {
         graph = c.put-id.ensures.graph;
-        filed = c.enter.ensures.filed;
-        unblocked_are = settled_put node nodes now [] (is_unblocked nodes) c.forget_fronts.new.self.ids c.self.invariant.0.graph.ascending c.put-id.ensures.graph c.put-id.ensures.nodes (λ n _ _. refl)
-            (subst (λ (n : Node). AreSelected now (forgotten (ids_of (fronts_after n.set n.task.key now)) first) c.forget_fronts.new.self.ids) same all);
-        room = c.forget_fronts.ensures.some.room;
-        marks = c.forget_fronts.ensures.some.marks;
+        filed = c.enter-ends.ensures.filed;
+        unblocked_are = settled_put node nodes now [] (is_unblocked nodes) c.forget_behind.new.self.ids c.self.invariant.0.graph.ascending c.put-id.ensures.graph c.put-id.ensures.nodes (λ n _ _. refl) all;
+        room = c.forget_behind.ensures.some.room;
+        marks = c.forget_behind.ensures.some.marks;
       },
       c.enter_order.ensures.order,
     )
@@ -85,4 +84,4 @@ pub returns-clause-marks : goal.returns-clause-marks
 returns-clause-marks c =
     let long = ap length c.put-id.ensures.nodes ∙ length-put (new_node c.put-id.result c.args.task c.args.set) c.self.inside.nodes.nodes in
     let marks = ap (λ (stock : NodeStock). stock.marks) c.self.view_is in
-    omega (arith, long, marks, c.requires.marks, c.refresh.ensures.room, c.forget_fronts.ensures.room)
+    omega (arith, long, marks, c.requires.marks, c.enter.ensures.room, c.forget_behind.ensures.room)
