@@ -31,3 +31,4 @@ pub mod Exchanging
 pub mod Searching
 pub mod Sought
 pub mod Arriving
+pub mod Leaving

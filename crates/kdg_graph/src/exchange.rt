@@ -72,6 +72,6 @@ pub(crate) fn refresh_lacking(
         if walk.has(pair.0, pair.1) {
             continue;
         }
-        sources.refresh_front(nodes, locations, pair.0, pair.1, key);
+        sources.refresh_front(nodes, locations, pair.0, pair.1, key, false);
     }
 }

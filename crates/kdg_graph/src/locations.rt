@@ -1,12 +1,13 @@
-ghost use Rattle.std.specs.Prelude.{◌≡◌, ◌==◌, ◌-◌, ◌≤◌, ◌<◌, ◌+◌, ℕ, [], take, drop, filter, length, slice_index_or, true, false, Some, OnOk, IfNone, IfSome};
+ghost use Rattle.std.specs.Prelude.{◌≡◌, ◌==◌, ◌-◌, ◌≤◌, ◌<◌, ◌+◌, ℕ, List, [], take, drop, filter, length, slice_index_or, true, false, Some, OnOk, IfNone, IfSome};
 ghost use Rattle.rw_sets.specs.declared.access.Access.TheVariants.{Read};
 ghost use Rattle.rw_sets.specs.Accesses.{access_at, conflicts_with};
 ghost use Rattle.kdg_graph.specs.Exchange.{AreFiledWith, midway};
+ghost use Rattle.kdg_graph.specs.Node.{Node};
 ghost use Rattle.kdg_graph.specs.Nodes.{HasKey, HasNode, IsGraph, ids_of, least_of, later_than, node_at};
 ghost use Rattle.kdg_graph.specs.Edges.{is_blocked};
 ghost use Rattle.kdg_graph.specs.Fronts.{fronts_after};
 ghost use Rattle.kdg_graph.specs.Lanes.{IsRankPast};
-ghost use Rattle.kdg_graph.specs.Locations.{AreFiled, HasRoom, HaveNoLess, HaveSameLanes, clashing_at, front_after, is_first_before, lane_of, room_at, rooms_of};
+ghost use Rattle.kdg_graph.specs.Locations.{AreFiled, HasRoom, HaveNoLess, HaveSameLanes, IsLaneAmong, clashing_at, front_after, is_first_before, lane_of, room_at, rooms_of};
 ghost use Rattle.kdg_graph.specs.Rewrite.{without};
 
 use crate::NodeId;
@@ -157,14 +158,17 @@ impl Locations {
     }
 
     /// The places, among the nodes that an access to a location clashes with, of those later than the
-    /// key up to the first that writes the location, and this one.
+    /// key up to the first that writes the location, and this one. `first` tells whether it is known
+    /// that all are later.
     pub(crate) fn front(
         &self,
         nodes: &OrderedNodes,
         loc: u32,
         access: Access,
         key: &Key,
+        first: bool,
     ) -> Range<usize>
+        requires first { first ≡ true → IsRankPast key.now (clashing_at loc access nodes.now.nodes) 0 }
         requires filed { AreFiled nodes.now.nodes self.now.locations.items }
         ensures ordered { result.start ≤ result.end }
         ensures inside { result.end ≤ length (lane_of self.now.locations.items loc access) }
@@ -172,7 +176,8 @@ impl Locations {
     {
         match self.lane(loc, access) {
             Some(lane) => {
-                self.front_from(nodes, lane, loc, access, key, nodes.rank_past(lane, key))
+                let start = rank_known(nodes, lane, key, first);
+                self.front_from(nodes, lane, loc, access, key, start)
             }
             None => 0..0,
         }
@@ -411,4 +416,19 @@ impl Locations {
         }
         Ok(())
     }
+}
+
+/// How many of some of the nodes, by their ids in key order, are not later than the key: none, with no
+/// key compared, where it is known that all are later.
+#[inline(always)]
+fn rank_known(nodes: &OrderedNodes, lane: &Lane, key: &Key, first: bool) -> usize
+    ensures rank { (some : List Node) → IsLaneAmong nodes.now.nodes some lane.now.ids.items → (first ≡ true → IsRankPast key.now some 0) → IsRankPast key.now some result }
+    ensures graph { IsGraph nodes.now.nodes }
+    ensures inside { result ≤ length lane.now.ids.items }
+{
+    let _graph = nodes.len();
+    if first {
+        return 0;
+    }
+    nodes.rank_past(lane, key)
 }

@@ -18,7 +18,7 @@ use crate::room::{reserve_changed, reserve_fresh};
 use crate::source_lane::SourceLane;
 use crate::{Fresh, NodeId, SetChange, Sources};
 use kdg_text::NoRoom;
-use rw_sets::{RwSet, lookup_laws};
+use rw_sets::{RwSet, conflict_laws, lookup_laws};
 use std::alloc::Global;
 use std::marker::Model;
 use task_order::{Key, Task};
@@ -209,12 +209,20 @@ impl NodeList {
         ensures rooms { HaveNoLess self.old.rooms self.new.rooms }
         ensures graph { IsGraph self.new.nodes }
     {
+        conflict_laws();
+        let unblocked = self.sources.is_listed(id);
         self.sources.forget(&self.nodes, id);
         self.locations.leave(&self.nodes, id);
         leave_order(&mut self.order, &self.nodes, id);
         let node = self.nodes.remove(id);
-        self.sources
-            .refresh_fronts(&self.nodes, &self.locations, &node.set, &node.task.key);
+        // No node that an unblocked one clashes with is earlier.
+        self.sources.refresh_fronts(
+            &self.nodes,
+            &self.locations,
+            &node.set,
+            &node.task.key,
+            unblocked,
+        );
         node.task
     }
 

@@ -1,10 +1,11 @@
 ghost use Rattle.std.specs.Prelude.{◌≡◌, ◌∷◌, ◌≤◌, ◌==◌, [], Bool, true, false, IfSome, OnOk};
-ghost use Rattle.std.specs.List.{list_any};
+ghost use Rattle.std.specs.List.{AllByRecursion, list_any};
 ghost use Rattle.kdg_graph.specs.Node.{Node};
 ghost use Rattle.kdg_graph.specs.Nodes.{HasKey, HasNode, IsGraph, ids_of, node_at};
 ghost use Rattle.kdg_graph.specs.Edges.{is_blocked};
 ghost use Rattle.kdg_graph.specs.Fronts.{fronts_after};
-ghost use Rattle.kdg_graph.specs.Locations.{AreFiled, front_after};
+ghost use Rattle.kdg_graph.specs.Lanes.{IsRankPast};
+ghost use Rattle.kdg_graph.specs.Locations.{AreFiled, clashing_at, front_after};
 ghost use Rattle.kdg_graph.specs.Selected.{AreSelected, AreSome, forgotten, refreshed, retested};
 
 use crate::NodeId;
@@ -109,7 +110,7 @@ impl SourceLane {
     }
 
     /// Whether an id is there.
-    fn is_listed(&self, id: NodeId) -> bool
+    pub(crate) fn is_listed(&self, id: NodeId) -> bool
         ensures { result ≡ list_any (λ other. id.at == other.at) self.now.ids }
     {
         match self.listed.get(id.at) {
@@ -188,7 +189,8 @@ impl SourceLane {
         }
     }
 
-    /// Refreshes the nodes of the front behind a key at one location.
+    /// Refreshes the nodes of the front behind a key at one location. `first` tells whether it is known
+    /// that all nodes that the access clashes with are later.
     pub(crate) fn refresh_front(
         &mut self,
         nodes: &OrderedNodes,
@@ -196,8 +198,10 @@ impl SourceLane {
         loc: u32,
         access: Access,
         key: &Key,
+        first: bool,
     )
         requires graph { IsGraph nodes.now.nodes }
+        requires first { first ≡ true → IsRankPast key.now (clashing_at loc access nodes.now.nodes) 0 }
         requires filed { AreFiled nodes.now.nodes locations.now.locations.items }
         requires some { AreSome nodes.now.nodes self.old }
         ensures ids { (test : Node → Bool) → AreSelected nodes.now.nodes test self.old.ids
@@ -206,21 +210,24 @@ impl SourceLane {
         ensures room { self.old.room ≤ self.new.room }
         ensures marks { self.new.marks ≡ self.old.marks }
     {
-        let front = locations.front(nodes, loc, access, key);
+        let front = locations.front(nodes, loc, access, key, first);
         for place in front.start..front.end {
             self.refresh(nodes, locations, locations.at(loc, access, place));
         }
     }
 
-    /// Refreshes the nodes of the fronts behind a key at the locations of a set.
+    /// Refreshes the nodes of the fronts behind a key at the locations of a set. `first` tells whether
+    /// it is known that all nodes that its accesses clash with are later.
     pub(crate) fn refresh_fronts(
         &mut self,
         nodes: &OrderedNodes,
         locations: &Locations,
         set: &RwSet,
         key: &Key,
+        first: bool,
     )
         requires graph { IsGraph nodes.now.nodes }
+        requires first { first ≡ true → AllByRecursion (λ p. IsRankPast key.now (clashing_at p.0 p.1 nodes.now.nodes) 0) set.now }
         requires filed { AreFiled nodes.now.nodes locations.now.locations.items }
         requires some { AreSome nodes.now.nodes self.old }
         ensures ids { (test : Node → Bool) → AreSelected nodes.now.nodes test self.old.ids
@@ -230,7 +237,7 @@ impl SourceLane {
         ensures marks { self.new.marks ≡ self.old.marks }
     {
         for pair in set.items() {
-            self.refresh_front(nodes, locations, pair.0, pair.1, key);
+            self.refresh_front(nodes, locations, pair.0, pair.1, key, first);
         }
     }
 

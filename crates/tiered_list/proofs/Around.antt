@@ -86,9 +86,9 @@ module _ {X : Type 0} where
   pub length-parts : (front items back : List X) → length (front ++ (items ++ back)) ≡ length front + length items + length back
   length-parts front items back = omega (arith, length-append front (items ++ back), length-append items back)
 
-  pub length-all : (front back : List X) (tiers : List (List X)) → AllByRecursion IsFull tiers → length (front ++ (items_in tiers ++ back)) ≡ length front + 256 * length tiers + length back
+  pub length-all : (front back : List X) (tiers : List (List X)) → AllByRecursion IsFull tiers → length (front ++ (items_in tiers ++ back)) ≡ length front + 128 * length tiers + length back
   length-all front back tiers full = omega (arith, length-parts front (items_in tiers) back, length-items_in tiers full)
 
   -- where there is room for one more item and one of the two at the ends is full, there is a spare tier
-  pub some_spare : (state : TiersState X) → AllByRecursion IsFull state.middle → 256 ≤ length state.front + length state.back → length (all_items state) < room_for state → 0 < state.spare
+  pub some_spare : (state : TiersState X) → AllByRecursion IsFull state.middle → 128 ≤ length state.front + length state.back → length (all_items state) < room_for state → 0 < state.spare
   some_spare state full long room = omega (arith, long, room, length-all state.front state.back state.middle full)

@@ -33,17 +33,17 @@ module _ {X : Type 0} where
 
   -- ---- full tiers
 
-  pub full_at : (tiers : List (List X)) (at : ℕ) → AllByRecursion IsFull tiers → at < length tiers → length (get_or tiers at []) ≡ 256
+  pub full_at : (tiers : List (List X)) (at : ℕ) → AllByRecursion IsFull tiers → at < length tiers → length (get_or tiers at []) ≡ 128
   full_at [] at full inside = absurd (omega (arith, inside))
   full_at (tier ∷ tiers) zero full inside = full.0
   full_at (tier ∷ tiers) (suc at) full inside = full_at tiers at full.1 (omega (arith, inside))
 
-  pub full-set : (tiers : List (List X)) (at : ℕ) (tier : List X) → AllByRecursion IsFull tiers → length tier ≡ 256 → AllByRecursion IsFull (set tiers at tier)
+  pub full-set : (tiers : List (List X)) (at : ℕ) (tier : List X) → AllByRecursion IsFull tiers → length tier ≡ 128 → AllByRecursion IsFull (set tiers at tier)
   full-set [] at tier full one = full
   full-set (old ∷ tiers) zero tier full one = (one, full.1)
   full-set (old ∷ tiers) (suc at) tier full one = (full.0, full-set tiers at tier full.1 one)
 
-  pub length-items_in : (tiers : List (List X)) → AllByRecursion IsFull tiers → length (items_in tiers) ≡ 256 * length tiers
+  pub length-items_in : (tiers : List (List X)) → AllByRecursion IsFull tiers → length (items_in tiers) ≡ 128 * length tiers
   length-items_in [] full = refl
   length-items_in (tier ∷ tiers) full = omega (arith, length-append tier (items_in tiers), length-items_in tiers full.1, full.0)
 
@@ -56,7 +56,7 @@ module _ {X : Type 0} where
 
   -- ---- an item put in at a place
 
-  pub put_forward : (tiers : List (List X)) (at place n : ℕ) (tier : List X) (item last : X) → AllByRecursion IsFull tiers → at < length tiers → place < 256 → n ≡ 256 * at + place → insert (get_or tiers at []) place item ≡ tier ++ last ∷ []
+  pub put_forward : (tiers : List (List X)) (at place n : ℕ) (tier : List X) (item last : X) → AllByRecursion IsFull tiers → at < length tiers → place < 128 → n ≡ 128 * at + place → insert (get_or tiers at []) place item ≡ tier ++ last ∷ []
       → items_with (set tiers at tier) (suc at) last ≡ insert (items_in tiers) n item
   put_forward [] at place n tier item last full inside within is put = absurd (omega (arith, inside))
   put_forward (old ∷ tiers) zero place n tier item last full inside within is put =
@@ -67,10 +67,10 @@ module _ {X : Type 0} where
       ∙ sym (insert-append_left old (items_in tiers) place item (omega (arith, full.0, within)))
       ∙ ap (λ k. insert (old ++ items_in tiers) k item) here
   put_forward (old ∷ tiers) (suc at) place n tier item last full inside within is put =
-      ap (λ l. old ++ l) (put_forward tiers at place (n - 256) tier item last full.1 (omega (arith, inside)) within (omega (arith, is)) put)
-      ∙ sym (insert-append_right old (items_in tiers) 256 n item full.0 (omega (arith, is)))
+      ap (λ l. old ++ l) (put_forward tiers at place (n - 128) tier item last full.1 (omega (arith, inside)) within (omega (arith, is)) put)
+      ∙ sym (insert-append_right old (items_in tiers) 128 n item full.0 (omega (arith, is)))
 
-  pub put_backward : (tiers : List (List X)) (at place n : ℕ) (tier : List X) (item first : X) → AllByRecursion IsFull tiers → at < length tiers → place < 256 → n ≡ 256 * at + place → insert (get_or tiers at []) place item ≡ first ∷ tier
+  pub put_backward : (tiers : List (List X)) (at place n : ℕ) (tier : List X) (item first : X) → AllByRecursion IsFull tiers → at < length tiers → place < 128 → n ≡ 128 * at + place → insert (get_or tiers at []) place item ≡ first ∷ tier
       → items_with (set tiers at tier) at first ≡ insert (items_in tiers) n item
   put_backward [] at place n tier item first full inside within is put = absurd (omega (arith, inside))
   put_backward (old ∷ tiers) zero place n tier item first full inside within is put =
@@ -79,11 +79,11 @@ module _ {X : Type 0} where
       ∙ sym (insert-append_left old (items_in tiers) place item (omega (arith, full.0, within)))
       ∙ ap (λ k. insert (old ++ items_in tiers) k item) here
   put_backward (old ∷ tiers) (suc at) place n tier item first full inside within is put =
-      ap (λ l. old ++ l) (put_backward tiers at place (n - 256) tier item first full.1 (omega (arith, inside)) within (omega (arith, is)) put)
-      ∙ sym (insert-append_right old (items_in tiers) 256 n item full.0 (omega (arith, is)))
+      ap (λ l. old ++ l) (put_backward tiers at place (n - 128) tier item first full.1 (omega (arith, inside)) within (omega (arith, is)) put)
+      ∙ sym (insert-append_right old (items_in tiers) 128 n item full.0 (omega (arith, is)))
 
   -- at the start of a tier
-  pub put_at_start : (tiers : List (List X)) (at n : ℕ) (item : X) → AllByRecursion IsFull tiers → at < length tiers → n ≡ 256 * at → items_with tiers at item ≡ insert (items_in tiers) n item
+  pub put_at_start : (tiers : List (List X)) (at n : ℕ) (item : X) → AllByRecursion IsFull tiers → at < length tiers → n ≡ 128 * at → items_with tiers at item ≡ insert (items_in tiers) n item
   put_at_start tiers at n item full inside is =
       ap (λ all. items_with all at item) (sym (set-get_or tiers at []))
       ∙ put_backward tiers at 0 n (get_or tiers at []) item item full inside (omega arith) (omega (arith, is)) refl
@@ -102,49 +102,49 @@ module _ {X : Type 0} where
       let same : i - (n - 1) ≡ suc i - n = omega (arith, is, behind) in
       slice_get-append_right xs ys (n - 1) i (omega (arith, is)) (omega (arith, behind)) ∙ ap (slice_get ys) same
 
-  pub read_in_tier : (tiers : List (List X)) (at place n : ℕ) → AllByRecursion IsFull tiers → at < length tiers → place < 256 → n ≡ 256 * at + place → slice_get (items_in tiers) n ≡ slice_get (get_or tiers at []) place
+  pub read_in_tier : (tiers : List (List X)) (at place n : ℕ) → AllByRecursion IsFull tiers → at < length tiers → place < 128 → n ≡ 128 * at + place → slice_get (items_in tiers) n ≡ slice_get (get_or tiers at []) place
   read_in_tier [] at place n full inside within is = absurd (omega (arith, inside))
   read_in_tier (tier ∷ tiers) zero place n full inside within is =
       let here : n ≡ place = omega (arith, is) in
       ap (slice_get (tier ++ items_in tiers)) here ∙ slice_get-append_left tier (items_in tiers) place (omega (arith, full.0, within))
   read_in_tier (tier ∷ tiers) (suc at) place n full inside within is =
-      slice_get-append_right tier (items_in tiers) 256 n full.0 (omega (arith, is))
-      ∙ read_in_tier tiers at place (n - 256) full.1 (omega (arith, inside)) within (omega (arith, is))
+      slice_get-append_right tier (items_in tiers) 128 n full.0 (omega (arith, is))
+      ∙ read_in_tier tiers at place (n - 128) full.1 (omega (arith, inside)) within (omega (arith, is))
 
   -- where another item stands before the tier
-  pub read_behind : (tiers : List (List X)) (at place n : ℕ) (item : X) → AllByRecursion IsFull tiers → at < length tiers → place < 256 → n ≡ 256 * at + place → slice_get (items_with tiers at item) (suc n) ≡ slice_get (get_or tiers at []) place
+  pub read_behind : (tiers : List (List X)) (at place n : ℕ) (item : X) → AllByRecursion IsFull tiers → at < length tiers → place < 128 → n ≡ 128 * at + place → slice_get (items_with tiers at item) (suc n) ≡ slice_get (get_or tiers at []) place
   read_behind [] at place n item full inside within is = absurd (omega (arith, inside))
   read_behind (tier ∷ tiers) zero place n item full inside within is =
       let here : n ≡ place = omega (arith, is) in
       ap (slice_get (tier ++ items_in tiers)) here ∙ slice_get-append_left tier (items_in tiers) place (omega (arith, full.0, within))
   read_behind (tier ∷ tiers) (suc at) place n item full inside within is =
-      let next : suc n - 256 ≡ suc (n - 256) = omega (arith, is) in
-      slice_get-append_right tier (items_with tiers at item) 256 (suc n) full.0 (omega (arith, is))
+      let next : suc n - 128 ≡ suc (n - 128) = omega (arith, is) in
+      slice_get-append_right tier (items_with tiers at item) 128 (suc n) full.0 (omega (arith, is))
       ∙ ap (slice_get (items_with tiers at item)) next
-      ∙ read_behind tiers at place (n - 256) item full.1 (omega (arith, inside)) within (omega (arith, is))
+      ∙ read_behind tiers at place (n - 128) item full.1 (omega (arith, inside)) within (omega (arith, is))
 
-  pub taken_behind : (tiers : List (List X)) (at place n : ℕ) (item : X) → AllByRecursion IsFull tiers → at < length tiers → place < 256 → n ≡ 256 * at + place
+  pub taken_behind : (tiers : List (List X)) (at place n : ℕ) (item : X) → AllByRecursion IsFull tiers → at < length tiers → place < 128 → n ≡ 128 * at + place
       → items_in (set tiers at (item ∷ remove (get_or tiers at []) place)) ≡ remove (items_with tiers at item) (suc n)
   taken_behind [] at place n item full inside within is = absurd (omega (arith, inside))
   taken_behind (tier ∷ tiers) zero place n item full inside within is =
       let here : place ≡ n = omega (arith, is) in
       ap (λ l. item ∷ l) (sym (remove-append_left tier (items_in tiers) place (omega (arith, full.0, within))) ∙ ap (remove (tier ++ items_in tiers)) here)
   taken_behind (tier ∷ tiers) (suc at) place n item full inside within is =
-      let next : suc (n - 256) ≡ suc n - 256 = omega (arith, is) in
-      ap (λ l. tier ++ l) (taken_behind tiers at place (n - 256) item full.1 (omega (arith, inside)) within (omega (arith, is)) ∙ ap (remove (items_with tiers at item)) next)
-      ∙ sym (remove-append_right tier (items_with tiers at item) 256 (suc n) full.0 (omega (arith, is)))
+      let next : suc (n - 128) ≡ suc n - 128 = omega (arith, is) in
+      ap (λ l. tier ++ l) (taken_behind tiers at place (n - 128) item full.1 (omega (arith, inside)) within (omega (arith, is)) ∙ ap (remove (items_with tiers at item)) next)
+      ∙ sym (remove-append_right tier (items_with tiers at item) 128 (suc n) full.0 (omega (arith, is)))
 
   -- where another item stands behind the tier
-  pub read_before : (tiers : List (List X)) (at place n : ℕ) (item : X) → AllByRecursion IsFull tiers → at < length tiers → place < 256 → n ≡ 256 * at + place → slice_get (items_with tiers (suc at) item) n ≡ slice_get (get_or tiers at []) place
+  pub read_before : (tiers : List (List X)) (at place n : ℕ) (item : X) → AllByRecursion IsFull tiers → at < length tiers → place < 128 → n ≡ 128 * at + place → slice_get (items_with tiers (suc at) item) n ≡ slice_get (get_or tiers at []) place
   read_before [] at place n item full inside within is = absurd (omega (arith, inside))
   read_before (tier ∷ tiers) zero place n item full inside within is =
       let here : n ≡ place = omega (arith, is) in
       ap (slice_get (tier ++ items_with tiers 0 item)) here ∙ slice_get-append_left tier (items_with tiers 0 item) place (omega (arith, full.0, within))
   read_before (tier ∷ tiers) (suc at) place n item full inside within is =
-      slice_get-append_right tier (items_with tiers (suc at) item) 256 n full.0 (omega (arith, is))
-      ∙ read_before tiers at place (n - 256) item full.1 (omega (arith, inside)) within (omega (arith, is))
+      slice_get-append_right tier (items_with tiers (suc at) item) 128 n full.0 (omega (arith, is))
+      ∙ read_before tiers at place (n - 128) item full.1 (omega (arith, inside)) within (omega (arith, is))
 
-  pub taken_before : (tiers : List (List X)) (at place n : ℕ) (item : X) → AllByRecursion IsFull tiers → at < length tiers → place < 256 → n ≡ 256 * at + place
+  pub taken_before : (tiers : List (List X)) (at place n : ℕ) (item : X) → AllByRecursion IsFull tiers → at < length tiers → place < 128 → n ≡ 128 * at + place
       → items_in (set tiers at (remove (get_or tiers at []) place ++ item ∷ [])) ≡ remove (items_with tiers (suc at) item) n
   taken_before [] at place n item full inside within is = absurd (omega (arith, inside))
   taken_before (tier ∷ tiers) zero place n item full inside within is =
@@ -154,5 +154,5 @@ module _ {X : Type 0} where
       ∙ sym (remove-append_left tier (items_with tiers 0 item) place (omega (arith, full.0, within)))
       ∙ ap (remove (tier ++ items_with tiers 0 item)) here
   taken_before (tier ∷ tiers) (suc at) place n item full inside within is =
-      ap (λ l. tier ++ l) (taken_before tiers at place (n - 256) item full.1 (omega (arith, inside)) within (omega (arith, is)))
-      ∙ sym (remove-append_right tier (items_with tiers (suc at) item) 256 n full.0 (omega (arith, is)))
+      ap (λ l. tier ++ l) (taken_before tiers at place (n - 128) item full.1 (omega (arith, inside)) within (omega (arith, is)))
+      ∙ sym (remove-append_right tier (items_with tiers (suc at) item) 128 n full.0 (omega (arith, is)))

@@ -5,7 +5,7 @@ use Rattle.std.specs.Coded.{Coded, code_by, coded×, coded_ℕ, coded_list}
 
 -- how many items a full tier has
 abbrev pub full_length : ℕ
-full_length = 256
+full_length = 128
 
 -- how many tiers there may be between the first and the last, with the spare ones
 abbrev pub most_tiers : ℕ

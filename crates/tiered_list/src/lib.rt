@@ -25,7 +25,7 @@ use std::marker::Model;
 ///
 /// A short list is one ring buffer, and an item that comes or goes moves those up to its nearer end. A
 /// long one is a tiered vector (M. T. Goodrich, J. G. Kloss, "Tiered Vectors", WADS 1999): it moves at
-/// most half of the 256 items of a tier, and one of each tier up to the nearer end.
+/// most half of the 128 items of a tier, and one of each tier up to the nearer end.
 #[derive(Drop)]
 pub struct TieredList<T> {
     form: Form<T>,

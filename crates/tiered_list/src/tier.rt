@@ -11,7 +11,7 @@ use std::collections::VecDeque;
 use std::marker::Model;
 
 /// How many items a tier has when it is full.
-pub(crate) const FULL: usize = 256;
+pub(crate) const FULL: usize = 128;
 
 /// A part of a list, with place for all the items that it may have.
 #[derive(Drop)]

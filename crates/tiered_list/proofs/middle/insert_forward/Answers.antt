@@ -17,8 +17,8 @@ returns-clause-items g c =
     let new = c.pass_forward.new.middle.items in
     let result = c.pass_forward.result in
     let read : old ≡ get_or tiers at [] = get_or_read tiers at old c.requires.at c.index_mut.ensures.value [] in
-    let put : items_with (set tiers at tier) (at + 1) last ≡ insert (items_in tiers) (256 * at + place) item =
-    rw add-one (put_forward tiers at place (256 * at + place) tier item last c.requires.full c.requires.at c.requires.place refl (ap (λ l. insert l place item) (sym read) ∙ c.insert_forward-last.ensures)) in
+    let put : items_with (set tiers at tier) (at + 1) last ≡ insert (items_in tiers) (128 * at + place) item =
+    rw add-one (put_forward tiers at place (128 * at + place) tier item last c.requires.full c.requires.at c.requires.place refl (ap (λ l. insert l place item) (sym read) ∙ c.insert_forward-last.ensures)) in
     let whole : c.len-count.result ≡ length tiers = search rules in
     let end : length new ≡ c.len-count.result = c.pass_forward.ensures.count ∙ length-set tiers at tier ∙ sym whole in
     sym (items_with-last new result) ∙ ap (λ n. items_with new n result) end ∙ c.pass_forward.ensures.items ∙ put

@@ -15,7 +15,7 @@ loop-at-preserved g c =
     let inside : at < length tiers = omega (arith, c.loop-at.invariant.2, c.loop-at.invariant.4, c.loop-at-test.true, c.requires.end) in
     let read : old ≡ get_or tiers at [] = get_or_read tiers at old inside c.index_mut.ensures.value [] in
     let moved = c.shift_backward-item.ensures in
-    let long : length new ≡ 256 = as_long_backward old new item c.shift_backward-item.result moved ∙ ap length read ∙ full_at tiers at c.loop-at.invariant.1 inside in (
+    let long : length new ≡ 128 = as_long_backward old new item c.shift_backward-item.result moved ∙ ap length read ∙ full_at tiers at c.loop-at.invariant.1 inside in (
       passed_backward tiers at new item c.shift_backward-item.result inside (ap (λ l. l ++ item ∷ []) (sym read) ∙ moved)
           ∙ ap (λ n. items_with tiers n item) next
           ∙ c.loop-at.invariant.0,

@@ -11,7 +11,7 @@ pub front_from-requires-clause-rank : goal.front_from-requires-clause-rank
 front_from-requires-clause-rank c =
     let nodes : List Node = c.args.nodes.now.nodes in
     let ids : List NodeId = c.in-Some.lane.now.ids.items in
-    c.rank_past.ensures.rank (clashing_at c.args.loc c.args.access nodes) (filed_among nodes c.args.loc c.args.access ids c.rank_past.ensures.graph (c.in-Some.ensures.kept ∙ c.requires.filed c.args.loc c.args.access))
+    c.rank_known-start.ensures.rank (clashing_at c.args.loc c.args.access nodes) (filed_among nodes c.args.loc c.args.access ids c.rank_known-start.ensures.graph (c.in-Some.ensures.kept ∙ c.requires.filed c.args.loc c.args.access)) c.requires.first
 
 pub returns-in-None-clause-ids : goal.returns-in-None-clause-ids
 returns-in-None-clause-ids c =

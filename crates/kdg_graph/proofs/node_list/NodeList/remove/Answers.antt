@@ -1,15 +1,29 @@
-use Rattle.std.proofs.Common.{◌≡◌, ◌∙◌, List, Some, ap, length, subst, sym, arith}
+use Rattle.std.proofs.Common.{◌≡◌, ◌∙◌, ℕ, List, Some, true, ap, length, subst, sym, arith}
+use Rattle.std.specs.List.{AllByRecursion}
 use Rattle.std.specs.Option.{option_map}
+use Rattle.rw_sets.specs.declared.access.Access.{Access}
+use Rattle.kdg_graph.specs.Lanes.{IsRankPast}
 use Rattle.kdg_graph.specs.Node.{Node}
 use Rattle.kdg_graph.specs.NodeStock.{NodeStock}
 use Rattle.kdg_graph.specs.Nodes.{node_at, task_at}
 use Rattle.kdg_graph.specs.Kept.{IsOrder}
-use Rattle.kdg_graph.specs.Locations.{AreFiled}
+use Rattle.kdg_graph.specs.Locations.{AreFiled, clashing_at}
 use Rattle.kdg_graph.specs.Rewrite.{without}
 use Rattle.kdg_graph.specs.Selected.{AreSelected, HaveMarks, is_unblocked}
+use Rattle.kdg_graph.proofs.Leaving.{unblocked_leads}
 use Rattle.kdg_graph.proofs.Ordered.{length-without}
+use Rattle.kdg_graph.proofs.Selecting.{listed_selected}
 use Rattle.kdg_graph.proofs.Settling.{marks_without, select_left, settled_without}
 use Rattle.kdg_graph.proofs.node_list.NodeList.remove.Goals as goal
+
+pub refresh_fronts-requires-clause-first : goal.refresh_fronts-requires-clause-first
+refresh_fronts-requires-clause-first c listed =
+    let nodes : List Node = c.self.inside.nodes.nodes in
+    let node : Node = record { id = c.node.inside.id; task = c.node.inside.task; set = c.node.inside.set; running = c.node.inside.running } in
+    let is : node_at nodes c.args.id ≡ Some node = c.remove-node.ensures.node ∙ ap (λ (n : Node). Some n) (sym c.node.view_is) in
+    let free : is_unblocked nodes node ≡ true = sym (listed_selected nodes (is_unblocked nodes) c.self.inside.sources.ids c.args.id node c.self.invariant.0.graph is c.self.invariant.0.unblocked_are) ∙ sym c.is_listed-unblocked.ensures ∙ listed in
+    subst (λ (l : List Node). AllByRecursion (λ (p : ℕ × Access). IsRankPast node.task.key (clashing_at p.0 p.1 l) 0) node.set) (sym c.remove-node.ensures.nodes)
+    (unblocked_leads c.conflict_laws.ensures.decided c.conflict_laws.ensures.mutual nodes c.args.id node c.self.invariant.0.graph is free)
 
 pub refresh_fronts-requires-clause-filed : goal.refresh_fronts-requires-clause-filed
 refresh_fronts-requires-clause-filed c = subst (λ (l : List Node). AreFiled l c.leave.new.self.locations.items) (sym c.remove-node.ensures.nodes) c.leave.ensures.filed

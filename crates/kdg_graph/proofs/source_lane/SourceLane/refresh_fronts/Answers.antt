@@ -1,16 +1,29 @@
-use Rattle.std.proofs.Common.{◌∙◌, List, ap, refl, subst, take, length, arith}
+use Rattle.std.proofs.Common.{◌∙◌, ℕ, List, ap, get_or, refl, subst, take, length, arith}
+use Rattle.std.specs.Prelude.{Contains}
 use Rattle.std.proofs.lemmas.List.{take_all}
+use Rattle.std.proofs.lemmas.List.Elements.{Contains-get_or}
+use Rattle.rw_sets.specs.declared.access.Access.{Access}
 use Rattle.rw_sets.specs.declared.access.Access.TheVariants.{Read}
 use Rattle.rw_sets.specs.Accesses.{Accesses}
 use Rattle.kdg_graph.specs.Node.{Node}
 use Rattle.kdg_graph.specs.Nodes.{ids_of}
 use Rattle.kdg_graph.specs.Fronts.{fronts_after}
+use Rattle.kdg_graph.specs.Lanes.{IsRankPast}
+use Rattle.kdg_graph.specs.Locations.{clashing_at}
 use Rattle.kdg_graph.specs.Selected.{AreSelected, is_unblocked, refreshed}
+use Rattle.kdg_graph.proofs.Members.{all_at}
 use Rattle.kdg_graph.proofs.Selecting.{fronts_done}
 use Rattle.kdg_graph.proofs.source_lane.SourceLane.refresh_fronts.Goals as goal
 
 pub loop-pair-init : goal.loop-pair-init
 loop-pair-init c = record { ids = λ test selected. selected; some = c.requires.some; room = omega arith; marks = refl }
+
+pub refresh_front-requires-clause-first : goal.refresh_front-requires-clause-first
+refresh_front-requires-clause-first c known =
+    let ps : Accesses = c.items-pair-items.result.now in
+    let p : ℕ × Access = get_or ps c.loop-pair.pair-index (0, Read) in
+    let has : Contains c.args.set.now p = subst (λ (l : Accesses). Contains l p) c.items-pair-items.ensures.all (Contains-get_or ps c.loop-pair.pair-index (0, Read) c.loop-pair-test.true) in
+    all_at (λ (q : ℕ × Access). IsRankPast c.args.key.now (clashing_at q.0 q.1 c.args.nodes.now.nodes) 0) c.args.set.now p (c.requires.first known) has
 
 pub loop-pair-preserved : goal.loop-pair-preserved
 loop-pair-preserved c =

@@ -11,15 +11,15 @@ returns-in-Some g c =
     let fields = c.self.inside in
     let tiers = fields.middle.items in
     let behind = c.args.place - c.len-first.result in
-    let at = behind / 256 in
+    let at = behind / 128 in
     let tier = c.in-Some.tier.now in
     let inside : at < length tiers = search (rules, c.get-2.ensures.variant) in
     let read : tier ≡ get_or tiers at [] = get_or_read tiers at tier inside c.in-Some.ensures.lookup [] in
     let within : behind < length (items_in tiers) = omega (arith, inside, length-items_in tiers c.self.invariant.full) in
     let place : length fields.front + behind ≡ c.args.place = omega (arith, c.len-first.ensures.len, c.if-place-first.false) in
     c.get-in-Some.ensures
-    ∙ ap (λ l. slice_get l (behind % 256)) read
-    ∙ sym (read_in_tier tiers at (behind % 256) behind c.self.invariant.full inside (omega arith) (omega arith))
+    ∙ ap (λ l. slice_get l (behind % 128)) read
+    ∙ sym (read_in_tier tiers at (behind % 128) behind c.self.invariant.full inside (omega arith) (omega arith))
     ∙ sym (get_in_middle fields.front (items_in tiers) fields.back behind within)
     ∙ ap (slice_get (fields.front ++ (items_in tiers ++ fields.back))) place
     ∙ ap (λ (state : TiersState g.row.T.Denot). slice_get (all_items state) c.args.place) c.self.view_is
@@ -30,10 +30,10 @@ returns-in-None g c =
     let tiers = fields.middle.items in
     let behind = c.args.place - c.len-first.result in
     let whole : c.len.result ≡ length tiers = search rules in
-    let past : length tiers ≤ behind / 256 = search (rules, c.get-2.ensures.variant) in
-    let long : length (items_in tiers) ≡ 256 * c.len.result = omega (arith, whole, length-items_in tiers c.self.invariant.full) in
+    let past : length tiers ≤ behind / 128 = search (rules, c.get-2.ensures.variant) in
+    let long : length (items_in tiers) ≡ 128 * c.len.result = omega (arith, whole, length-items_in tiers c.self.invariant.full) in
     let place : length fields.front + behind ≡ c.args.place = omega (arith, c.len-first.ensures.len, c.if-place-first.false) in
     c.get-in-None.ensures
-    ∙ sym (get_in_back fields.front (items_in tiers) fields.back behind (256 * c.len.result) long (omega (arith, whole, past)))
+    ∙ sym (get_in_back fields.front (items_in tiers) fields.back behind (128 * c.len.result) long (omega (arith, whole, past)))
     ∙ ap (slice_get (fields.front ++ (items_in tiers ++ fields.back))) place
     ∙ ap (λ (state : TiersState g.row.T.Denot). slice_get (all_items state) c.args.place) c.self.view_is

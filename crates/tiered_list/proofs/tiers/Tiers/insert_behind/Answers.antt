@@ -20,9 +20,9 @@ returns-then-at-count-clause-items g c =
     let tiers = fields.middle.items in
     let place = c.args.place in
     let whole : c.len-count.result ≡ length tiers = search rules in
-    let long : length (items_in tiers) ≡ 256 * c.len-count.result = omega (arith, whole, length-items_in tiers c.self.invariant.full) in
+    let long : length (items_in tiers) ≡ 128 * c.len-count.result = omega (arith, whole, length-items_in tiers c.self.invariant.full) in
     ap (λ back. fields.front ++ (items_in tiers ++ back)) c.insert.ensures
-    ∙ put_in_back fields.front (items_in tiers) fields.back place (256 * c.len-count.result) c.args.item long (omega (arith, c.if-at-count.true))
+    ∙ put_in_back fields.front (items_in tiers) fields.back place (128 * c.len-count.result) c.args.item long (omega (arith, c.if-at-count.true))
     ∙ ap (λ (state : TiersState g.row.T.Denot). insert (all_items state) (length state.front + place) c.args.item) c.self.view_is
 
 pub returns-then-at-count-2-clause-items : goal.returns-then-at-count-2-clause-items
@@ -33,7 +33,7 @@ returns-then-at-count-2-clause-items g c =
     let new = items_in c.insert_backward-first.new.middle.items in
     let whole : c.len-count.result ≡ length tiers = search rules in
     let within : place ≤ length (items_in tiers) = omega (arith, whole, length-items_in tiers c.self.invariant.full, c.if-at-count.false) in
-    let same : 256 * (place / 256) + place % 256 ≡ place = omega arith in
+    let same : 128 * (place / 128) + place % 128 ≡ place = omega arith in
     ap (λ front. front ++ (new ++ fields.back)) c.push_back.ensures
     ∙ put_to_front fields.front (items_in tiers) fields.back new place c.args.item c.insert_backward-first.result within (c.insert_backward-first.ensures.items ∙ ap (λ n. insert (items_in tiers) n c.args.item) same)
     ∙ ap (λ (state : TiersState g.row.T.Denot). insert (all_items state) (length state.front + place) c.args.item) c.self.view_is
@@ -46,7 +46,7 @@ returns-else-at-count-2-clause-items g c =
     let new = items_in c.insert_forward-last.new.middle.items in
     let whole : c.len-count.result ≡ length tiers = search rules in
     let within : place ≤ length (items_in tiers) = omega (arith, whole, length-items_in tiers c.self.invariant.full, c.if-at-count.false) in
-    let same : 256 * (place / 256) + place % 256 ≡ place = omega arith in
+    let same : 128 * (place / 128) + place % 128 ≡ place = omega arith in
     ap (λ back. fields.front ++ (new ++ back)) c.push_front.ensures
     ∙ put_to_back fields.front (items_in tiers) fields.back new place c.args.item c.insert_forward-last.result within (c.insert_forward-last.ensures.items ∙ ap (λ n. insert (items_in tiers) n c.args.item) same)
     ∙ ap (λ (state : TiersState g.row.T.Denot). insert (all_items state) (length state.front + place) c.args.item) c.self.view_is
