@@ -11,7 +11,7 @@ use std::alloc::Global;
 use std::marker::Model;
 
 /// How many ids a chunk has at most.
-const FULL: usize = 128;
+const FULL: usize = 64;
 
 /// A part of a list of ids.
 #[derive(Drop)]

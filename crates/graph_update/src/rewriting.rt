@@ -66,7 +66,7 @@ pub(crate) fn fresh_tasks(
     requires not_earlier { AllByRecursion (λ child. parent.now.prio ≤ child.prio) children.now }
     ensures { IfOk result (λ fresh. fresh.items ≡ fresh_from parent.now 0 children.now) }
 {
-    let mut fresh = Vec::new(alloc);
+    let mut fresh = Vec::with_capacity(alloc, children.len())?;
     for (number, child) in children.iter().enumerate() {
         let task = Task {
             key: parent.child(number as u32, child.prio)?,
