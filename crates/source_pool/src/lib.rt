@@ -6,6 +6,7 @@ mod draining;
 mod finishing;
 mod hands;
 mod laws;
+mod left_counts;
 mod performing;
 mod round_lists;
 mod rounds;

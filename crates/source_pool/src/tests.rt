@@ -9,6 +9,7 @@ use cell_store::Seen;
 use example_app::Introductions;
 use graph_update::{BeginFault, Engine};
 use kdg_text::{NoRoom, Steps, Text};
+use left_counts::LeftCounts;
 use outer_edge::{Gate, Seeded, Still};
 use std::alloc::Global;
 use std::marker::Brand;
@@ -224,4 +225,14 @@ fn a_meeting_too_many_ends_the_run(rt: HostRuntime) {
             Some(RunFault::Budget { created, limit }) if limit == 35 && created > 35
         )
     );
+}
+
+/// Of five items, each time the one is taken that has so many before it that are left.
+#[test]
+fn items_are_taken_among_those_that_are_left(rt: HostRuntime) -> Result<(), Fail> {
+    let mut left = LeftCounts::all(rt.alloc(), 5)?;
+    for (before, item) in [(3, 3), (3, 4), (0, 0), (1, 2), (0, 1), (0, 5)] {
+        assert_eq!(rt; left.take(before), item);
+    }
+    Ok(())
 }
