@@ -4,14 +4,10 @@ use Rattle.std.proofs.Math.Seq.{take-length, drop-length}
 use Rattle.std.proofs.lemmas.Grind.{flat_map-append}
 use Rattle.std.proofs.lemmas.List.{append-nil, get_or_default, take-append-drop}
 use Rattle.std.specs.List.{AllByRecursion, insert}
-use Rattle.std.specs.Prelude.{OnOk, OnErr}
-use Rattle.std.specs.declared.result.Result.{Result}
-use Rattle.std.specs.declared.result.Result.TheVariants.{Ok, Err}
-use Rattle.kdg_text.specs.declared.no_room.NoRoom.{NoRoom}
-use Rattle.output_log.specs.Entries.{Entry, IsInKeyOrder, joined_texts}
+use Rattle.output_log.specs.Entries.{Entry, joined_texts}
 use Rattle.output_log.specs.Blocks.{entries_in, block_at, entries_to, entries_behind, IsFilled, IsEmpty, IsInside}
 use Rattle.output_log.proofs.Filters.{AllByRecursion-append}
-use Rattle.output_log.proofs.LogEntries.{AllByRecursion-first, AllByRecursion-last, IsInKeyOrder-last}
+use Rattle.output_log.proofs.LogEntries.{AllByRecursion-first, AllByRecursion-last}
 
 pub entries_in-append : (blocks more : List (List Entry)) → entries_in (blocks ++ more) ≡ entries_in blocks ++ entries_in more
 entries_in-append [] more = refl
@@ -71,11 +67,9 @@ behind_all [] (suc at) place is = absurd (omega (arith, is))
 behind_all (block ∷ blocks) zero place is = absurd (omega (arith, is))
 behind_all (block ∷ blocks) (suc at) place is = behind_all blocks at place (omega (arith, is))
 
--- the entries from a place on, or all of them, are in order
-pub ordered_after : (blocks left : List (List Entry)) (at place : ℕ) (answer : Result (List ℕ) NoRoom) → IsInKeyOrder (entries_in blocks) → OnOk answer (entries_in left ≡ entries_behind blocks at place) → OnErr answer (left ≡ blocks)
-    → IsInKeyOrder (entries_in left)
-ordered_after blocks left at place (Ok text) ordered rest same = subst IsInKeyOrder (sym rest) (IsInKeyOrder-last (entries_to blocks at place) (entries_behind blocks at place) (subst IsInKeyOrder (entries_in-parts blocks at place) ordered))
-ordered_after blocks left at place (Err failure) ordered rest same = subst (λ blocks. IsInKeyOrder (entries_in blocks)) (sym same) ordered
+-- before the end are all
+pub up_to_all : (blocks : List (List Entry)) → entries_to blocks (length blocks) 0 ≡ entries_in blocks
+up_to_all blocks = sym (entries_in-parts blocks (length blocks) 0 ∙ ap (λ l. entries_to blocks (length blocks) 0 ++ l) (behind_all blocks (length blocks) 0 refl) ∙ append-nil _)
 
 -- blocks without the entries before a place
 pub without_first : (blocks : List (List Entry)) (at place : ℕ) → at < length blocks → entries_in (set (drop at blocks) 0 (drop place (block_at (drop at blocks) 0))) ≡ entries_behind blocks at place

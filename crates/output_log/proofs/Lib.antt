@@ -5,3 +5,4 @@ pub mod LogEntries
 pub mod Parts
 pub mod Puts
 pub mod Search
+pub mod Written

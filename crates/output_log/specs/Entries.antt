@@ -1,5 +1,5 @@
 -- What tasks wrote, in the order of their keys.
-use Rattle.std.specs.Prelude.{◌≢◌, ℕ, Bool, not, List, [], ◌∷◌, ◌++◌}
+use Rattle.std.specs.Prelude.{◌≢◌, ℕ, Bool, true, false, not, List, [], ◌∷◌, ◌++◌}
 use Rattle.std.specs.List.{AllByRecursion, filter, flat_map}
 use Rattle.std.specs.List.Sorted.{IsStrictlySortedBy}
 use Rattle.std.specs.declared.cmp.Ordering.{Ordering}
@@ -44,6 +44,15 @@ with_entry key text entries = entries_before (at_key key) entries ++ (key, text)
 abbrev pub joined_by_key : List Entry → List Entry → List Entry
 joined_by_key entries [] = entries
 joined_by_key entries (other ∷ others) = with_entry other.0 other.1 (joined_by_key entries others)
+
+-- whether a task wrote anything
+abbrev pub is_written : List ℕ → Bool
+is_written [] = false
+is_written (byte ∷ text) = true
+
+-- the entries of the tasks that did
+abbrev pub with_texts : List Entry → List Entry
+with_texts entries = filter (λ entry. is_written entry.1) entries
 
 -- the texts, one after another
 abbrev pub joined_texts : List Entry → List ℕ

@@ -2,3 +2,4 @@ pub mod Blocks
 pub mod Entries
 pub mod Laws
 pub mod LogState
+pub mod Past

@@ -112,24 +112,6 @@ impl Blocks {
         self.blocks.len()
     }
 
-    /// How many entries there are. This goes over the blocks.
-    pub(crate) fn len(&self) -> usize
-        ensures { result ≡ length (entries_in self.now.blocks) }
-    {
-        let mut len = 0;
-        for i in 0..self.blocks.len() {
-            len += self.blocks[i].len();
-        }
-        len
-    }
-
-    /// Whether there is no entry.
-    pub(crate) fn is_empty(&self) -> bool
-        ensures { IsTrue result ↔ (entries_in self.now.blocks ≡ []) }
-    {
-        self.blocks.is_empty()
-    }
-
     /// Where a key belongs, which often is before all entries: in which block, and behind how many of its
     /// entries.
     pub(crate) fn front_of(&self, key: &Key) -> (usize, usize)

@@ -1,9 +1,10 @@
-ghost use Rattle.std.specs.Prelude.{◌≡◌, ◌+◌, ◌<◌, ◌≤◌, [], ◌↔◌, length, IsTrue, IfOk, OnOk, OnErr};
+ghost use Rattle.std.specs.Prelude.{◌≡◌, ◌+◌, ◌<◌, ◌≤◌, [], IfOk, OnOk, OnErr};
 ghost use Rattle.task_order.specs.Key.{at_key};
 ghost use Rattle.output_log.specs.Entries.{IsInKeyOrder, IsNewEntry, entries_before, entries_from, with_entry, joined_texts};
 
 use crate::blocks::Blocks;
-use crate::laws::put_laws;
+use crate::laws::{part_laws, put_laws};
+use crate::seen_entries::SeenEntries;
 use kdg_text::{NoRoom, Text};
 use std::alloc::Global;
 use std::marker::Model;
@@ -11,7 +12,8 @@ use task_order::Key;
 
 /// The texts of tasks that have ended, in the order of the tasks' keys, until they are taken.
 ///
-/// The entries stand in blocks. To put one in takes time in the logarithm of its distance to the one
+/// A task that wrote nothing has an entry too, but only clauses see it: no memory is taken for it. The
+/// other entries stand in blocks. To put one in takes time in the logarithm of its distance to the one
 /// before it, counted in blocks, and moves some entries of its block; where it comes close behind that
 /// one, a few comparisons find its place. Entries are taken from the front by whole blocks, and where
 /// the first one is not to be taken, one comparison tells. `reserve` makes a spare block for each entry
@@ -19,18 +21,20 @@ use task_order::Key;
 #[derive(Drop)]
 pub struct Log {
     blocks: Blocks,
+    seen: SeenEntries,
 }
 
 impl Model for Log {
+    ghost use Rattle.std.specs.Prelude.{◌≡◌};
     ghost use Rattle.output_log.specs.LogState.{LogState};
     ghost use Rattle.output_log.specs.Blocks.{entries_in};
-    ghost use Rattle.output_log.specs.Entries.{IsInKeyOrder};
+    ghost use Rattle.output_log.specs.Entries.{IsInKeyOrder, with_texts};
 
     ghost Value = { LogState };
 
-    ghost view = { λ log. record { entries = entries_in log.blocks.blocks; spare = log.blocks.spare } };
+    ghost view = { λ log. record { entries = log.seen; spare = log.blocks.spare } };
 
-    ghost invariant = { λ log. IsInKeyOrder (entries_in log.blocks.blocks) };
+    ghost invariant = { λ log. IsInKeyOrder log.seen × (entries_in log.blocks.blocks ≡ with_texts log.seen) };
 }
 
 impl Log {
@@ -40,6 +44,7 @@ impl Log {
     {
         Log {
             blocks: Blocks::new(alloc),
+            seen: SeenEntries::new(),
         }
     }
 
@@ -53,31 +58,22 @@ impl Log {
         self.blocks.reserve(additional)
     }
 
-    /// How many entries there are.
-    pub fn len(&self) -> usize
-        ensures len { result ≡ length self.now.entries }
-        ensures ordered { IsInKeyOrder self.now.entries }
-    {
-        self.blocks.len()
-    }
-
-    /// Whether there is no entry.
-    pub fn is_empty(&self) -> bool
-        ensures { IsTrue result ↔ (self.now.entries ≡ []) }
-    {
-        self.blocks.is_empty()
-    }
-
-    /// Puts an entry at its place, where `reserve` made one. It takes no memory.
+    /// Puts an entry at its place, where `reserve` made one. It takes no memory, and where the text is
+    /// empty neither that place nor any time.
     pub fn put(&mut self, key: Key, text: Text)
         requires room { 0 < self.old.spare }
         requires new { IsNewEntry key self.old.entries }
         ensures entries { self.new.entries ≡ with_entry key text self.old.entries }
         ensures spare { self.old.spare ≤ self.new.spare + 1 }
+        ensures silent { text ≡ [] → self.new.spare ≡ self.old.spare }
     {
         put_laws();
-        let (at, place) = self.blocks.place_of(&key);
-        self.blocks.insert(at, place, (key, text));
+        part_laws();
+        self.seen.put(&key, &text);
+        if !text.is_empty() {
+            let (at, place) = self.blocks.place_of(&key);
+            self.blocks.insert(at, place, (key, text));
+        }
     }
 
     /// Takes the entries that are earlier than the key out, and joins their texts. After `NoRoom`
@@ -90,7 +86,9 @@ impl Log {
         ensures ordered { IsInKeyOrder self.old.entries }
     {
         let (at, place) = self.blocks.front_of(key);
-        self.blocks.take_to(at, place)
+        let text = self.blocks.take_to(at, place)?;
+        self.seen.take_below(key);
+        Ok(text)
     }
 
     /// Takes all entries out, and joins their texts. After `NoRoom` the log is as it was.
@@ -100,7 +98,9 @@ impl Log {
         ensures unchanged { OnErr result (self.new.entries ≡ self.old.entries) }
         ensures spare { self.old.spare ≤ self.new.spare }
     {
-        self.blocks.take_to(self.blocks.count(), 0)
+        let text = self.blocks.take_to(self.blocks.count(), 0)?;
+        self.seen = SeenEntries::new();
+        Ok(text)
     }
 
     /// The texts of all entries, joined.

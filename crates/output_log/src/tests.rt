@@ -47,16 +47,16 @@ fn numbers(alloc: Global, first: u8, end: u8) -> Result<Vec<u8>, NoRoom> {
 fn texts_are_joined_in_key_order(rt: HostRuntime) -> Result<(), Fail> {
     let alloc = rt.alloc();
     let mut log = Log::new(alloc);
-    log.reserve(2)?;
+    log.reserve(3)?;
     log.put(key(alloc, 1)?, text(alloc, b"b")?);
+    log.put(key(alloc, 2)?, text(alloc, b"")?);
     log.put(key(alloc, 0)?, text(alloc, b"a")?);
-    assert_eq!(rt; log.len(), 2);
     let bound = key(alloc, 1)?;
     assert_eq!(rt; log.all()?.bytes(), b"ab".as_slice());
     assert_eq!(rt; log.take_below(&bound)?.bytes(), b"a".as_slice());
     assert_eq!(rt; log.all()?.bytes(), b"b".as_slice());
     assert_eq!(rt; log.take_all()?.bytes(), b"b".as_slice());
-    assert!(rt; log.is_empty());
+    assert!(rt; log.take_all()?.is_empty());
     Ok(())
 }
 
@@ -82,18 +82,16 @@ fn ascending_entries_fill_blocks(rt: HostRuntime) -> Result<(), Fail> {
     for number in 0..200 {
         put(alloc, &mut log, number)?;
     }
-    assert_eq!(rt; log.len(), 200);
     let bound = key(alloc, 100)?;
     assert_eq!(rt;
         log.take_below(&bound)?.bytes(),
         numbers(alloc, 0, 100)?.as_slice()
     );
-    assert_eq!(rt; log.len(), 100);
     assert_eq!(rt;
         log.take_all()?.bytes(),
         numbers(alloc, 100, 200)?.as_slice()
     );
-    assert!(rt; log.is_empty());
+    assert!(rt; log.take_all()?.is_empty());
     Ok(())
 }
 
