@@ -7,7 +7,7 @@ use Rattle.std.proofs.lemmas.List.Concat.{flat_map-cons}
 use Rattle.task_order.specs.declared.key.Key.{Key}
 use Rattle.rw_sets.specs.declared.access.Access.{Access}
 use Rattle.rw_sets.specs.declared.access.Access.TheVariants.{Read, Write}
-use Rattle.rw_sets.specs.Accesses.{Accesses, IsAscending as IsAscendingSet, access_at, clash}
+use Rattle.rw_sets.specs.Accesses.{Accesses, IsAscending as IsAscendingSet, access_at}
 use Rattle.rw_sets.specs.Laws.{ConflictsAreDecided, ConflictsAreMutual}
 use Rattle.kdg_graph.specs.declared.node_id.NodeId.{NodeId}
 use Rattle.kdg_graph.specs.Edges.{is_blocked}
@@ -18,7 +18,7 @@ use Rattle.kdg_graph.specs.Node.{Node}
 use Rattle.kdg_graph.specs.Nodes.{IsGraph, earlier_than, ids_of, is_at, later_than, node_at}
 use Rattle.kdg_graph.specs.Rewrite.{without}
 use Rattle.kdg_graph.proofs.Blocking.{before_first, blocked_by_first}
-use Rattle.kdg_graph.proofs.Filing.{again}
+use Rattle.kdg_graph.proofs.Filing.{again, named_by}
 use Rattle.kdg_graph.proofs.Filtered.{dropped}
 use Rattle.kdg_graph.proofs.Lanes.{length-ids}
 use Rattle.kdg_graph.proofs.Members.{from_filter, here, in_filter, none, none_any, there}
@@ -56,12 +56,6 @@ last_if None some ids place others long are rank = tt
 last_if (Some node) some ids place others long are rank = λ is. none_later node.task.key some place (omega (arith, eqb-true place others is, long, ap length are, length-ids some)) rank
 
 -- ---- at one location
-
--- who clashes with some access names the location
-named_by : (access : Access) (found : Option Access) → clash (Some access) found ≡ true → clash (Some Write) found ≡ true
-named_by Read None is = is
-named_by Read (Some x) is = refl
-named_by Write found is = is
 
 -- another node that clashes with an access is among the others that name the location
 others_named : (p : Node → Bool) (nodes : List Node) (id : NodeId) (node other : Node) (loc : ℕ) (access : Access) → IsGraph nodes → node_at nodes id ≡ Some node → p node ≡ false → Contains nodes other → clashes_at loc access other ≡ true → p other ≡ true

@@ -12,11 +12,10 @@ use Rattle.rw_sets.specs.declared.access.Access.{Access}
 use Rattle.rw_sets.specs.declared.access.Access.TheVariants.{Read, Write}
 use Rattle.rw_sets.specs.AccessLaws.{absent_beyond, access_other, ascending_first, ascending_rest, beyond_lower}
 use Rattle.rw_sets.specs.Accesses.{Accesses, IsAscending as IsAscendingSet, access_at, clash, excludes}
-use Rattle.kdg_graph.specs.declared.location.Location.{Location}
 use Rattle.kdg_graph.specs.declared.node_id.NodeId.{NodeId}
 use Rattle.kdg_graph.specs.Exchange.{AreFiledWith, is_same, lacking, midway}
 use Rattle.kdg_graph.specs.Fronts.{fronts_after}
-use Rattle.kdg_graph.specs.Locations.{AreFiled, IsLaneAmong, clashes_at, clashing_at, front_after, ids_for, lane_of, put_if, room_at, rooms_of, without_if}
+use Rattle.kdg_graph.specs.Locations.{AreFiled, IsLaneAmong, Location, clashes_at, clashing_at, front_after, ids_for, lane_of, put_if, room_at, rooms_of, without_if}
 use Rattle.kdg_graph.specs.Node.{Node}
 use Rattle.kdg_graph.specs.Nodes.{IsGraph, ids_of, is_at, node_at, put_node}
 use Rattle.kdg_graph.specs.Rewrite.{without}

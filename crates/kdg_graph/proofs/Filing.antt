@@ -3,16 +3,17 @@ use Rattle.std.proofs.Common.{◌≡◌, ℕ, zero, suc, ◌+◌, ◌<◌, ◌�
 use Rattle.std.specs.Prelude.{IfSome, is_some}
 use Rattle.std.proofs.lemmas.Bool.{cases_eq}
 use Rattle.rw_sets.specs.declared.access.Access.{Access}
-use Rattle.rw_sets.specs.declared.access.Access.TheVariants.{Write}
+use Rattle.rw_sets.specs.declared.access.Access.TheVariants.{Read, Write}
 use Rattle.rw_sets.specs.Accesses.{Accesses, IsAscending as IsAscendingSet, access_at, clash, excludes}
-use Rattle.kdg_graph.specs.declared.location.Location.{Location}
 use Rattle.kdg_graph.specs.declared.node_id.NodeId.{NodeId}
-use Rattle.kdg_graph.specs.Locations.{HasRoom, HaveNoLess, IsLaneAmong, clashes_at, clashing_at, ids_for, lane_of, put_if, room_at, room_in, rooms_of, without_if}
+use Rattle.kdg_graph.specs.Locations.{HasRoom, HaveNoLess, IsLaneAmong, Location, clashes_at, clashing_at, ids_for, lane_of, put_if, room_at, room_in, rooms_of, without_if}
 use Rattle.kdg_graph.specs.Node.{Node}
 use Rattle.kdg_graph.specs.Nodes.{IsGraph, ids_of, is_at, node_at, put_node}
 use Rattle.kdg_graph.specs.Rewrite.{without}
 use Rattle.kdg_graph.proofs.Among.{among_filtered, graph_among}
-use Rattle.kdg_graph.proofs.Filtered.{filter_with, filters_commute}
+use Rattle.kdg_graph.proofs.Filtered.{filter_with, filters_commute, no_more_kept}
+use Rattle.kdg_graph.proofs.Lanes.{length-ids}
+use Rattle.kdg_graph.proofs.Selecting.{length-put}
 use Rattle.kdg_graph.proofs.Shelving.{lane_at, lane_changed, lane_other, left_here, left_other, not_before, not_left, pair_found, room_changed, room_other, room_there, so_far_here, so_far_other, within_lane}
 
 -- ---- lanes that are filed
@@ -90,6 +91,35 @@ leave_step nodes id node ps i p locations old now graph is are up inside at with
       | inl same ↦ subst (λ n. lane_of (set locations p.0 now) n access ≡ ids_of (clashing_at n access (cond (is_some (access_at (drop (suc i) ps) n)) nodes rest))) same changed
       | inr differs ↦ lane_other locations p.0 loc now access differs ∙ filed loc access ∙ ap (λ found. ids_of (clashing_at loc access (cond (is_some found) nodes rest))) (left_other ps i p loc inside at differs)
     ]
+
+-- ---- those that write
+
+-- who clashes with some access names the location
+pub named_by : (access : Access) (found : Option Access) → clash (Some access) found ≡ true → clash (Some Write) found ≡ true
+named_by Read None is = is
+named_by Read (Some x) is = refl
+named_by Write found is = is
+
+-- where a node is filed that reads a location, fewer write it than name it
+pub fewer_write : (others : List Node) (node : Node) (p : ℕ × Access) (locations : List Location) (old : Location) → p.0 < length locations → old ≡ get_or locations p.0 old
+    → ((access : Access) → lane_of locations p.0 access ≡ ids_of (put_if (excludes access p.1) node (clashing_at p.0 access others))) → p.1 ≡ Read → length (ids_for Read old) < length (ids_for Write old)
+fewer_write others node p locations old within here filed reads =
+    let kept : (access : Access) → ids_for access old ≡ ids_of (put_if (excludes access Read) node (clashing_at p.0 access others)) =
+    λ access. ap (ids_for access) here ∙ sym (lane_at locations p.0 access old within) ∙ filed access ∙ ap (λ x. ids_of (put_if (excludes access x) node (clashing_at p.0 access others))) reads in
+    let writing : length (ids_for Read old) ≡ length (clashing_at p.0 Read others) = ap length (kept Read) ∙ length-ids (clashing_at p.0 Read others) in
+    let naming : length (ids_for Write old) ≡ suc (length (clashing_at p.0 Write others)) =
+    ap length (kept Write) ∙ length-ids (put_node node (clashing_at p.0 Write others)) ∙ length-put node (clashing_at p.0 Write others) in
+    omega (arith, writing, naming, no_more_kept (clashes_at p.0 Read) (clashes_at p.0 Write) others (λ other. named_by Read (access_at other.set p.0)))
+
+-- so where its locations are left one after another
+pub fewer_left : (nodes : List Node) (id : NodeId) (node : Node) (ps : Accesses) (i : ℕ) (p : ℕ × Access) (locations : List Location) (old : Location) → IsGraph nodes → node_at nodes id ≡ Some node → ps ≡ node.set → IsAscendingSet ps
+    → i < length ps → p ≡ get_or ps i p → p.0 < length locations → old ≡ get_or locations p.0 old
+    → ((loc : ℕ) (access : Access) → lane_of locations loc access ≡ ids_of (clashing_at loc access (cond (is_some (access_at (drop i ps) loc)) nodes (without id nodes))))
+    → p.1 ≡ Read → length (ids_for Read old) < length (ids_for Write old)
+fewer_left nodes id node ps i p locations old graph is are up inside at within here filed =
+    let has : access_at node.set p.0 ≡ Some p.1 = ap (λ (l : Accesses). access_at l p.0) (sym are) ∙ pair_found ps i p up inside at in
+    fewer_write (without id nodes) node p locations old within here
+    (λ access. filed p.0 access ∙ ap (λ found. ids_of (clashing_at p.0 access (cond (is_some found) nodes (without id nodes)))) (left_here ps i p inside at) ∙ ap ids_of (clashing_with nodes id node p.0 access (Some p.1) graph is has))
 
 -- ---- places and room
 

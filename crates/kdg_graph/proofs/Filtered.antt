@@ -1,5 +1,5 @@
 -- Filters of nodes in key order, where a node comes or goes.
-use Rattle.std.proofs.Common.{◌≡◌, ◌&&◌, Bool, true, false, not, cond, List, [], ◌∷◌, Some, refl, sym, ◌∙◌, ap, subst}
+use Rattle.std.proofs.Common.{◌≡◌, ◌≤◌, ◌&&◌, Bool, true, false, not, cond, List, [], ◌∷◌, length, Some, refl, sym, ◌∙◌, ap, subst, arith}
 use Rattle.std.specs.Prelude.{Contains}
 use Rattle.std.specs.List.{AllByRecursion, filter}
 use Rattle.std.specs.Ordering.{is_lt}
@@ -54,6 +54,17 @@ filter_twice p q (node ∷ nodes) =
       | true ↦ ap (λ l. cond (p node) (node ∷ l) l) rest
       | false ↦ rest
     ]
+
+-- a test that is passed only where another is keeps no more
+pub no_more_kept : (p q : Node → Bool) (nodes : List Node) → ((node : Node) → p node ≡ true → q node ≡ true) → length (filter p nodes) ≤ length (filter q nodes)
+no_more_kept p q [] each = omega arith
+no_more_kept p q (node ∷ nodes) each =
+    let rest : length (filter p nodes) ≤ length (filter q nodes) = no_more_kept p q nodes each in
+    let by_case : (one two : Bool) → (one ≡ true → two ≡ true) → length (cond one (node ∷ filter p nodes) (filter p nodes)) ≤ length (cond two (node ∷ filter q nodes) (filter q nodes)) = elim [
+      | true ↦ elim [ true ↦ λ _. omega (arith, rest) | false ↦ λ passes. absurd (true≢false (sym (passes refl))) ]
+      | false ↦ elim [ true ↦ λ _. omega (arith, rest) | false ↦ λ _. omega (arith, rest) ]
+    ] in
+    by_case (p node) (q node) (each node)
 
 -- ---- what a filter keeps
 

@@ -3,9 +3,8 @@ use Rattle.std.proofs.Common.{◌≡◌, ℕ, suc, ◌+◌, ◌-◌, ◌<◌, �
 use Rattle.std.specs.List.{AllByRecursion}
 use Rattle.std.proofs.lemmas.List.{take_more}
 use Rattle.rw_sets.specs.Accesses.{Accesses}
-use Rattle.kdg_graph.specs.declared.location.Location.{Location}
 use Rattle.kdg_graph.specs.NodeStock.{numbers_with_marks}
-use Rattle.kdg_graph.specs.Locations.{HasRoom, HaveNoLess, HaveSameLanes, room_at}
+use Rattle.kdg_graph.specs.Locations.{HasRoom, HaveNoLess, HaveSameLanes, Location, room_at}
 
 -- ---- each of several
 

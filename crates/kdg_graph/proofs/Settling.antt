@@ -16,8 +16,7 @@ use Rattle.kdg_graph.specs.Nodes.{HaveOwnIds, IsGraph, earlier_than, ids_of, is_
 use Rattle.kdg_graph.specs.Edges.{is_blocked}
 use Rattle.kdg_graph.specs.Exchange.{is_same, lacking}
 use Rattle.kdg_graph.specs.Fronts.{fronts_after}
-use Rattle.kdg_graph.specs.declared.location.Location.{Location}
-use Rattle.kdg_graph.specs.Locations.{AreFiled, clashes_at, clashing_at, up_to_writer}
+use Rattle.kdg_graph.specs.Locations.{AreFiled, Location, clashes_at, clashing_at, up_to_writer}
 use Rattle.kdg_graph.specs.Rewrite.{with_sets, without}
 use Rattle.kdg_graph.specs.Selected.{AreSelected, HaveMarks, forgotten, is_among, is_unblocked, refreshed, unblocked_of}
 use Rattle.kdg_graph.proofs.Blocking.{any_from, pair_of}

@@ -4,8 +4,7 @@ use Rattle.std.specs.Prelude.{◌==◌}
 use Rattle.rw_sets.specs.declared.access.Access.{Access}
 use Rattle.rw_sets.specs.Accesses.{Accesses, AllBeyond, IsAscending as IsAscendingSet, access_at}
 use Rattle.rw_sets.specs.AccessLaws.{absent_beyond, access_first, access_other, ascending_first, ascending_rest}
-use Rattle.kdg_graph.specs.declared.location.Location.{Location}
-use Rattle.kdg_graph.specs.Locations.{ids_for, lane_of, room_at, room_in, rooms_of}
+use Rattle.kdg_graph.specs.Locations.{Location, ids_for, lane_of, room_at, room_in, rooms_of}
 
 -- ---- the location at a number
 

@@ -4,8 +4,7 @@ use Rattle.std.specs.List.{filter}
 use Rattle.rw_sets.specs.declared.access.Access.{Access}
 use Rattle.rw_sets.specs.declared.access.Access.TheVariants.{Read, Write}
 use Rattle.rw_sets.specs.Accesses.{Accesses, access_at, clash}
-use Rattle.kdg_graph.specs.declared.location.Location.{Location}
-use Rattle.kdg_graph.specs.Locations.{clashing_at, lane_of, put_if}
+use Rattle.kdg_graph.specs.Locations.{Location, clashing_at, lane_of, put_if}
 use Rattle.kdg_graph.specs.Node.{Node}
 use Rattle.kdg_graph.specs.Nodes.{ids_of}
 

@@ -1,11 +1,10 @@
 -- What is kept beside the nodes of a graph.
 use Rattle.std.specs.Prelude.{◌≡◌, ◌≤◌, List, length, Option, IfSome}
 use Rattle.std.specs.Borrow.{Bor}
-use Rattle.kdg_graph.specs.declared.location.Location.{Location}
 use Rattle.kdg_graph.specs.Node.{Node}
 use Rattle.kdg_graph.specs.Nodes.{IsGraph, ids_of}
 use Rattle.kdg_graph.specs.declared.lane.Lane.{Lane}
-use Rattle.kdg_graph.specs.Locations.{AreFiled}
+use Rattle.kdg_graph.specs.Locations.{AreFiled, Location}
 use Rattle.kdg_graph.specs.Selected.{HaveMarks, MarkedIds, unblocked_of}
 
 -- all ids in key order, where a list of them is kept

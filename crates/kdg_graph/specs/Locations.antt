@@ -9,7 +9,6 @@ use Rattle.task_order.specs.declared.key.Key.{Key}
 use Rattle.task_order.specs.Key.{key_cmp}
 use Rattle.task_order.specs.TaskList.{IsAscending}
 use Rattle.kdg_graph.specs.declared.node_id.NodeId.{NodeId}
-use Rattle.kdg_graph.specs.declared.location.Location.{Location}
 use Rattle.kdg_graph.specs.Node.{Node}
 use Rattle.kdg_graph.specs.Nodes.{ids_of, later_than, put_node, tasks_of}
 use Rattle.kdg_graph.specs.Rewrite.{without}
@@ -59,10 +58,20 @@ without_if test id nodes = if test then without id nodes else nodes
 
 -- ---- locations by their numbers
 
+-- the ids that are kept at a location, of the nodes that name it and of those that write it, and for how many more there is room
+pub record Location : Type 0 where
+  pub named : List NodeId
+  pub writers : List NodeId
+  pub room : ℕ
+
+-- the ids of those that write it, which stand in a list of their own where some don't
+abbrev pub writers_in : Bool → List NodeId → List NodeId → List NodeId
+writers_in apart named writers = if apart then writers else named
+
 -- the ids that are kept for an access to the location
 abbrev pub ids_for : Access → Location → List NodeId
-ids_for Read location = location.writers.ids.items
-ids_for Write location = location.named.ids.items
+ids_for Read location = location.writers
+ids_for Write location = location.named
 
 -- the same by the number of the location, where no ids are kept for those beyond the list
 abbrev pub lane_of : List Location → ℕ → Access → List NodeId
@@ -82,7 +91,11 @@ HaveSameLanes before after = (loc : ℕ) (access : Access) → lane_of after loc
 
 -- for so many more nodes there is room at a location
 abbrev pub room_in : Location → ℕ
-room_in location = min (location.named.ids.capacity - length location.named.ids.items) (location.writers.ids.capacity - length location.writers.ids.items)
+room_in location = location.room
+
+-- the room that two lists have, of all ids and of some of them
+abbrev pub room_for_both : ℕ → List NodeId → ℕ → List NodeId → ℕ
+room_for_both capacity ids other_capacity some = min (capacity - length ids) (other_capacity - length some)
 
 abbrev pub rooms_of : List Location → List ℕ
 rooms_of locations = map room_in locations

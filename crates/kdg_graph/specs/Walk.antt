@@ -1,8 +1,7 @@
 -- A walk over the nodes that are later than a key.
 use Rattle.std.specs.Prelude.{List}
 use Rattle.task_order.specs.declared.key.Key.{Key}
-use Rattle.kdg_graph.specs.declared.location.Location.{Location}
-use Rattle.kdg_graph.specs.Locations.{AreFiled}
+use Rattle.kdg_graph.specs.Locations.{AreFiled, Location}
 use Rattle.kdg_graph.specs.declared.node_id.NodeId.{NodeId}
 use Rattle.kdg_graph.specs.Node.{Node}
 use Rattle.kdg_graph.specs.Nodes.{HasKey}

@@ -286,6 +286,19 @@ impl Lane {
         self.ids.insert(place, id);
     }
 
+    /// Puts the ids of another list in, where none is there and `reserve` made room.
+    #[inline(never)]
+    pub(crate) fn fill_from(&mut self, other: &Lane)
+        requires none { self.old.ids.items ≡ [] }
+        requires room { length other.now.ids.items ≤ self.old.ids.capacity }
+        ensures ids { self.new.ids.items ≡ other.now.ids.items }
+        ensures room { self.old.ids.capacity ≤ self.new.ids.capacity }
+    {
+        for place in 0..other.len() {
+            self.insert(place, other.at(place));
+        }
+    }
+
     /// Takes the id at a place out.
     #[inline(always)]
     pub(crate) fn remove(&mut self, place: usize) -> NodeId

@@ -1,4 +1,4 @@
-ghost use Rattle.std.specs.Prelude.{◌≡◌, ◌+◌, ◌<◌, ◌≤◌, [], true, IfSome, List, OnOk};
+ghost use Rattle.std.specs.Prelude.{◌≡◌, ◌+◌, ◌<◌, ◌≤◌, [], length, true, IfSome, List, OnOk};
 ghost use Rattle.rw_sets.specs.declared.access.Access.TheVariants.{Read, Write};
 ghost use Rattle.rw_sets.specs.declared.access.Access.{Access};
 ghost use Rattle.rw_sets.specs.Accesses.{excludes};
@@ -12,6 +12,7 @@ use crate::ordered_nodes::OrderedNodes;
 use kdg_text::NoRoom;
 use rw_sets::Access;
 use std::alloc::Global;
+use std::marker::Model;
 
 /// Whether no earlier node names a location that a node names, and whether no later one does.
 #[derive(Clone, Copy)]
@@ -21,10 +22,31 @@ pub(crate) struct Ends {
 }
 
 /// The nodes whose recorded sets name one location, and those of them that write it, in key order.
+///
+/// Until one comes that only reads, all write: then one list serves for both, and the other one only has
+/// the room that it may need.
 #[derive(Drop)]
 pub(crate) struct Location {
     named: Lane,
     writers: Lane,
+    /// Whether those that write stand in their own list.
+    apart: bool,
+}
+
+impl Model for Location {
+    ghost use Rattle.std.specs.Prelude.{◌≡◌, [], false};
+    ghost use Rattle.kdg_graph.specs.Locations as filed;
+    ghost use Rattle.kdg_graph.specs.Locations.{room_for_both, writers_in};
+
+    ghost Value = { filed.Location };
+
+    ghost view = { λ l. record {
+      named = l.named.ids.items;
+      writers = writers_in l.apart l.named.ids.items l.writers.ids.items;
+      room = room_for_both l.named.ids.capacity l.named.ids.items l.writers.ids.capacity (writers_in l.apart l.named.ids.items l.writers.ids.items);
+    } };
+
+    ghost invariant = { λ l. l.apart ≡ false → l.writers.ids.items ≡ [] };
 }
 
 impl Location {
@@ -36,6 +58,7 @@ impl Location {
         Location {
             named: Lane::new(alloc),
             writers: Lane::new(alloc),
+            apart: false,
         }
     }
 
@@ -44,9 +67,10 @@ impl Location {
     pub(crate) fn clashing(&self, access: Access) -> &Lane
         ensures { result.now.ids.items ≡ ids_for access self.now }
     {
-        match access {
-            Access::Read => &self.writers,
-            Access::Write => &self.named,
+        if self.apart && !access.is_write() {
+            &self.writers
+        } else {
+            &self.named
         }
     }
 
@@ -59,7 +83,11 @@ impl Location {
         ensures writers { ids_for Read self.new ≡ ids_for Read self.old }
     {
         self.named.reserve(additional)?;
-        self.writers.reserve(additional)
+        if self.apart {
+            return self.writers.reserve(additional);
+        }
+        let all = self.named.len().checked_add(additional).ok_or(NoRoom)?;
+        self.writers.reserve(all)
     }
 
     /// Files a node, where `reserve` made room, and tells whether it is the first and the last here. It
@@ -72,9 +100,13 @@ impl Location {
         ensures last { (some : List Node) → IsLaneAmong nodes.now.nodes some (ids_for Write self.old) → IfSome (node_at nodes.now.nodes id) (λ node. result.last ≡ true → later_than node.task.key some ≡ []) }
         ensures room { room_in self.old ≤ room_in self.new + 1 }
     {
+        if !self.apart && !access.is_write() {
+            self.writers.fill_from(&self.named);
+            self.apart = true;
+        }
         let others = self.named.len();
         let place = nodes.put_into(&mut self.named, id);
-        if access.is_write() {
+        if self.apart && access.is_write() {
             let _ = nodes.put_into(&mut self.writers, id);
         }
         Ends {
@@ -83,14 +115,16 @@ impl Location {
         }
     }
 
-    /// Files a node with that access no more.
+    /// Files a node with that access no more. Of one that reads it is known, as fewer nodes write than
+    /// name the location.
     pub(crate) fn leave(&mut self, nodes: &OrderedNodes, id: NodeId, access: Access)
-        requires { HasNode nodes.now.nodes id }
+        requires there { HasNode nodes.now.nodes id }
+        requires reads { access ≡ Read → length (ids_for Read self.old) < length (ids_for Write self.old) }
         ensures lanes { (other : Access) (some : List Node) → IsLaneAmong nodes.now.nodes some (ids_for other self.old) → ids_for other self.new ≡ ids_of (without_if (excludes other access) id some) }
         ensures no_less { room_in self.old ≤ room_in self.new }
     {
         nodes.take_from(&mut self.named, id);
-        if access.is_write() {
+        if self.apart && access.is_write() {
             nodes.take_from(&mut self.writers, id);
         }
     }

@@ -7,7 +7,7 @@ use Rattle.kdg_graph.specs.Locations.{clashing_at}
 use Rattle.kdg_graph.specs.Node.{Node}
 use Rattle.kdg_graph.specs.Nodes.{ids_of, node_at}
 use Rattle.kdg_graph.specs.Rewrite.{without}
-use Rattle.kdg_graph.proofs.Filing.{again, filed_part, leave_step, no_less_step, within_left}
+use Rattle.kdg_graph.proofs.Filing.{again, fewer_left, filed_part, leave_step, no_less_step, within_left}
 use Rattle.kdg_graph.proofs.locations.Locations.leave.Goals as goal
 
 pub loop-pair-init : goal.loop-pair-init
@@ -35,6 +35,20 @@ index_mut-requires c =
     let at : p ≡ get_or ps i p = again ps i (0, Read) p inside in
     let within = within_left nodes c.args.id node ps i p c.loop-pair.self.locations.items c.len-graph.ensures.graph found c.items-pair-items.ensures.all up inside at c.loop-pair.invariant.filed in
     search (rules, within)
+
+pub leave-requires-clause-reads : goal.leave-requires-clause-reads
+leave-requires-clause-reads c =
+    let nodes : List Node = c.args.nodes.now.nodes in
+    let node : Node = record { id = c.node.inside.id; task = c.node.inside.task; set = c.node.inside.set; running = c.node.inside.running } in
+    let found : node_at nodes c.args.id ≡ Some node = c.entry-node.ensures ∙ ap (λ (n : Node). Some n) (sym c.node.view_is) in
+    let ps : Accesses = c.items-pair-items.result.now in
+    let up : IsAscendingSet ps = subst IsAscendingSet (sym c.items-pair-items.ensures.all) c.items-pair-items.ensures.ascending in
+    let i : ℕ = c.loop-pair.pair-index in
+    let inside : i < length ps = c.loop-pair-test.true in
+    let p : ℕ × Access = get_or ps i (0, Read) in
+    let at : p ≡ get_or ps i p = again ps i (0, Read) p inside in
+    let within = within_left nodes c.args.id node ps i p c.loop-pair.self.locations.items c.len-graph.ensures.graph found c.items-pair-items.ensures.all up inside at c.loop-pair.invariant.filed in
+    fewer_left nodes c.args.id node ps i p c.loop-pair.self.locations.items c.index_mut.result.now c.len-graph.ensures.graph found c.items-pair-items.ensures.all up inside at within c.index_mut.ensures.value c.loop-pair.invariant.filed
 
 pub loop-pair-preserved : goal.loop-pair-preserved
 loop-pair-preserved c =

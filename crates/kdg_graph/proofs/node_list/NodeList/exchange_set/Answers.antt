@@ -7,9 +7,8 @@ use Rattle.kdg_graph.specs.NodeStock.{NodeStock}
 use Rattle.kdg_graph.specs.Nodes.{HasNode, ids_of}
 use Rattle.kdg_graph.specs.Exchange.{AreFiledWith, lacking}
 use Rattle.kdg_graph.specs.Fronts.{fronts_after}
-use Rattle.kdg_graph.specs.Locations.{HasRoom, rooms_of}
+use Rattle.kdg_graph.specs.Locations.{HasRoom, Location, rooms_of}
 use Rattle.kdg_graph.specs.Rewrite.{without}
-use Rattle.kdg_graph.specs.declared.location.Location.{Location}
 use Rattle.kdg_graph.specs.Selected.{AreSelected, is_unblocked, refreshed}
 use Rattle.kdg_graph.proofs.Exchanging.{filed_before}
 use Rattle.kdg_graph.proofs.Selecting.{but, found_node}
