@@ -1,12 +1,11 @@
 -- The nodes of a slab are put in one after another, and any order of that gives the same list.
 use Rattle.std.proofs.Common.{◌≡◌, ◌≢◌, inl, inr, ℕ, zero, suc, ◌+◌, Bool, true, false, cond, List, [], ◌∷◌, length, get_or, set, filter_map, count_by, Option, Some, None, refl, sym, ◌∙◌, ap, subst, arith}
-use Rattle.std.specs.Prelude.{Contains, IsSome}
+use Rattle.std.specs.Prelude.{Contains, IsSome, is_some}
 use Rattle.std.specs.List.{AllByRecursion, filter}
 use Rattle.std.specs.Ordering.{is_lt}
 use Rattle.std.specs.declared.cmp.Ordering.TheVariants.{Less}
 use Rattle.std.proofs.lemmas.List.Sums.{length-filter, sum_by-cons}
 use Rattle.slab.specs.Slab.{Slab, Updates, entries, entries_from, get, slab_len, values}
-use Rattle.slab.proofs.DrainLemmas.{length-values}
 use Rattle.slab.proofs.SlabLemmas.{ContainsKey-within, Updates-set}
 use Rattle.task_order.specs.Key.{key_cmp, key_cmp_total}
 use Rattle.task_order.specs.TaskList.{IsAscending}
@@ -132,8 +131,14 @@ length_in_order : (nodes : List Node) → length (in_order nodes) ≡ length nod
 length_in_order [] = refl
 length_in_order (node ∷ nodes) = length-put node (in_order nodes) ∙ ap suc (length_in_order nodes)
 
+-- each slot that is taken has one value
+values_counted : (slots : List (Option Node)) → count_by is_some slots ≡ length (filter_map (λ slot. slot) slots)
+values_counted [] = refl
+values_counted (None ∷ slots) = omega (arith, values_counted slots, sum_by-cons (λ (slot : Option Node). cond (is_some slot) 1 0) None slots)
+values_counted (Some node ∷ slots) = omega (arith, values_counted slots, sum_by-cons (λ (slot : Option Node). cond (is_some slot) 1 0) (Some node) slots)
+
 pub length_stored : (slots : Slab Node) → slab_len slots ≡ length (nodes_of slots)
-length_stored slots = length-values slots.slots ∙ sym (length_in_order (values slots))
+length_stored slots = values_counted slots.slots ∙ sym (length_in_order (values slots))
 
 count_entries : (p : Node → Bool) (key : ℕ) (slots : List (Option Node)) → count_by (λ (entry : ℕ × Node). p entry.1) (entries_from key slots) ≡ count_by p (filter_map (λ slot. slot) slots)
 count_entries p key [] = refl
