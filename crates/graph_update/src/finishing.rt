@@ -82,7 +82,7 @@ impl<'a, A: App> Engine<'a, A> {
         basis::<A>();
         sound_finish_laws::<A>();
         stay_clear_laws::<A>();
-        let Ok(()) = self.log.reserve(1) else {
+        let Ok(()) = self.log.reserve_for(&done.effect.text) else {
             return Err(done);
         };
         let children = done.effect.children.items();

@@ -1,4 +1,4 @@
-ghost use Rattle.std.specs.Prelude.{◌≡◌, ◌+◌, ◌<◌, ◌≤◌, [], IfOk, OnOk, OnErr};
+ghost use Rattle.std.specs.Prelude.{◌≡◌, ◌≢◌, ◌+◌, ◌<◌, ◌≤◌, [], IfOk, OnOk, OnErr};
 ghost use Rattle.task_order.specs.Key.{at_key};
 ghost use Rattle.output_log.specs.Entries.{IsInKeyOrder, IsNewEntry, entries_before, entries_from, with_entry, joined_texts};
 
@@ -58,10 +58,25 @@ impl Log {
         self.blocks.reserve(additional)
     }
 
+    /// Makes place for an entry with this text, where it needs one. The entries stay as they are, also
+    /// after `NoRoom`.
+    #[inline(always)]
+    pub fn reserve_for(&mut self, text: &Text) -> Result<(), NoRoom>
+        ensures ok { OnOk result (text.now ≢ [] → 0 < self.new.spare) }
+        ensures kept { self.old.spare ≤ self.new.spare }
+        ensures entries { self.new.entries ≡ self.old.entries }
+    {
+        if text.is_empty() {
+            Ok(())
+        } else {
+            self.reserve(1)
+        }
+    }
+
     /// Puts an entry at its place, where `reserve` made one. It takes no memory, and where the text is
-    /// empty neither that place nor any time.
+    /// empty it needs neither a place nor any time.
     pub fn put(&mut self, key: Key, text: Text)
-        requires room { 0 < self.old.spare }
+        requires room { text ≢ [] → 0 < self.old.spare }
         requires new { IsNewEntry key self.old.entries }
         ensures entries { self.new.entries ≡ with_entry key text self.old.entries }
         ensures spare { self.old.spare ≤ self.new.spare + 1 }

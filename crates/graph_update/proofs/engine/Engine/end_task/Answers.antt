@@ -47,7 +47,7 @@ end_node-requires-clause-new g c κs within =
 pub put-requires-clause-new : goal.put-requires-clause-new
 put-requires-clause-new g c =
     let is = inside_done g.A.App.meaning _ _ c.args.done c.self.view_is c.requires.done in
-    subst (IsNewEntry c.args.done.task.key) (sym c.reserve.ensures.entries) (entry_is_new (c.basis.ensures c.self.inside.app.now) _ c.args.done is)
+    subst (IsNewEntry c.args.done.task.key) (sym c.reserve_for.ensures.entries) (entry_is_new (c.basis.ensures c.self.inside.app.now) _ c.args.done is)
 
 pub invariant_of-self-in-Ok-end_node : goal.invariant_of-self-in-Ok-end_node
 invariant_of-self-in-Ok-end_node g c =
@@ -55,20 +55,20 @@ invariant_of-self-in-Ok-end_node g c =
       stays_kept (c.basis.ensures c.self.inside.app.now) _ c.args.done is c.args.done.node (node_is (c.basis.ensures c.self.inside.app.now) _ c.args.done is)
           c.give-shell.new.self c.in-Ok-fresh_tasks.fresh.items c.end_node.new.graph c.put.new.self.entries c.args.created (c.self.inside.ended + 1)
           c.give-shell.ensures.given (c.in-Ok-fresh_tasks.ensures ∙ ap (fresh_from c.args.done.task.key 0) c.items-children.ensures.all) c.in-Ok-end_node.ensures.graph c.in-Ok-end_node.ensures.ok
-          (c.put.ensures.entries ∙ ap (with_entry c.args.done.task.key c.args.done.effect.text) c.reserve.ensures.entries)
+          (c.put.ensures.entries ∙ ap (with_entry c.args.done.task.key c.args.done.effect.text) c.reserve_for.ensures.entries)
           (c.requires.created ∙ ap (λ (engine : EngineState _ _). engine.progress.created + length c.args.done.effect.children) (sym c.self.view_is)) refl
           (c.sound_finish_laws.ensures c.self.inside.app.now) (subst (λ (engine : EngineState _ _). c.args.created ≤ engine.progress.limit) (sym c.self.view_is) c.requires.within) c.self.invariant.0.limited,
       some_are_ready (g.A.App.meaning c.self.inside.app.now) c.end_node.new.graph c.expect_more.new.self c.self.inside.ready.ids c.expect_more.ensures.ids c.expect_more.ensures.current
           (stays_ready (c.basis.ensures c.self.inside.app.now) _ c.args.done is c.args.done.node (node_is (c.basis.ensures c.self.inside.app.now) _ c.args.done is)
           c.give-shell.new.self c.in-Ok-fresh_tasks.fresh.items c.end_node.new.graph c.put.new.self.entries c.args.created (c.self.inside.ended + 1)
           c.give-shell.ensures.given (c.in-Ok-fresh_tasks.ensures ∙ ap (fresh_from c.args.done.task.key 0) c.items-children.ensures.all) c.in-Ok-end_node.ensures.graph c.in-Ok-end_node.ensures.ok
-          (c.put.ensures.entries ∙ ap (with_entry c.args.done.task.key c.args.done.effect.text) c.reserve.ensures.entries)
+          (c.put.ensures.entries ∙ ap (with_entry c.args.done.task.key c.args.done.effect.text) c.reserve_for.ensures.entries)
           (c.requires.created ∙ ap (λ (engine : EngineState _ _). engine.progress.created + length c.args.done.effect.children) (sym c.self.view_is)) refl
           (c.stay_clear_laws.ensures.stay c.self.inside.app.now) (subst (λ (engine : EngineState _ _). c.args.created ≤ engine.progress.limit) (sym c.self.view_is) c.requires.within) c.self.inside.ready.ids c.self.invariant.1.clear),
       stays_fixed (c.basis.ensures c.self.inside.app.now) _ c.args.done is c.args.done.node (node_is (c.basis.ensures c.self.inside.app.now) _ c.args.done is)
           c.give-shell.new.self c.in-Ok-fresh_tasks.fresh.items c.end_node.new.graph c.put.new.self.entries c.args.created (c.self.inside.ended + 1)
           c.give-shell.ensures.given (c.in-Ok-fresh_tasks.ensures ∙ ap (fresh_from c.args.done.task.key 0) c.items-children.ensures.all) c.in-Ok-end_node.ensures.graph c.in-Ok-end_node.ensures.ok
-          (c.put.ensures.entries ∙ ap (with_entry c.args.done.task.key c.args.done.effect.text) c.reserve.ensures.entries)
+          (c.put.ensures.entries ∙ ap (with_entry c.args.done.task.key c.args.done.effect.text) c.reserve_for.ensures.entries)
           (c.requires.created ∙ ap (λ (engine : EngineState _ _). engine.progress.created + length c.args.done.effect.children) (sym c.self.view_is)) refl
           (subst (λ (engine : EngineState _ _). c.args.created ≤ engine.progress.limit) (sym c.self.view_is) c.requires.within) c.self.invariant.2,
     )
@@ -76,9 +76,9 @@ invariant_of-self-in-Ok-end_node g c =
 pub invariant_of-self-in-Err : goal.invariant_of-self-in-Err
 invariant_of-self-in-Err g c =
     let is = inside_done g.A.App.meaning _ _ c.args.done c.self.view_is c.requires.done in (
-      subst (IsKept (g.A.App.meaning c.self.inside.app.now)) (sym (progress_back _ c.regain-bundle.new.self c.end_node.new.graph c.reserve.new.self.entries
+      subst (IsKept (g.A.App.meaning c.self.inside.app.now)) (sym (progress_back _ c.regain-bundle.new.self c.end_node.new.graph c.reserve_for.new.self.entries
           (cells_back c.self.inside.store c.give-shell.new.self c.args.done.effect.bundle c.give-shell.result (bundle_is_out (c.basis.ensures c.self.inside.app.now) is.sound is.performed) c.give-shell.ensures.given c.give-shell.ensures.shell (c.basis.ensures c.self.inside.app.now).takes_back c.regain-bundle.new.self c.regain-bundle.ensures.taken)
-          c.in-Err.ensures.unchanged c.reserve.ensures.entries)) c.self.invariant.0,
+          c.in-Err.ensures.unchanged c.reserve_for.ensures.entries)) c.self.invariant.0,
       subst (λ nodes. AreReady (g.A.App.meaning c.self.inside.app.now) nodes c.self.inside.ready) (sym c.in-Err.ensures.unchanged) c.self.invariant.1,
       subst (HaveFixedSets (g.A.App.meaning c.self.inside.app.now)) (sym c.in-Err.ensures.unchanged) c.self.invariant.2,
     )
@@ -89,7 +89,7 @@ returns-in-Ok-end_node-clause-finished g c =
     let finished = is_finished (c.basis.ensures c.self.inside.app.now) _ c.args.done is c.args.done.node (node_is (c.basis.ensures c.self.inside.app.now) _ c.args.done is)
     c.give-shell.new.self c.in-Ok-fresh_tasks.fresh.items c.end_node.new.graph c.put.new.self.entries c.args.created (c.self.inside.ended + 1)
     c.give-shell.ensures.given (c.in-Ok-fresh_tasks.ensures ∙ ap (fresh_from c.args.done.task.key 0) c.items-children.ensures.all) c.in-Ok-end_node.ensures.graph c.in-Ok-end_node.ensures.ok
-    (c.put.ensures.entries ∙ ap (with_entry c.args.done.task.key c.args.done.effect.text) c.reserve.ensures.entries)
+    (c.put.ensures.entries ∙ ap (with_entry c.args.done.task.key c.args.done.effect.text) c.reserve_for.ensures.entries)
     (c.requires.created ∙ ap (λ (engine : EngineState _ _). engine.progress.created + length c.args.done.effect.children) (sym c.self.view_is)) refl in
     engine_finished g.A.App.meaning _ _ c.args.done c.self.view_is _ finished
 
@@ -99,7 +99,7 @@ returns-in-Ok-end_node-clause-sound g c =
     let sound = stays_sound (c.basis.ensures c.self.inside.app.now) _ c.args.done is c.args.done.node (node_is (c.basis.ensures c.self.inside.app.now) _ c.args.done is)
     c.give-shell.new.self c.in-Ok-fresh_tasks.fresh.items c.end_node.new.graph c.put.new.self.entries c.args.created (c.self.inside.ended + 1)
     c.give-shell.ensures.given (c.in-Ok-fresh_tasks.ensures ∙ ap (fresh_from c.args.done.task.key 0) c.items-children.ensures.all) c.in-Ok-end_node.ensures.graph c.in-Ok-end_node.ensures.ok
-    (c.put.ensures.entries ∙ ap (with_entry c.args.done.task.key c.args.done.effect.text) c.reserve.ensures.entries)
+    (c.put.ensures.entries ∙ ap (with_entry c.args.done.task.key c.args.done.effect.text) c.reserve_for.ensures.entries)
     (c.requires.created ∙ ap (λ (engine : EngineState _ _). engine.progress.created + length c.args.done.effect.children) (sym c.self.view_is)) refl
     (c.sound_finish_laws.ensures c.self.inside.app.now) (subst (λ (engine : EngineState _ _). c.args.created ≤ engine.progress.limit) (sym c.self.view_is) c.requires.within) in
     engine_sound g.A.App.meaning _ _ c.args.done c.self.view_is _ sound
@@ -125,6 +125,6 @@ returns-in-Err-clause-returned g c =
 pub returns-in-Err-clause-unchanged : goal.returns-in-Err-clause-unchanged
 returns-in-Err-clause-unchanged g c =
     let is = inside_done g.A.App.meaning _ _ c.args.done c.self.view_is c.requires.done in
-    ap (λ (progress : Progress _). let engine : EngineState _ _ = record { app = c.self.inside.app.now; progress = progress } in engine) (progress_back _ c.regain-bundle.new.self c.end_node.new.graph c.reserve.new.self.entries
+    ap (λ (progress : Progress _). let engine : EngineState _ _ = record { app = c.self.inside.app.now; progress = progress } in engine) (progress_back _ c.regain-bundle.new.self c.end_node.new.graph c.reserve_for.new.self.entries
     (cells_back c.self.inside.store c.give-shell.new.self c.args.done.effect.bundle c.give-shell.result (bundle_is_out (c.basis.ensures c.self.inside.app.now) is.sound is.performed) c.give-shell.ensures.given c.give-shell.ensures.shell (c.basis.ensures c.self.inside.app.now).takes_back c.regain-bundle.new.self c.regain-bundle.ensures.taken)
-    c.in-Err.ensures.unchanged c.reserve.ensures.entries) ∙ c.self.view_is
+    c.in-Err.ensures.unchanged c.reserve_for.ensures.entries) ∙ c.self.view_is
