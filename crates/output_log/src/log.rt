@@ -12,7 +12,7 @@ use task_order::Key;
 
 /// The texts of tasks that have ended, in the order of the tasks' keys, until they are taken.
 ///
-/// A task that wrote nothing has an entry too, but only clauses see it: no memory is taken for it. The
+/// A task that wrote nothing has an entry too, but only clauses see it, and no memory is taken for it. The
 /// other entries stand in blocks. To put one in takes time in the logarithm of its distance to the one
 /// before it, counted in blocks, and moves some entries of its block; where it comes close behind that
 /// one, a few comparisons find its place. Entries are taken from the front by whole blocks, and where

@@ -47,10 +47,12 @@ fn numbers(alloc: Global, first: u8, end: u8) -> Result<Vec<u8>, NoRoom> {
 fn texts_are_joined_in_key_order(rt: HostRuntime) -> Result<(), Fail> {
     let alloc = rt.alloc();
     let mut log = Log::new(alloc);
-    log.reserve(3)?;
+    log.reserve(2)?;
     log.put(key(alloc, 1)?, text(alloc, b"b")?);
-    log.put(key(alloc, 2)?, text(alloc, b"")?);
     log.put(key(alloc, 0)?, text(alloc, b"a")?);
+    let silent = text(alloc, b"")?;
+    log.reserve_for(&silent)?;
+    log.put(key(alloc, 2)?, silent);
     let bound = key(alloc, 1)?;
     assert_eq!(rt; log.all()?.bytes(), b"ab".as_slice());
     assert_eq!(rt; log.take_below(&bound)?.bytes(), b"a".as_slice());
