@@ -1,29 +1,31 @@
 -- What a node that comes tells by its places at the locations of its set.
-use Rattle.std.proofs.Common.{◌≡◌, ℕ, zero, suc, ◌<◌, ◌≤◌, Bool, true, false, not, List, [], ◌∷◌, ◌++◌, length, get_or, Option, Some, None, refl, sym, ◌∙◌, ap, subst, arith, eqb-true, ◌==◌}
+use Rattle.std.proofs.Common.{◌≡◌, ◌≢◌, inl, inr, ℕ, zero, suc, ◌<◌, ◌≤◌, Bool, true, false, not, List, [], ◌∷◌, length, get_or, Option, Some, None, refl, sym, ◌∙◌, ap, subst, arith, eqb-true, ltb, ◌==◌}
 use Rattle.std.specs.Prelude.{Contains, IfSome}
-use Rattle.std.specs.List.{filter, flat_map}
-use Rattle.std.proofs.lemmas.Bool.{false_from_ne_true, true≢false}
-use Rattle.std.proofs.lemmas.List.Concat.{flat_map-cons}
+use Rattle.std.specs.List.{AllByRecursion, filter}
+use Rattle.std.specs.Ordering.{is_lt}
+use Rattle.std.proofs.lemmas.Bool.{false_from_ne_true, ltb-true, true≢false}
 use Rattle.task_order.specs.declared.key.Key.{Key}
+use Rattle.task_order.specs.Key.{key_cmp_total}
 use Rattle.rw_sets.specs.declared.access.Access.{Access}
 use Rattle.rw_sets.specs.declared.access.Access.TheVariants.{Read, Write}
-use Rattle.rw_sets.specs.Accesses.{Accesses, IsAscending as IsAscendingSet, access_at}
+use Rattle.rw_sets.specs.Accesses.{Accesses, Conflicts, IsAscending as IsAscendingSet, access_at, clash, conflicts_with}
 use Rattle.rw_sets.specs.Laws.{ConflictsAreDecided, ConflictsAreMutual}
 use Rattle.kdg_graph.specs.declared.node_id.NodeId.{NodeId}
 use Rattle.kdg_graph.specs.Edges.{is_blocked}
-use Rattle.kdg_graph.specs.Fronts.{fronts_after}
+use Rattle.kdg_graph.specs.Fronts.{BlocksNoneAlone, fronts_after, stoppers}
 use Rattle.kdg_graph.specs.Lanes.{IsRank}
 use Rattle.kdg_graph.specs.Locations.{clashes_at, clashing_at, front_after, is_blocked_at, is_first_before, up_to_writer}
 use Rattle.kdg_graph.specs.Node.{Node}
 use Rattle.kdg_graph.specs.Nodes.{IsGraph, earlier_than, ids_of, is_at, later_than, node_at}
 use Rattle.kdg_graph.specs.Rewrite.{without}
-use Rattle.kdg_graph.proofs.Blocking.{before_first, blocked_by_first}
+use Rattle.kdg_graph.proofs.Blocking.{access_of, any_from, before_first, blocked_by_first}
 use Rattle.kdg_graph.proofs.Filing.{again, named_by}
-use Rattle.kdg_graph.proofs.Filtered.{dropped}
+use Rattle.kdg_graph.proofs.Filtered.{dropped, kept}
+use Rattle.kdg_graph.proofs.Fronts.{from_fronts, from_up_to}
 use Rattle.kdg_graph.proofs.Lanes.{length-ids}
-use Rattle.kdg_graph.proofs.Members.{from_filter, here, in_filter, none, none_any, there}
+use Rattle.kdg_graph.proofs.Members.{all_from, from_filter, here, in_filter, none, none_any}
 use Rattle.kdg_graph.proofs.Neighbours.{same_found}
-use Rattle.kdg_graph.proofs.Ordering.{is_before, not_itself}
+use Rattle.kdg_graph.proofs.Ordering.{Less_from_test, is_before, not_itself}
 use Rattle.kdg_graph.proofs.Pasts.{earlier_not_past, is_past, rank_rest}
 use Rattle.kdg_graph.proofs.Places.{not_at}
 
@@ -46,14 +48,30 @@ none_later key (node ∷ some) zero last rank = absurd (omega (arith, last))
 none_later key (node ∷ some) (suc place) last rank =
     dropped (is_past key) node some (earlier_not_past key node (rank.point.0 0 node (omega arith) (omega arith))) ∙ none_later key some place (omega (arith, last)) (rank_rest key node some place rank)
 
+-- behind the first place some are
+pub some_earlier : (key : Key) (some : List Node) (place : ℕ) → 0 < place → IsRank key some place → earlier_than key some ≢ []
+some_earlier key [] place behind rank none = absurd (omega (arith, behind, rank.inside))
+some_earlier key (node ∷ some) place behind rank none =
+    let wrong : node ∷ earlier_than key some ≡ [] = sym (kept (is_before key) node some (rank.point.0 0 node (omega arith) (omega (arith, behind)))) ∙ none in
+    cc
+
 -- so by the test of the place
 pub first_if : (found : Option Node) (some : List Node) (place : ℕ) → IfSome found (λ node. IsRank node.task.key some place) → IfSome found (λ node. (place == 0) ≡ true → earlier_than node.task.key some ≡ [])
 first_if None some place rank = tt
 first_if (Some node) some place rank = λ is. none_earlier node.task.key some place (eqb-true place 0 is) rank
 
-pub last_if : (found : Option Node) (some : List Node) (ids : List NodeId) (place others : ℕ) → others ≡ length ids → ids ≡ ids_of some → IfSome found (λ node. IsRank node.task.key some place) → IfSome found (λ node. (place == others) ≡ true → later_than node.task.key some ≡ [])
-last_if None some ids place others long are rank = tt
-last_if (Some node) some ids place others long are rank = λ is. none_later node.task.key some place (omega (arith, eqb-true place others is, long, ap length are, length-ids some)) rank
+pub blocked_if : (A : Type 0) (found : Option Node) (some : List Node) (place : ℕ) (access : Access) → IfSome found (λ node. IsRank node.task.key some place) → (A → (0 < place) × (access ≡ Write)) → IfSome found (λ node. A → (access ≡ Write) × (earlier_than node.task.key some ≢ []))
+blocked_if A None some place access rank told = tt
+blocked_if A (Some node) some place access rank told = λ is. ((told is).1, some_earlier node.task.key some place (told is).0 rank)
+
+pub last_if : (A : Type 0) (found : Option Node) (access : Access) (some writers : List Node) (ids : List NodeId) (place others : ℕ) → others ≡ length ids → ids ≡ ids_of some → place ≡ others → IfSome found (λ node. IsRank node.task.key some place)
+    → IfSome found (λ node. A → BlocksNoneAlone access node.task.key some writers)
+last_if A None access some writers ids place others long are is rank = tt
+last_if A (Some node) access some writers ids place others long are is rank = λ _. inl (none_later node.task.key some place (omega (arith, is, long, ap length are, length-ids some)) rank)
+
+pub stopped_if : (found : Option Node) (access : Access) (some writers : List Node) (place : ℕ) → IfSome found (λ node. IsRank node.task.key (stoppers access some writers) place) → IfSome found (λ node. ltb 0 place ≡ true → BlocksNoneAlone access node.task.key some writers)
+stopped_if None access some writers place rank = tt
+stopped_if (Some node) access some writers place rank = λ is. inr (some_earlier node.task.key (stoppers access some writers) place (ltb-true 0 place is) rank)
 
 -- ---- at one location
 
@@ -97,17 +115,76 @@ each_pair P ps set i same end each p has =
     let found : Contains ps p = subst (λ (l : Accesses). Contains l p) (sym same) has in
     subst P (again ps found.0 (0, Read) p found.1 ∙ found.2) (each found.0 (omega (arith, found.1, end)))
 
-none_flat : (f : ℕ × Access → List Node) (ps : Accesses) → ((p : ℕ × Access) → Contains ps p → f p ≡ []) → flat_map f ps ≡ []
-none_flat f [] each = refl
-none_flat f (p ∷ ps) each = flat_map-cons f p ps ∙ ap (λ l. l ++ flat_map f ps) (each p (here p ps)) ∙ none_flat f ps (λ q has. each q (there p q ps has))
-
 -- where it is first at each, nothing blocks it
 pub first_unblocked : ConflictsAreDecided → ConflictsAreMutual → (nodes : List Node) (id : NodeId) (node : Node) → IsGraph nodes → IsAscendingSet node.set → node_at nodes id ≡ Some node
     → ((p : ℕ × Access) → Contains node.set p → earlier_than node.task.key (clashing_at p.0 Write (without id nodes)) ≡ []) → is_blocked nodes node ≡ false
 first_unblocked decided both_ways nodes id node graph up is each =
     blocked_by_first decided both_ways nodes node graph.ascending up ∙ none_any (is_blocked_at nodes node) node.set (λ p has. unblocked_at nodes id node p.0 p.1 graph is (each p has))
 
--- where it is last at each, it has no fronts
-pub last_without_fronts : (nodes : List Node) (id : NodeId) (node : Node) → IsGraph nodes → node_at nodes id ≡ Some node → ((p : ℕ × Access) → Contains node.set p → later_than node.task.key (clashing_at p.0 Write (without id nodes)) ≡ [])
-    → fronts_after node.set node.task.key nodes ≡ []
-last_without_fronts nodes id node graph is each = none_flat (λ (p : ℕ × Access). front_after p.0 p.1 node.task.key nodes) node.set (λ p has. no_front_at nodes id node p.0 p.1 graph is (each p has))
+a_member : (nodes : List Node) → nodes ≢ [] → (node : Node) × Contains nodes node
+a_member [] some = absurd (some refl)
+a_member (node ∷ nodes) some = (node, here node nodes)
+
+-- who is earlier there blocks it, where it writes
+pub blocked_by_earlier : ConflictsAreDecided → ConflictsAreMutual → (nodes : List Node) (id : NodeId) (node : Node) (p : ℕ × Access) → IsAscendingSet node.set → Contains node.set p → p.1 ≡ Write → earlier_than node.task.key (clashing_at p.0 Write (without id nodes)) ≢ []
+    → is_blocked nodes node ≡ true
+blocked_by_earlier decided both_ways nodes id node p up has is some =
+    let key : Key = node.task.key in
+    let rest : List Node = without id nodes in
+    let first = a_member (earlier_than key (clashing_at p.0 Write rest)) some in
+    let earlier = from_filter (is_before key) (clashing_at p.0 Write rest) first.0 first.1 in
+    let among = from_filter (clashes_at p.0 Write) rest first.0 earlier.0 in
+    let stands = from_filter (λ (n : Node). not (is_at id n)) nodes first.0 among.0 in
+    let conflict : Conflicts node.set first.0.set = (p.0, ap (λ found. clash found (access_at first.0.set p.0)) (access_of node.set p up has ∙ ap (λ (x : Access). Some x) is) ∙ among.1) in
+    any_from (λ (n : Node). conflicts_with n.set node.set) (earlier_than key nodes) first.0 (in_filter (is_before key) nodes first.0 stands.0 earlier.1) ((decided first.0.set node.set).1 (both_ways node.set first.0.set conflict))
+
+-- ---- those that it doesn't block alone
+
+named_meets_writer : (a b : Option Access) → clash (Some Write) a ≡ true → clash (Some Read) b ≡ true → clash a b ≡ true
+named_meets_writer None b named writes = absurd (true≢false (sym named))
+named_meets_writer (Some x) None named writes = absurd (true≢false (sym writes))
+named_meets_writer (Some x) (Some Read) named writes = absurd (true≢false (sym writes))
+named_meets_writer (Some Read) (Some Write) named writes = refl
+named_meets_writer (Some Write) (Some Write) named writes = refl
+
+writer_meets_named : (a b : Option Access) → clash (Some Read) a ≡ true → clash (Some Write) b ≡ true → clash a b ≡ true
+writer_meets_named None b writes named = absurd (true≢false (sym writes))
+writer_meets_named (Some Read) b writes named = absurd (true≢false (sym writes))
+writer_meets_named (Some Write) None writes named = absurd (true≢false (sym named))
+writer_meets_named (Some Write) (Some y) writes named = refl
+
+-- a stopper is in conflict with all that the access may block
+stopper_conflicts : ConflictsAreDecided → (loc : ℕ) (access : Access) (nodes : List Node) (stopper other : Node) → Contains (stoppers access (clashing_at loc Write nodes) (clashing_at loc Read nodes)) stopper → clashes_at loc access other ≡ true
+    → Contains nodes stopper × (conflicts_with stopper.set other.set ≡ true)
+stopper_conflicts decided loc Read nodes stopper other has met =
+    let among = from_filter (clashes_at loc Write) nodes stopper has in
+    (among.0, (decided stopper.set other.set).1 (loc, named_meets_writer (access_at stopper.set loc) (access_at other.set loc) among.1 met))
+stopper_conflicts decided loc Write nodes stopper other has met =
+    let among = from_filter (clashes_at loc Read) nodes stopper has in
+    (among.0, (decided stopper.set other.set).1 (loc, writer_meets_named (access_at stopper.set loc) (access_at other.set loc) among.1 met))
+
+-- where it blocks none there alone, the others block its front
+front_blocked : ConflictsAreDecided → (nodes : List Node) (id : NodeId) (node other : Node) (loc : ℕ) (access : Access) → IsGraph nodes → node_at nodes id ≡ Some node
+    → BlocksNoneAlone access node.task.key (clashing_at loc Write (without id nodes)) (clashing_at loc Read (without id nodes)) → Contains (front_after loc access node.task.key nodes) other → is_blocked (without id nodes) other ≡ true
+front_blocked decided nodes id node other loc access graph is not_alone has =
+    let key : Key = node.task.key in
+    let rest : List Node = without id nodes in
+    let stopping : List Node = stoppers access (clashing_at loc Write rest) (clashing_at loc Read rest) in
+    elim not_alone [
+      | inl last ↦ absurd (none other (subst (λ (l : List Node). Contains l other) (no_front_at nodes id node loc access graph is last) has))
+      | inr some ↦
+          let clashing = from_filter (clashes_at loc access) (later_than key nodes) other (from_up_to loc (clashing_at loc access (later_than key nodes)) other has) in
+          let later = from_filter (is_past key) nodes other clashing.0 in
+          let first = a_member (earlier_than key stopping) some in
+          let earlier = from_filter (is_before key) stopping first.0 first.1 in
+          let met = stopper_conflicts decided loc access rest first.0 other earlier.0 clashing.1 in
+          let before : is_before other.task.key first.0 ≡ true = ap is_lt (key_cmp_total.trans first.0.task.key key other.task.key (Less_from_test _ earlier.1) (Less_from_test _ later.1)) in
+          any_from (λ (n : Node). conflicts_with n.set other.set) (earlier_than other.task.key rest) first.0 (in_filter (is_before other.task.key) rest first.0 met.0 before) met.1
+    ]
+
+pub fronts_blocked : ConflictsAreDecided → (nodes : List Node) (id : NodeId) (node : Node) → IsGraph nodes → node_at nodes id ≡ Some node
+    → ((p : ℕ × Access) → Contains node.set p → BlocksNoneAlone p.1 node.task.key (clashing_at p.0 Write (without id nodes)) (clashing_at p.0 Read (without id nodes))) → AllByRecursion (λ other. is_blocked (without id nodes) other ≡ true) (fronts_after node.set node.task.key nodes)
+fronts_blocked decided nodes id node graph is each =
+    all_from (λ (other : Node). is_blocked (without id nodes) other ≡ true) (fronts_after node.set node.task.key nodes) (λ other has.
+    let front = from_fronts node.set node.task.key nodes other has in
+    front_blocked decided nodes id node other front.0.0 front.0.1 graph is (each front.0 front.1) front.2)

@@ -135,7 +135,7 @@ in_fronts (q ∷ set) p key nodes node has among = elim (cases q p set has) [
   | inr later ↦ in_right (front_after q.0 q.1 key nodes) (fronts_after set key nodes) node (in_fronts set p key nodes node later among)
 ]
 
-among_ids : (nodes : List Node) (node : Node) → Contains nodes node → is_among (ids_of nodes) node ≡ true
+pub among_ids : (nodes : List Node) (node : Node) → Contains nodes node → is_among (ids_of nodes) node ≡ true
 among_ids nodes node has = any_from (λ id. is_at id node) (ids_of nodes) node.id (in_map (λ (n : Node). n.id) nodes node has) (is_at-same node.id node refl)
 
 -- a later node that one of the pairs clashes with is in the fronts, or else blocked by others
@@ -186,19 +186,28 @@ from_append {X} (y ∷ xs) ys x has = elim (cases y x (xs ++ ys) has) [
   | inr later ↦ elim (from_append xs ys x later) [ inl first ↦ inl (there y x xs first) | inr second ↦ inr second ]
 ]
 
-from_fronts : (set : Accesses) (key : Key) (nodes : List Node) (node : Node) → Contains (fronts_after set key nodes) node → (p : ℕ × Access) × Contains set p × Contains (front_after p.0 p.1 key nodes) node
+pub from_fronts : (set : Accesses) (key : Key) (nodes : List Node) (node : Node) → Contains (fronts_after set key nodes) node → (p : ℕ × Access) × Contains set p × Contains (front_after p.0 p.1 key nodes) node
 from_fronts [] key nodes node has = absurd (none node has)
 from_fronts (p ∷ set) key nodes node has = elim (from_append (front_after p.0 p.1 key nodes) (fronts_after set key nodes) node has) [
   | inl first ↦ (p, here p set, first)
   | inr later ↦ let rest : (q : ℕ × Access) × Contains set q × Contains (front_after q.0 q.1 key nodes) node = from_fronts set key nodes node later in (rest.0, there p rest.0 set rest.1, rest.2)
 ]
 
-from_up_to : (loc : ℕ) (nodes : List Node) (node : Node) → Contains (up_to_writer loc nodes) node → Contains nodes node
+pub from_up_to : (loc : ℕ) (nodes : List Node) (node : Node) → Contains (up_to_writer loc nodes) node → Contains nodes node
 from_up_to loc [] node has = has
 from_up_to loc (first ∷ nodes) node has = elim (cases first node (cond (writes first.set loc) [] (up_to_writer loc nodes)) has) [
   | inl same ↦ subst (λ (n : Node). Contains (first ∷ nodes) n) same (here first nodes)
   | inr later ↦ there first node nodes (elim (writes first.set loc) as (λ last. Contains (cond last [] (up_to_writer loc nodes)) node → Contains nodes node) [ true ↦ λ is. absurd (none node is) | false ↦ from_up_to loc nodes node ] later)
 ]
+
+-- the fronts are some of the nodes
+pub fronts_are_nodes : (set : Accesses) (key : Key) (nodes : List Node) (node : Node) → Contains (fronts_after set key nodes) node → Contains nodes node
+fronts_are_nodes set key nodes node has =
+    let pair : (p : ℕ × Access) × Contains set p × Contains (front_after p.0 p.1 key nodes) node = from_fronts set key nodes node has in
+    let loc : ℕ = pair.0.0 in
+    let behind : List Node = later_than key nodes in
+    let clashes : Contains behind node × (clashes_at loc pair.0.1 node ≡ true) = from_filter (clashes_at loc pair.0.1) behind node (from_up_to loc (clashing_at loc pair.0.1 behind) node pair.2) in
+    (from_filter (λ other. is_lt (key_cmp key other.task.key)) nodes node clashes.0).0
 
 -- the fronts behind a node that is there are blocked by it
 pub blocked_front : (new : Node) (nodes : List Node) (node : Node) → IsGraph nodes → Contains nodes new → Contains nodes node → is_among (ids_of (fronts_after new.set new.task.key nodes)) node ≡ true → is_unblocked nodes node ≡ false

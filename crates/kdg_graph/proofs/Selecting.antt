@@ -206,6 +206,22 @@ retested_append answer some more test node =
 pub select_append : (answer : Node → Bool) (nodes : List Node) (some more : List NodeId) (test : Node → Bool) (ids : List NodeId) → AreSelected nodes (retested answer more (retested answer some test)) ids → AreSelected nodes (retested answer (some ++ more) test) ids
 select_append answer nodes some more test ids is = is ∙ ap ids_of (same_filter _ _ nodes (λ node _. retested_append answer some more test node))
 
+-- to forget nodes that fail the test changes nothing
+pub forgotten_failing : (nodes some : List Node) (test : Node → Bool) (ids : List NodeId) → IsGraph nodes → ((node : Node) → Contains some node → Contains nodes node) → AllByRecursion (λ node. test node ≡ false) some → AreSelected nodes test ids → AreSelected nodes (forgotten (ids_of some) test) ids
+forgotten_failing nodes some test ids graph there fail is =
+    let by_case : (node : Node) → Contains nodes node → (among : Bool) → is_among (ids_of some) node ≡ among → test node ≡ cond among false (test node) = λ node has. elim [
+      | true ↦ λ among. fails node has among
+      | false ↦ λ _. refl
+    ] in
+    is ∙ ap ids_of (same_filter test (forgotten (ids_of some) test) nodes (λ node has. by_case node has (is_among (ids_of some) node) refl))
+  where
+    fails : (node : Node) → Contains nodes node → is_among (ids_of some) node ≡ true → test node ≡ false
+    fails node has among =
+        let found : (id : NodeId) × Contains (ids_of some) id × (is_at id node ≡ true) = some_passes (λ id. is_at id node) (ids_of some) among in
+        let one : (n : Node) × Contains some n × (n.id ≡ found.0) = from_map (λ (n : Node). n.id) some found.0 found.1 in
+        let same : one.0 ≡ node = same_found nodes node.id node one.0 graph (there one.0 one.1) (one.2 ∙ sym (same_id found.0 node found.2)) (nodes_have_ids nodes node graph has) in
+        ap test (sym same) ∙ all_at (λ (n : Node). test n ≡ false) some one.0 fail one.1
+
 -- ---- the walks over fronts
 
 -- one place more of a front

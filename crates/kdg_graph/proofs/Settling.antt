@@ -22,10 +22,10 @@ use Rattle.kdg_graph.specs.Selected.{AreSelected, HaveMarks, forgotten, is_among
 use Rattle.kdg_graph.proofs.Blocking.{any_from, pair_of}
 use Rattle.kdg_graph.proofs.Exchanging.{same_access}
 use Rattle.kdg_graph.proofs.Filtered.{ascending_filtered, filter_twice, filters_commute, put_dropped, put_without, same_filter}
-use Rattle.kdg_graph.proofs.Fronts.{ClashingPair, blocked_front, blocked_put, clashing_pair, met_in_front, unblocked_outside}
+use Rattle.kdg_graph.proofs.Fronts.{ClashingPair, among_ids, blocked_front, blocked_put, clashing_pair, fronts_are_nodes, met_in_front, unblocked_outside}
 use Rattle.kdg_graph.proofs.Keeping.{changed, ids-map, start, start_keeps_id, start_keeps_task, with_set_if}
 use Rattle.kdg_graph.proofs.LookUps.{ids_find_nodes, nodes_have_ids}
-use Rattle.kdg_graph.proofs.Members.{all_from, from_filter, in_filter}
+use Rattle.kdg_graph.proofs.Members.{all_at, all_from, from_filter, in_filter}
 use Rattle.kdg_graph.proofs.Ordering.{is_before, not_itself}
 use Rattle.kdg_graph.proofs.Places.{is_at-same, map_none, none_at, not_at, without_none}
 use Rattle.kdg_graph.proofs.Rewritten.{in_put_new}
@@ -89,6 +89,21 @@ fronts_forgotten new now test ids graph has is =
       | false ↦ λ _. refl
     ] in
     is ∙ ap ids_of (same_filter (forgotten front test) (refreshed now front test) now (λ node has_node. by_case node has_node (is_among front node) refl))
+
+-- where all of the fronts were blocked before it came, they fail once it is refreshed
+pub fronts_failing : (new : Node) (rest now : List Node) → IsGraph now → Contains now new → AllByRecursion (λ other. is_blocked rest other ≡ true) (fronts_after new.set new.task.key now)
+    → AllByRecursion (λ other. refreshed now (new.id ∷ []) (but new.id (is_unblocked rest)) other ≡ false) (fronts_after new.set new.task.key now)
+fronts_failing new rest now graph has blocked =
+    let front : List Node = fronts_after new.set new.task.key now in
+    let test : Node → Bool = refreshed now (new.id ∷ []) (but new.id (is_unblocked rest)) in
+    all_from (λ (other : Node). test other ≡ false) front (λ other among.
+    let here : is_unblocked now other ≡ false = blocked_front new now other graph has (fronts_are_nodes new.set new.task.key now other among) (among_ids front other among) in
+    let before : is_unblocked rest other ≡ false = ap not (all_at (λ (n : Node). is_blocked rest n ≡ true) front other blocked among) in
+    (λ i. cond (is_at new.id other || false) (here i) (before i && not (is_at new.id other))) ∙ fails_both (is_at new.id other || false))
+  where
+    fails_both : (among : Bool) → cond among false false ≡ false
+    fails_both true = refl
+    fails_both false = refl
 
 -- where the others were tested right but for some that are refreshed as well
 pub settled_put : (new : Node) (rest now : List Node) (more : List NodeId) (test : Node → Bool) (ids : List NodeId) → IsAscending (tasks_of rest) → IsGraph now → now ≡ put_node new rest → ((node : Node) → Contains rest node → is_among more node ≡ false → test node ≡ is_unblocked rest node)

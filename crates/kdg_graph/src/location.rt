@@ -1,9 +1,10 @@
-ghost use Rattle.std.specs.Prelude.{◌≡◌, ◌+◌, ◌<◌, ◌≤◌, [], length, true, IfSome, List, OnOk};
+ghost use Rattle.std.specs.Prelude.{◌≡◌, ◌≢◌, ◌+◌, ◌<◌, ◌≤◌, [], length, true, IfSome, List, OnOk};
 ghost use Rattle.rw_sets.specs.declared.access.Access.TheVariants.{Read, Write};
 ghost use Rattle.rw_sets.specs.declared.access.Access.{Access};
 ghost use Rattle.rw_sets.specs.Accesses.{excludes};
+ghost use Rattle.kdg_graph.specs.Fronts.{BlocksNoneAlone};
 ghost use Rattle.kdg_graph.specs.Node.{Node};
-ghost use Rattle.kdg_graph.specs.Nodes.{HasNode, earlier_than, ids_of, later_than, node_at};
+ghost use Rattle.kdg_graph.specs.Nodes.{HasNode, earlier_than, ids_of, node_at};
 ghost use Rattle.kdg_graph.specs.Locations.{IsLaneAmong, ids_for, put_if, room_in, without_if};
 
 use crate::NodeId;
@@ -14,11 +15,16 @@ use rw_sets::Access;
 use std::alloc::Global;
 use std::marker::Model;
 
-/// Whether no earlier node names a location that a node names, and whether no later one does.
+/// What a node that comes learns of the nodes before and behind it. Where one of these isn't told, it
+/// may still be so.
 #[derive(Clone, Copy)]
-pub(crate) struct Ends {
+pub(crate) struct Neighbours {
+    /// No earlier node is in conflict with it.
     pub(crate) first: bool,
-    pub(crate) last: bool,
+    /// An earlier node is.
+    pub(crate) blocked: bool,
+    /// Each later node that it may block alone is blocked by an earlier one too, or none is there.
+    pub(crate) blocks_none: bool,
 }
 
 /// The nodes whose recorded sets name one location, and those of them that write it, in key order.
@@ -90,14 +96,15 @@ impl Location {
         self.writers.reserve(all)
     }
 
-    /// Files a node, where `reserve` made room, and tells whether it is the first and the last here. It
-    /// takes no memory.
-    pub(crate) fn enter(&mut self, nodes: &OrderedNodes, id: NodeId, access: Access) -> Ends
+    /// Files a node, where `reserve` made room, and tells what it has before and behind it here. It takes
+    /// no memory.
+    pub(crate) fn enter(&mut self, nodes: &OrderedNodes, id: NodeId, access: Access) -> Neighbours
         requires there { HasNode nodes.now.nodes id }
         requires room { 1 ≤ room_in self.old }
         ensures lanes { (other : Access) (some : List Node) → IsLaneAmong nodes.now.nodes some (ids_for other self.old) → IfSome (node_at nodes.now.nodes id) (λ node. ids_for other self.new ≡ ids_of (put_if (excludes other access) node some)) }
         ensures first { (some : List Node) → IsLaneAmong nodes.now.nodes some (ids_for Write self.old) → IfSome (node_at nodes.now.nodes id) (λ node. result.first ≡ true → earlier_than node.task.key some ≡ []) }
-        ensures last { (some : List Node) → IsLaneAmong nodes.now.nodes some (ids_for Write self.old) → IfSome (node_at nodes.now.nodes id) (λ node. result.last ≡ true → later_than node.task.key some ≡ []) }
+        ensures blocked { (some : List Node) → IsLaneAmong nodes.now.nodes some (ids_for Write self.old) → IfSome (node_at nodes.now.nodes id) (λ node. result.blocked ≡ true → (access ≡ Write) × (earlier_than node.task.key some ≢ [])) }
+        ensures blocks_none { (some writers : List Node) → IsLaneAmong nodes.now.nodes some (ids_for Write self.old) → IsLaneAmong nodes.now.nodes writers (ids_for Read self.old) → IfSome (node_at nodes.now.nodes id) (λ node. result.blocks_none ≡ true → BlocksNoneAlone access node.task.key some writers) }
         ensures room { room_in self.old ≤ room_in self.new + 1 }
     {
         if !self.apart && !access.is_write() {
@@ -105,13 +112,18 @@ impl Location {
             self.apart = true;
         }
         let others = self.named.len();
-        let place = nodes.put_into(&mut self.named, id);
-        if self.apart && access.is_write() {
-            let _ = nodes.put_into(&mut self.writers, id);
-        }
-        Ends {
-            first: place == 0,
-            last: place == others,
+        let earlier = nodes.put_into(&mut self.named, id);
+        let stoppers = if self.apart && access.is_write() {
+            nodes.put_into(&mut self.writers, id)
+        } else {
+            earlier
+        };
+        let blocked = earlier > 0 && access.is_write();
+        let blocks_none = earlier == others || stoppers > 0;
+        Neighbours {
+            first: earlier == 0,
+            blocked,
+            blocks_none,
         }
     }
 

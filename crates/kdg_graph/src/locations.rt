@@ -1,4 +1,5 @@
 ghost use Rattle.std.specs.Prelude.{◌≡◌, ◌==◌, ◌-◌, ◌≤◌, ◌<◌, ◌+◌, ℕ, List, [], take, drop, filter, length, slice_index_or, true, false, Some, OnOk, IfNone, IfSome};
+ghost use Rattle.std.specs.List.{AllByRecursion};
 ghost use Rattle.rw_sets.specs.declared.access.Access.TheVariants.{Read};
 ghost use Rattle.rw_sets.specs.Accesses.{access_at, conflicts_with};
 ghost use Rattle.kdg_graph.specs.Exchange.{AreFiledWith, midway};
@@ -13,7 +14,7 @@ ghost use Rattle.kdg_graph.specs.Rewrite.{without};
 use crate::NodeId;
 use crate::exchange::SetWalk;
 use crate::lane::Lane;
-use crate::location::{Ends, Location};
+use crate::location::{Location, Neighbours};
 use crate::ordered_nodes::OrderedNodes;
 use kdg_text::NoRoom;
 use rw_sets::{Access, RwSet, conflict_laws};
@@ -51,28 +52,34 @@ impl Locations {
     }
 
     /// Files a node that stands among the nodes, where `reserve` made room at each location of its
-    /// set, and tells whether it is the first and the last at all of them: then nothing blocks it, and
-    /// it blocks nothing. It takes no memory.
-    pub(crate) fn enter(&mut self, nodes: &OrderedNodes, id: NodeId) -> Ends
+    /// set, and tells what it has before and behind it there. It takes no memory.
+    pub(crate) fn enter(&mut self, nodes: &OrderedNodes, id: NodeId) -> Neighbours
         requires there { HasNode nodes.now.nodes id }
         requires room { IfSome (node_at nodes.now.nodes id) (λ node. HasRoom 1 node.set (rooms_of self.old.locations.items)) }
         requires filed { AreFiled (without id nodes.now.nodes) self.old.locations.items }
         ensures filed { AreFiled nodes.now.nodes self.new.locations.items }
         ensures first { IfSome (node_at nodes.now.nodes id) (λ node. result.first ≡ true → is_blocked nodes.now.nodes node ≡ false) }
-        ensures last { IfSome (node_at nodes.now.nodes id) (λ node. result.last ≡ true → fronts_after node.set node.task.key nodes.now.nodes ≡ []) }
+        ensures blocked { IfSome (node_at nodes.now.nodes id) (λ node. result.blocked ≡ true → is_blocked nodes.now.nodes node ≡ true) }
+        ensures blocks_none { IfSome (node_at nodes.now.nodes id) (λ node. result.blocks_none ≡ true → AllByRecursion (λ other. is_blocked (without id nodes.now.nodes) other ≡ true) (fronts_after node.set node.task.key nodes.now.nodes)) }
         ensures room { (loc : ℕ) → room_at (rooms_of self.old.locations.items) loc ≤ room_at (rooms_of self.new.locations.items) loc + 1 }
     {
         conflict_laws();
         let _graph = nodes.len();
         let node = nodes.entry(id);
         let mut first = true;
-        let mut last = true;
+        let mut blocked = false;
+        let mut blocks_none = true;
         for pair in node.set.items() {
             let here = self.locations[pair.0 as usize].enter(nodes, id, pair.1);
             first &= here.first;
-            last &= here.last;
+            blocked |= here.blocked;
+            blocks_none &= here.blocks_none;
         }
-        Ends { first, last }
+        Neighbours {
+            first,
+            blocked,
+            blocks_none,
+        }
     }
 
     /// Files a node that stands among the nodes no more. It takes no memory.

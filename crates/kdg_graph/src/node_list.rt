@@ -190,11 +190,10 @@ impl NodeList {
     {
         let id = self.nodes.put(task, set);
         enter_order(&mut self.order, &self.nodes, id);
-        let ends = self.locations.enter(&self.nodes, id);
+        let known = self.locations.enter(&self.nodes, id);
+        self.sources.enter(&self.nodes, &self.locations, id, known);
         self.sources
-            .enter(&self.nodes, &self.locations, id, ends.first);
-        self.sources
-            .forget_behind(&self.nodes, &self.locations, id, ends.last);
+            .forget_behind(&self.nodes, &self.locations, id, known.blocks_none);
         id
     }
 

@@ -10,6 +10,7 @@ ghost use Rattle.kdg_graph.specs.Selected.{AreSelected, AreSome, forgotten, refr
 
 use crate::NodeId;
 use crate::lane::Lane;
+use crate::location::Neighbours;
 use crate::locations::Locations;
 use crate::ordered_nodes::OrderedNodes;
 use kdg_text::NoRoom;
@@ -137,53 +138,57 @@ impl SourceLane {
         }
     }
 
-    /// Refreshes a node that came, which nothing blocks where it is known to be first.
+    /// Refreshes a node that came, as far as it isn't known whether an earlier one blocks it.
     #[inline(always)]
     pub(crate) fn enter(
         &mut self,
         nodes: &OrderedNodes,
         locations: &Locations,
         id: NodeId,
-        first: bool,
+        known: Neighbours,
     )
         requires graph { IsGraph nodes.now.nodes }
         requires there { HasNode nodes.now.nodes id }
         requires filed { AreFiled nodes.now.nodes locations.now.locations.items }
-        requires first { IfSome (node_at nodes.now.nodes id) (λ node. first ≡ true → is_blocked nodes.now.nodes node ≡ false) }
+        requires first { IfSome (node_at nodes.now.nodes id) (λ node. known.first ≡ true → is_blocked nodes.now.nodes node ≡ false) }
+        requires blocked { IfSome (node_at nodes.now.nodes id) (λ node. known.blocked ≡ true → is_blocked nodes.now.nodes node ≡ true) }
         requires some { AreSome nodes.now.nodes self.old }
         ensures ids { (test : Node → Bool) → AreSelected nodes.now.nodes test self.old.ids → AreSelected nodes.now.nodes (refreshed nodes.now.nodes (id ∷ []) test) self.new.ids }
         ensures some { AreSome nodes.now.nodes self.new }
         ensures room { self.old.room ≤ self.new.room }
         ensures marks { self.new.marks ≡ self.old.marks }
     {
-        if first {
+        if known.first {
             self.list(nodes, id);
+        } else if known.blocked {
+            self.forget(nodes, id);
         } else {
             self.refresh(nodes, locations, id);
         }
     }
 
-    /// Takes the nodes of the fronts behind a node out, unless it is known to be last.
+    /// Takes the nodes of the fronts behind a node out, unless it is known to block none of them alone:
+    /// then they aren't there.
     #[inline(always)]
     pub(crate) fn forget_behind(
         &mut self,
         nodes: &OrderedNodes,
         locations: &Locations,
         id: NodeId,
-        last: bool,
+        blocks_none: bool,
     )
         requires graph { IsGraph nodes.now.nodes }
         requires there { HasNode nodes.now.nodes id }
         requires filed { AreFiled nodes.now.nodes locations.now.locations.items }
-        requires last { IfSome (node_at nodes.now.nodes id) (λ node. last ≡ true → fronts_after node.set node.task.key nodes.now.nodes ≡ []) }
         requires some { AreSome nodes.now.nodes self.old }
         ensures ids { (test : Node → Bool) → AreSelected nodes.now.nodes test self.old.ids
-            → IfSome (node_at nodes.now.nodes id) (λ node. AreSelected nodes.now.nodes (forgotten (ids_of (fronts_after node.set node.task.key nodes.now.nodes)) test) self.new.ids) }
+            → IfSome (node_at nodes.now.nodes id) (λ node. (blocks_none ≡ true → AllByRecursion (λ other. test other ≡ false) (fronts_after node.set node.task.key nodes.now.nodes))
+            → AreSelected nodes.now.nodes (forgotten (ids_of (fronts_after node.set node.task.key nodes.now.nodes)) test) self.new.ids) }
         ensures some { AreSome nodes.now.nodes self.new }
         ensures room { self.old.room ≤ self.new.room }
         ensures marks { self.new.marks ≡ self.old.marks }
     {
-        if !last {
+        if !blocks_none {
             let node = nodes.entry(id);
             self.forget_fronts(nodes, locations, id, &node.set, &node.task.key);
         }

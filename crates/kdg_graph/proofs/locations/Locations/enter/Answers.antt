@@ -1,17 +1,18 @@
-use Rattle.std.proofs.Common.{rules, ◌≡◌, ℕ, ◌<◌, ◌≤◌, ◌∙◌, List, [], Option, Some, true, false, cond, add-one, ap, arith, below_more, get_or, length, refl, subst, sym, take}
+use Rattle.std.proofs.Common.{rules, ◌≡◌, ◌≢◌, inl, inr, ℕ, ◌<◌, ◌≤◌, ◌∙◌, List, [], Option, Some, true, false, cond, add-one, ap, arith, below_more, get_or, length, refl, subst, sym, take}
 use Rattle.std.proofs.Math.Seq.{take-length}
-use Rattle.std.proofs.lemmas.Bool.{and_parts}
-use Rattle.std.specs.Prelude.{IfSome, is_some}
+use Rattle.std.proofs.lemmas.Bool.{and_parts, or_cases}
+use Rattle.std.specs.Prelude.{Contains, IfSome, is_some}
+use Rattle.std.specs.List.{AllByRecursion}
 use Rattle.rw_sets.specs.declared.access.Access.{Access}
 use Rattle.rw_sets.specs.declared.access.Access.TheVariants.{Read, Write}
 use Rattle.rw_sets.specs.Accesses.{Accesses, IsAscending as IsAscendingSet, access_at}
 use Rattle.kdg_graph.specs.Edges.{is_blocked}
-use Rattle.kdg_graph.specs.Fronts.{fronts_after}
+use Rattle.kdg_graph.specs.Fronts.{BlocksNoneAlone, fronts_after}
 use Rattle.kdg_graph.specs.Locations.{HasRoom, IsLaneAmong, clashing_at, ids_for, room_at, room_in, rooms_of}
 use Rattle.kdg_graph.specs.Node.{Node}
-use Rattle.kdg_graph.specs.Nodes.{earlier_than, ids_of, later_than, node_at}
+use Rattle.kdg_graph.specs.Nodes.{earlier_than, ids_of, node_at}
 use Rattle.kdg_graph.specs.Rewrite.{without}
-use Rattle.kdg_graph.proofs.Arriving.{each_pair, first_unblocked, last_without_fronts}
+use Rattle.kdg_graph.proofs.Arriving.{blocked_by_earlier, each_pair, first_unblocked, fronts_blocked}
 use Rattle.kdg_graph.proofs.Filing.{again, enter_step, filed_part, others_next, room_next, room_step}
 use Rattle.kdg_graph.proofs.Selecting.{at_some}
 use Rattle.kdg_graph.proofs.Shelving.{room_there, within_room}
@@ -67,15 +68,27 @@ loop-pair-preserved c =
     let others : List Node = clashing_at p.0 Write (without c.args.id nodes) in
     let among : IsLaneAmong nodes others (ids_for Write c.index_mut.result.now) =
     others_next nodes c.args.id ps i p c.loop-pair.self.locations.items c.index_mut.result.now c.len-graph.ensures.graph up inside at within c.index_mut.ensures.value c.loop-pair.invariant.filed Write in
+    let writers : List Node = clashing_at p.0 Read (without c.args.id nodes) in
+    let writers_among : IsLaneAmong nodes writers (ids_for Read c.index_mut.result.now) =
+    others_next nodes c.args.id ps i p c.loop-pair.self.locations.items c.index_mut.result.now c.len-graph.ensures.graph up inside at within c.index_mut.ensures.value c.loop-pair.invariant.filed Read in
     record {
       first = λ held is both.
           let parts = and_parts c.loop-pair.first c.enter-here.result.first both in
           let here = at_some (λ (n : Node). c.enter-here.result.first ≡ true → earlier_than n.task.key others ≡ []) (node_at nodes c.args.id) held is (c.enter-here.ensures.first others among) in
           below_more _ _ (c.loop-pair.invariant.first held is parts.0) (here parts.1);
-      last = λ held is both.
-          let parts = and_parts c.loop-pair.last c.enter-here.result.last both in
-          let here = at_some (λ (n : Node). c.enter-here.result.last ≡ true → later_than n.task.key others ≡ []) (node_at nodes c.args.id) held is (c.enter-here.ensures.last others among) in
-          below_more _ _ (c.loop-pair.invariant.last held is parts.0) (here parts.1);
+      blocked = λ held is either. elim (or_cases c.loop-pair.blocked c.enter-here.result.blocked either) [
+        | inl before ↦ c.loop-pair.invariant.blocked held is before
+        | inr now ↦
+            let told = at_some (λ (n : Node). c.enter-here.result.blocked ≡ true → (p.1 ≡ Write) × (earlier_than n.task.key others ≢ [])) (node_at nodes c.args.id) held is (c.enter-here.ensures.blocked others among) now in
+            let same : node ≡ held = (let both : Some node ≡ Some held = sym found ∙ is in cc) in
+            let its_set : ps ≡ held.set = c.items-pair-items.ensures.all ∙ ap (λ (n : Node). n.set) same in
+            let named : Contains held.set p = subst (λ (l : Accesses). Contains l p) its_set (i, inside, sym at) in
+            blocked_by_earlier c.conflict_laws.ensures.decided c.conflict_laws.ensures.mutual nodes c.args.id held p (subst IsAscendingSet its_set up) named told.0 told.1
+      ];
+      blocks_none = λ held is both.
+          let parts = and_parts c.loop-pair.blocks_none c.enter-here.result.blocks_none both in
+          let here = at_some (λ (n : Node). c.enter-here.result.blocks_none ≡ true → BlocksNoneAlone p.1 n.task.key others writers) (node_at nodes c.args.id) held is (c.enter-here.ensures.blocks_none others writers among writers_among) in
+          below_more _ _ (c.loop-pair.invariant.blocks_none held is parts.0) (here parts.1);
       filed = rw add-one (enter_step nodes c.args.id node ps i p c.loop-pair.self.locations.items c.index_mut.result.now c.enter-here.new.self c.len-graph.ensures.graph found c.items-pair-items.ensures.all up inside at within c.index_mut.ensures.value c.enter-here.ensures.lanes c.loop-pair.invariant.filed);
       room = rw add-one (room_step ps i p c.args.self.now.locations.items c.loop-pair.self.locations.items c.index_mut.result.now c.enter-here.new.self up inside at within c.index_mut.ensures.value c.enter-here.ensures.room c.loop-pair.invariant.room);
     }
@@ -105,13 +118,21 @@ returns-clause-first c =
     first_unblocked c.conflict_laws.ensures.decided c.conflict_laws.ensures.mutual nodes c.args.id node c.len-graph.ensures.graph c.items-pair-items.ensures.ascending found
     (each_pair none ps node.set c.loop-pair.pair-index c.items-pair-items.ensures.all end (c.loop-pair.invariant.first node found is)))
 
-pub returns-clause-last : goal.returns-clause-last
-returns-clause-last c =
+pub returns-clause-blocked : goal.returns-clause-blocked
+returns-clause-blocked c =
     let nodes : List Node = c.args.nodes.now.nodes in
+    let node : Node = record { id = c.node.inside.id; task = c.node.inside.task; set = c.node.inside.set; running = c.node.inside.running } in
+    let found : node_at nodes c.args.id ≡ Some node = c.entry-node.ensures ∙ ap (λ (n : Node). Some n) (sym c.node.view_is) in
+    subst (λ (o : Option Node). IfSome o (λ (n : Node). c.loop-pair.blocked ≡ true → is_blocked nodes n ≡ true)) (sym found) (c.loop-pair.invariant.blocked node found)
+
+pub returns-clause-blocks_none : goal.returns-clause-blocks_none
+returns-clause-blocks_none c =
+    let nodes : List Node = c.args.nodes.now.nodes in
+    let others : List Node = without c.args.id nodes in
     let node : Node = record { id = c.node.inside.id; task = c.node.inside.task; set = c.node.inside.set; running = c.node.inside.running } in
     let found : node_at nodes c.args.id ≡ Some node = c.entry-node.ensures ∙ ap (λ (n : Node). Some n) (sym c.node.view_is) in
     let ps : Accesses = c.items-pair-items.result.now in
     let end : length ps ≤ c.loop-pair.pair-index = omega (arith, c.loop-pair-test.false) in
-    let none : ℕ × Access → Type 0 = λ p. later_than node.task.key (clashing_at p.0 Write (without c.args.id nodes)) ≡ [] in
-    subst (λ (o : Option Node). IfSome o (λ (n : Node). c.loop-pair.last ≡ true → fronts_after n.set n.task.key nodes ≡ [])) (sym found) (λ is.
-    last_without_fronts nodes c.args.id node c.len-graph.ensures.graph found (each_pair none ps node.set c.loop-pair.pair-index c.items-pair-items.ensures.all end (c.loop-pair.invariant.last node found is)))
+    let none : ℕ × Access → Type 0 = λ p. BlocksNoneAlone p.1 node.task.key (clashing_at p.0 Write others) (clashing_at p.0 Read others) in
+    subst (λ (o : Option Node). IfSome o (λ (n : Node). c.loop-pair.blocks_none ≡ true → AllByRecursion (λ other. is_blocked others other ≡ true) (fronts_after n.set n.task.key nodes))) (sym found) (λ is.
+    fronts_blocked c.conflict_laws.ensures.decided nodes c.args.id node c.len-graph.ensures.graph found (each_pair none ps node.set c.loop-pair.pair-index c.items-pair-items.ensures.all end (c.loop-pair.invariant.blocks_none node found is)))

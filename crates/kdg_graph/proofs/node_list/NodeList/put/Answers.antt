@@ -1,27 +1,30 @@
-use Rattle.std.proofs.Common.{◌≡◌, ◌<◌, ◌∙◌, Bool, List, [], ◌∷◌, Option, ap, length, refl, subst, sym, arith}
+use Rattle.std.proofs.Common.{◌≡◌, ◌<◌, ◌∙◌, Bool, true, false, List, [], ◌∷◌, Option, ap, length, refl, subst, sym, arith}
 use Rattle.std.specs.Prelude.{IfSome}
+use Rattle.std.specs.List.{AllByRecursion}
 use Rattle.kdg_graph.specs.Node.{Node, new_node}
 use Rattle.kdg_graph.specs.NodeStock.{NodeStock}
 use Rattle.kdg_graph.specs.Nodes.{HaveOwnIds, ids_of, node_at}
+use Rattle.kdg_graph.specs.Edges.{is_blocked}
 use Rattle.kdg_graph.specs.Kept.{IsOrder}
 use Rattle.kdg_graph.specs.Fronts.{fronts_after}
 use Rattle.kdg_graph.specs.Locations.{AreFiled, HasRoom, rooms_of}
 use Rattle.kdg_graph.specs.Rewrite.{without}
 use Rattle.kdg_graph.specs.Selected.{AreSelected, HaveMarks, forgotten, is_unblocked, refreshed}
+use Rattle.kdg_graph.proofs.LookUps.{ids_find_nodes}
 use Rattle.kdg_graph.proofs.Ordered.{place_left}
 use Rattle.kdg_graph.proofs.Selecting.{at_some, but, length-put}
 use Rattle.kdg_graph.proofs.Rooms.{keys_have_marks}
-use Rattle.kdg_graph.proofs.Settling.{found_put, marks_put, select_but, settled_put, without_put}
+use Rattle.kdg_graph.proofs.Settling.{fronts_failing, found_put, marks_put, select_but, settled_put, without_put}
 use Rattle.kdg_graph.proofs.node_list.NodeList.put.Goals as goal
 
-pub enter-ends-requires-clause-room : goal.enter-ends-requires-clause-room
-enter-ends-requires-clause-room c =
+pub enter-known-requires-clause-room : goal.enter-known-requires-clause-room
+enter-known-requires-clause-room c =
     let node : Node = new_node c.put-id.result c.args.task c.args.set in
     let room : HasRoom 1 c.args.set (rooms_of c.self.inside.locations.locations.items) = subst (λ (stock : NodeStock). HasRoom 1 c.args.set stock.rooms) (sym c.self.view_is) c.requires.rooms in
     subst (λ (o : Option Node). IfSome o (λ (n : Node). HasRoom 1 n.set (rooms_of c.self.inside.locations.locations.items))) (sym (found_put node c.self.inside.nodes.nodes c.put-id.new.self.nodes c.put-id.ensures.nodes c.put-id.ensures.graph)) room
 
-pub enter-ends-requires-clause-filed : goal.enter-ends-requires-clause-filed
-enter-ends-requires-clause-filed c =
+pub enter-known-requires-clause-filed : goal.enter-known-requires-clause-filed
+enter-known-requires-clause-filed c =
     let nodes : List Node = c.self.inside.nodes.nodes in
     let node : Node = new_node c.put-id.result c.args.task c.args.set in
     let left : without c.put-id.result c.put-id.new.self.nodes ≡ nodes = ap (without c.put-id.result) c.put-id.ensures.nodes ∙ without_put node nodes (subst HaveOwnIds c.put-id.ensures.nodes c.put-id.ensures.graph.own_ids) in
@@ -49,13 +52,19 @@ invariant_of-self c =
     let node : Node = new_node c.put-id.result c.args.task c.args.set in
     let left : without c.put-id.result now ≡ nodes = ap (without c.put-id.result) c.put-id.ensures.nodes ∙ without_put node nodes (subst HaveOwnIds c.put-id.ensures.nodes c.put-id.ensures.graph.own_ids) in
     let others = select_but now (is_unblocked nodes) c.put-id.result c.self.inside.sources.ids (subst (λ (l : List Node). AreSelected l (is_unblocked nodes) c.self.inside.sources.ids) (sym left) c.self.invariant.0.unblocked_are) in
-    let first : Node → Bool = refreshed now (c.put-id.result ∷ []) (but c.put-id.result (is_unblocked nodes)) in
+    let id = c.put-id.result in
+    let first : Node → Bool = refreshed now (id ∷ []) (but id (is_unblocked nodes)) in
+    let found = found_put node nodes now c.put-id.ensures.nodes c.put-id.ensures.graph in
+    let blocked : c.enter-known.result.blocks_none ≡ true → AllByRecursion (λ other. is_blocked (without id now) other ≡ true) (fronts_after node.set node.task.key now) =
+    at_some (λ (n : Node). c.enter-known.result.blocks_none ≡ true → AllByRecursion (λ other. is_blocked (without id now) other ≡ true) (fronts_after n.set n.task.key now)) (node_at now id) node found c.enter-known.ensures.blocks_none in
+    let fail : c.enter-known.result.blocks_none ≡ true → AllByRecursion (λ other. first other ≡ false) (fronts_after node.set node.task.key now) =
+    λ none. fronts_failing node nodes now c.put-id.ensures.graph (ids_find_nodes now id node found).0 (subst (λ (l : List Node). AllByRecursion (λ other. is_blocked l other ≡ true) (fronts_after node.set node.task.key now)) left (blocked none)) in
     let all : AreSelected now (forgotten (ids_of (fronts_after node.set node.task.key now)) first) c.forget_behind.new.self.ids =
-    at_some (λ (n : Node). AreSelected now (forgotten (ids_of (fronts_after n.set n.task.key now)) first) c.forget_behind.new.self.ids) (node_at now c.put-id.result) node (found_put node nodes now c.put-id.ensures.nodes c.put-id.ensures.graph)
-    (c.forget_behind.ensures.ids first (c.enter.ensures.ids (but c.put-id.result (is_unblocked nodes)) others)) in (
+    at_some (λ (n : Node). (c.enter-known.result.blocks_none ≡ true → AllByRecursion (λ other. first other ≡ false) (fronts_after n.set n.task.key now)) → AreSelected now (forgotten (ids_of (fronts_after n.set n.task.key now)) first) c.forget_behind.new.self.ids)
+    (node_at now id) node found (c.forget_behind.ensures.ids first (c.enter.ensures.ids (but id (is_unblocked nodes)) others)) fail in (
       record {
         graph = c.put-id.ensures.graph;
-        filed = c.enter-ends.ensures.filed;
+        filed = c.enter-known.ensures.filed;
         unblocked_are = settled_put node nodes now [] (is_unblocked nodes) c.forget_behind.new.self.ids c.self.invariant.0.graph.ascending c.put-id.ensures.graph c.put-id.ensures.nodes (λ n _ _. refl) all;
         room = c.forget_behind.ensures.some.room;
         marks = c.forget_behind.ensures.some.marks;

@@ -1,24 +1,27 @@
-use Rattle.std.proofs.Common.{◌≡◌, ◌∙◌, List, [], Option, Some, true, ap, subst, sym}
+use Rattle.std.proofs.Common.{◌≡◌, ◌∙◌, List, Option, Some, true, false, ap, subst, sym}
 use Rattle.std.specs.Prelude.{IfSome}
+use Rattle.std.specs.List.{AllByRecursion}
 use Rattle.kdg_graph.specs.Fronts.{fronts_after}
 use Rattle.kdg_graph.specs.Node.{Node}
 use Rattle.kdg_graph.specs.Nodes.{ids_of, node_at}
 use Rattle.kdg_graph.specs.Selected.{AreSelected, forgotten}
-use Rattle.kdg_graph.proofs.Selecting.{at_some, found_node}
+use Rattle.kdg_graph.proofs.Fronts.{fronts_are_nodes}
+use Rattle.kdg_graph.proofs.Selecting.{forgotten_failing, found_node}
 use Rattle.kdg_graph.proofs.source_lane.SourceLane.forget_behind.Goals as goal
 
-pub returns-then-not-last-clause-ids : goal.returns-then-not-last-clause-ids
-returns-then-not-last-clause-ids c test selected =
+pub returns-then-not-blocks_none-clause-ids : goal.returns-then-not-blocks_none-clause-ids
+returns-then-not-blocks_none-clause-ids c test selected =
     let nodes : List Node = c.args.nodes.now.nodes in
     let node : Node = record { id = c.node.inside.id; task = c.node.inside.task; set = c.node.inside.set; running = c.node.inside.running } in
     let found : node_at nodes c.args.id ≡ Some node = c.entry-node.ensures ∙ ap (λ (n : Node). Some n) (sym c.node.view_is) in
-    subst (λ (o : Option Node). IfSome o (λ (n : Node). AreSelected nodes (forgotten (ids_of (fronts_after n.set n.task.key nodes)) test) c.forget_fronts.new.self.ids)) (sym found) (c.forget_fronts.ensures.ids test selected)
+    subst (λ (o : Option Node). IfSome o (λ (n : Node). (c.args.blocks_none ≡ true → AllByRecursion (λ other. test other ≡ false) (fronts_after n.set n.task.key nodes))
+    → AreSelected nodes (forgotten (ids_of (fronts_after n.set n.task.key nodes)) test) c.forget_fronts.new.self.ids)) (sym found) (λ _. c.forget_fronts.ensures.ids test selected)
 
-pub returns-else-not-last-clause-ids : goal.returns-else-not-last-clause-ids
-returns-else-not-last-clause-ids c test selected =
+pub returns-else-not-blocks_none-clause-ids : goal.returns-else-not-blocks_none-clause-ids
+returns-else-not-blocks_none-clause-ids c test selected =
     let nodes : List Node = c.args.nodes.now.nodes in
     let found = found_node nodes c.args.id c.requires.there in
-    let none : fronts_after found.0.set found.0.task.key nodes ≡ [] =
-    at_some (λ (n : Node). c.args.last ≡ true → fronts_after n.set n.task.key nodes ≡ []) (node_at nodes c.args.id) found.0 found.1 c.requires.last c.if-not-last.false in
-    subst (λ (o : Option Node). IfSome o (λ (n : Node). AreSelected nodes (forgotten (ids_of (fronts_after n.set n.task.key nodes)) test) c.args.self.now.ids)) (sym found.1)
-    (subst (λ (l : List Node). AreSelected nodes (forgotten (ids_of l) test) c.args.self.now.ids) (sym none) selected)
+    let front : List Node = fronts_after found.0.set found.0.task.key nodes in
+    subst (λ (o : Option Node). IfSome o (λ (n : Node). (c.args.blocks_none ≡ true → AllByRecursion (λ other. test other ≡ false) (fronts_after n.set n.task.key nodes))
+    → AreSelected nodes (forgotten (ids_of (fronts_after n.set n.task.key nodes)) test) c.args.self.now.ids)) (sym found.1)
+    (λ fail. forgotten_failing nodes front test c.args.self.now.ids c.requires.graph (fronts_are_nodes found.0.set found.0.task.key nodes) (fail c.if-not-blocks_none.false) selected)
