@@ -1,5 +1,5 @@
 -- A claim takes a clear node.
-use Rattle.std.proofs.Common.{◌≡◌, ◌≢◌, ℕ, ◌||◌, Bool, true, false, List, [], ◌∷◌, Option, Some, None, is_some, refl, sym, ap, subst, ◌∙◌}
+use Rattle.std.proofs.Common.{◌≡◌, ◌≢◌, ℕ, ◌||◌, Bool, true, false, List, [], ◌∷◌, Option, Some, is_some, refl, sym, ap, subst, ◌∙◌}
 use Rattle.std.specs.Prelude.{Contains, IsSome}
 use Rattle.std.specs.List.{list_any}
 use Rattle.std.specs.Option.{option_map}
@@ -25,7 +25,7 @@ use Rattle.graph_update.proofs.Claims.{claims_keep_sound, found_is_there, is_hom
 use Rattle.graph_update.proofs.ClearNodes.{some_is_clear}
 use Rattle.graph_update.proofs.Ending.{no_jobs}
 use Rattle.graph_update.proofs.Members.{all_at, from_filter, here, in_map, none_passes, there as from_there}
-use Rattle.graph_update.proofs.Picked.{IsPick, IsPicked}
+use Rattle.graph_update.proofs.Picked.{IsPicked}
 
 Some-injective : {X : Type 0} (a b : X) → Some a ≡ Some b → a ≡ b
 Some-injective a b same = cc
@@ -43,11 +43,6 @@ any_one {X} p (x ∷ xs) some = by_test (p x) refl some (any_one p xs)
 -- a graph that has a least node has nodes
 pub some_nodes : (nodes : List Node) (least : Option NodeId) → least ≡ least_of nodes → is_some least ≡ true → nodes ≢ []
 some_nodes nodes least is some empty = true≢false (sym some ∙ ap is_some (is ∙ ap least_of empty))
-
--- where nothing is picked no node is clear
-pub none_clear : {V : Type 0} (app : Application V) (nodes : List Node) (pick : ℕ) (found : Option NodeId) → ((id : NodeId) → found ≡ Some id → ⊥) → IsPick app nodes pick found → clear_nodes app nodes ≡ []
-none_clear app nodes pick None never none = none
-none_clear app nodes pick (Some id) never is = absurd (never id refl)
 
 module _ {V : Type 0} {app : Application V} (basis : Basis app) where
   module _ (old : Progress V) (jobs : List (Job V)) (values : List V) (sound : IsSound app old jobs values) (pick : ℕ) (id : NodeId) (picked : IsPicked app old.nodes pick id) where
@@ -130,8 +125,6 @@ module _ {V : Type 0} {app : Application V} (basis : Basis app) where
           let idle = no_jobs basis progress.nodes jobs (λ node there running. true≢false (sym running ∙ none_passes (λ (n : Node). n.running) progress.nodes node is there)) sound.outs_match.named in
           absurd (some_is_clear basis progress values (subst (λ left. IsSound app progress left values) idle sound) some none_clear)
 
-  -- the same where nothing is picked of a graph that has a least node
-  pub runs_where_none : (old : Progress V) (pick : ℕ) (found least : Option NodeId) → IsKept app old → least ≡ least_of old.nodes → is_some least ≡ true
-      → ((id : NodeId) → found ≡ Some id → ⊥) → IsPick app old.nodes pick found → SomeRuns old.nodes
-  runs_where_none old pick found least kept is some never pick_is =
-      some_runs old kept.jobs kept.values kept.sound (some_nodes old.nodes least is some) (none_clear app old.nodes pick found never pick_is)
+  -- the same of a graph that has a least node, where no node is clear
+  pub runs_where_none : (old : Progress V) (least : Option NodeId) → IsKept app old → least ≡ least_of old.nodes → is_some least ≡ true → clear_nodes app old.nodes ≡ [] → SomeRuns old.nodes
+  runs_where_none old least kept is some none_clear = some_runs old kept.jobs kept.values kept.sound (some_nodes old.nodes least is some) none_clear

@@ -92,18 +92,31 @@ id_removed : (chunks : List (List NodeId)) (place at offset : ℕ) → IsAt chun
 id_removed chunks place at offset is = removed_in chunks at offset is.inside is.within ∙ ap (remove (ids_in chunks)) is.place_is
 
 -- the same of what was found in a chunk, or taken out of it
-module _ (chunks held : List (List NodeId)) (place at offset : ℕ) (chunk : List NodeId) (same : held ≡ chunks) (is_at : IsAt held place at offset) (read : chunk ≡ get_or chunks at chunk) where
-  is_of : IsAt chunks place at offset
-  is_of = subst (λ (some : List (List NodeId)). IsAt some place at offset) same is_at
-
+module _ (held chunks : List (List NodeId)) (place at offset : ℕ) (chunk : List NodeId) (same : held ≡ chunks) (is_at : IsAt chunks place at offset) (read : chunk ≡ get_or held at chunk) where
   chunk_of : chunk ≡ chunk_at chunks at
-  chunk_of = chunk_is chunks at chunk is_of.inside read
+  chunk_of = chunk_is chunks at chunk is_at.inside (subst (λ (some : List (List NodeId)). chunk ≡ get_or some at chunk) same read)
 
   pub found : (id : NodeId) → slice_get chunk offset ≡ Some id → slice_get (ids_in chunks) place ≡ Some id
-  found id is = id_found chunks place at offset id is_of (subst (λ ids. slice_get ids offset ≡ Some id) chunk_of is)
+  found id is = id_found chunks place at offset id is_at (subst (λ ids. slice_get ids offset ≡ Some id) chunk_of is)
 
-  pub taken : (left : List NodeId) → left ≡ remove chunk offset → ids_in (set chunks at left) ≡ remove (ids_in chunks) place
-  taken left is = ap (λ ids. ids_in (set chunks at ids)) (is ∙ ap (λ ids. remove ids offset) chunk_of) ∙ id_removed chunks place at offset is_of
+  pub taken : (left : List NodeId) → left ≡ remove chunk offset → ids_in (set held at left) ≡ remove (ids_in chunks) place
+  taken left is =
+      ap (λ (some : List (List NodeId)). ids_in (set some at left)) same
+      ∙ ap (λ ids. ids_in (set chunks at ids)) (is ∙ ap (λ ids. remove ids offset) chunk_of) ∙ id_removed chunks place at offset is_at
+
+within_ids : (chunks : List (List NodeId)) (at offset : ℕ) → at < length chunks → offset < length (chunk_at chunks at) → length (ids_in (take at chunks)) + offset < length (ids_in chunks)
+within_ids [] at offset inside within = absurd (omega (arith, inside))
+within_ids (chunk ∷ chunks) zero offset inside within =
+    let here : offset < length chunk = within in
+    let less : 0 + offset < length (chunk ++ ids_in chunks) = omega (arith, here, length-append chunk (ids_in chunks)) in
+    less
+within_ids (chunk ∷ chunks) (suc at) offset inside within =
+    let rest = within_ids chunks at offset (omega (arith, inside)) within in
+    omega (arith, rest, length-append chunk (ids_in chunks), length-append chunk (ids_in (take at chunks)))
+
+-- the place of what stands in a chunk is one of the list
+pub place_within : (chunks : List (List NodeId)) (place at offset : ℕ) → IsAt chunks place at offset → place < length (ids_in chunks)
+place_within chunks place at offset is = subst (λ p. p < length (ids_in chunks)) is.place_is (within_ids chunks at offset is.inside is.within)
 
 -- an empty chunk that is left out
 without_chunk : (chunks : List (List NodeId)) (at : ℕ) → at < length chunks → chunk_at chunks at ≡ [] → ids_in (remove chunks at) ≡ ids_in chunks

@@ -1,6 +1,7 @@
 -- A list of ids that is cut into chunks.
 use Rattle.std.specs.Prelude.{◌≡◌, ℕ, ◌+◌, ◌<◌, List, [], ◌∷◌, ◌++◌, length, take, slice_index_or}
 use Rattle.kdg_graph.specs.declared.node_id.NodeId.{NodeId}
+use Rattle.graph_update.specs.declared.id_list.Spot.{Spot}
 
 -- the ids of all chunks
 abbrev pub ids_in : List (List NodeId) → List NodeId
@@ -16,3 +17,7 @@ pub record IsAt (chunks : List (List NodeId)) (place at offset : ℕ) : Type 0 w
   pub inside : at < length chunks
   pub within : offset < length (chunk_at chunks at)
   pub place_is : length (ids_in (take at chunks)) + offset ≡ place
+
+-- the id at the place stands there
+abbrev pub IsSpot : List (List NodeId) → ℕ → Spot → Type 0
+IsSpot chunks place spot = IsAt chunks place spot.at spot.offset

@@ -36,13 +36,13 @@ impl<'a, A: App> Engine<'a, A> {
             return Ok(Claim::Ended);
         }
         self.ready.look(self.app, &self.graph)?;
-        let Some(node) = self.ready.picked(pick) else {
+        let Some((node, spot)) = self.ready.picked(pick) else {
             return Ok(Claim::NotYet);
         };
         let task = self.graph.task(node).copy()?;
         let bundle = self.store.take(self.graph.set(node))?;
         self.graph.mark_running(node);
-        self.ready.take(pick);
+        self.ready.take(spot);
         Ok(Claim::Job(Job { node, task, bundle }))
     }
 }

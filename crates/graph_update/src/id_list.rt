@@ -1,7 +1,7 @@
 //! Lists of ids out of the middle of which one can be taken without moving all that stand behind
 //! it.
 
-ghost use Rattle.std.specs.Prelude.{◌≡◌, ◌<◌, ◌+◌, [], ◌∷◌, ◌++◌, Some, length, slice_get, OnOk, OnErr, IfOk, IfSome};
+ghost use Rattle.std.specs.Prelude.{◌≡◌, ◌<◌, ◌+◌, ℕ, [], ◌∷◌, ◌++◌, Some, length, slice_get, OnOk, OnErr, IfOk, IfSome};
 ghost use Rattle.std.specs.List.{remove};
 ghost use Rattle.graph_update.specs.IdChunks.{IsAt, ids_in};
 
@@ -73,10 +73,10 @@ impl Chunk {
     }
 }
 
-/// Ids in order.
+/// Ids in order, seen as the chunks that they stand in.
 ///
-/// They stand in chunks. To find one by its place goes over the chunks before it, and to take it
-/// out moves those behind it in its chunk.
+/// To find one by its place goes over the chunks before it, and to take it out moves those behind it in
+/// its chunk.
 #[derive(Drop)]
 pub(crate) struct IdList {
     alloc: Global,
@@ -84,21 +84,30 @@ pub(crate) struct IdList {
     len: usize,
 }
 
+/// Where an id stands.
+#[derive(Clone, Copy)]
+pub(crate) struct Spot {
+    at: usize,
+    offset: usize,
+}
+
 impl Model for IdList {
     ghost use Rattle.std.specs.Prelude.{◌≡◌, List, length};
     ghost use Rattle.kdg_graph.specs.declared.node_id.NodeId.{NodeId};
     ghost use Rattle.graph_update.specs.IdChunks.{ids_in};
 
-    ghost Value = { List NodeId };
+    ghost Value = { List (List NodeId) };
 
-    ghost view = { λ list. ids_in list.chunks.items };
+    ghost view = { λ list. list.chunks.items };
 
     ghost invariant = { λ list. list.len ≡ length (ids_in list.chunks.items) };
 }
 
 impl IdList {
+    ghost use Rattle.graph_update.specs.IdChunks.{IsSpot};
+
     pub(crate) fn new(alloc: Global) -> IdList
-        ensures { result ≡ [] }
+        ensures { ids_in result ≡ [] }
     {
         IdList {
             alloc,
@@ -108,31 +117,39 @@ impl IdList {
     }
 
     pub(crate) fn len(&self) -> usize
-        ensures { result ≡ length self.now }
+        ensures { result ≡ length (ids_in self.now) }
     {
         self.len
     }
 
     /// The ids, in order.
     pub(crate) fn to_vec(&self) -> Result<Vec<NodeId>, NoRoom>
-        ensures { IfOk result (λ ids. ids.items ≡ self.now) }
+        ensures { IfOk result (λ ids. ids.items ≡ ids_in self.now) }
     {
         joined(self.alloc, self.len, &self.chunks)
     }
 
-    /// The id at a place, counted from 0.
-    pub(crate) fn get(&self, place: usize) -> NodeId
-        requires { place < length self.now }
-        ensures { slice_get self.now place ≡ Some result }
+    /// Where the id at a place stands, which is counted from 0.
+    pub(crate) fn spot(&self, place: usize) -> Spot
+        requires { place < length (ids_in self.now) }
+        ensures { IsSpot self.now place result }
     {
         let (at, offset) = find(&self.chunks, place);
-        self.chunks[at].get(offset)
+        Spot { at, offset }
+    }
+
+    /// The id that stands there.
+    pub(crate) fn get(&self, spot: Spot) -> NodeId
+        requires { (place : ℕ) × IsSpot self.now place spot }
+        ensures { (place : ℕ) → IsSpot self.now place spot → slice_get (ids_in self.now) place ≡ Some result }
+    {
+        self.chunks[spot.at].get(spot.offset)
     }
 
     /// Puts an id behind the others. After `NoRoom` all is as it was.
     pub(crate) fn push(&mut self, id: NodeId) -> Result<(), NoRoom>
-        ensures ok { OnOk result (self.new ≡ self.old ++ id ∷ []) }
-        ensures unchanged { OnErr result (self.new ≡ self.old) }
+        ensures ok { OnOk result (ids_in self.new ≡ ids_in self.old ++ id ∷ []) }
+        ensures unchanged { OnErr result (ids_in self.new ≡ ids_in self.old) }
     {
         let len = self.len.checked_add(1).ok_or(NoRoom)?;
         push_last(self.alloc, &mut self.chunks, id)?;
@@ -140,14 +157,13 @@ impl IdList {
         Ok(())
     }
 
-    /// Takes the id at a place out.
-    pub(crate) fn remove(&mut self, place: usize)
-        requires { place < length self.old }
-        ensures { self.new ≡ remove self.old place }
+    /// Takes out the id that stands there.
+    pub(crate) fn remove(&mut self, spot: Spot)
+        requires { (place : ℕ) × IsSpot self.old place spot }
+        ensures { (place : ℕ) → IsSpot self.old place spot → ids_in self.new ≡ remove (ids_in self.old) place }
     {
-        let (at, offset) = find(&self.chunks, place);
-        self.chunks[at].remove(offset);
-        drop_empty(&mut self.chunks, at);
+        self.chunks[spot.at].remove(spot.offset);
+        drop_empty(&mut self.chunks, spot.at);
         self.len -= 1;
     }
 }

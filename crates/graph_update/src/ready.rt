@@ -1,14 +1,16 @@
 //! The clear nodes that wait to be claimed.
 
-ghost use Rattle.std.specs.Prelude.{◌≡◌, ◌≢◌, ◌%◌, ◌<◌, ◌^◌, [], ◌∷◌, List, length, slice_get, remove, false, IfNone, IfOk, IfSome, OnOk, OnErr};
+ghost use Rattle.std.specs.Prelude.{◌≡◌, ◌≢◌, ◌%◌, ◌^◌, ℕ, [], ◌∷◌, List, length, slice_get, remove, false, IfNone, IfOk, IfSome, OnOk, OnErr};
 ghost use Rattle.std.specs.List.{AllByRecursion};
+ghost use Rattle.std.specs.Option.{option_map};
 ghost use Rattle.kdg_graph.specs.declared.node_id.NodeId.{NodeId};
 ghost use Rattle.kdg_graph.specs.Nodes.{ids_of, tasks_of};
 ghost use Rattle.app_laws.specs.Applications.{AreFitTasks};
 ghost use Rattle.graph_update.specs.Engine.{AreReady, IsOfClear};
 ghost use Rattle.graph_update.specs.Events.{clear_nodes};
+ghost use Rattle.graph_update.specs.IdChunks.{IsSpot, ids_in};
 
-use crate::id_list::IdList;
+use crate::id_list::{IdList, Spot};
 use app_laws::App;
 use kdg_graph::{Graph, NodeId, node_laws, source_laws};
 use kdg_text::NoRoom;
@@ -28,7 +30,7 @@ pub(crate) struct Ready {
 impl Ready {
     /// Before the first look.
     pub(crate) fn new(alloc: Global) -> Ready
-        ensures ids { result.ids ≡ [] }
+        ensures ids { ids_in result.ids ≡ [] }
         ensures current { result.is_current ≡ false }
     {
         Ready {
@@ -51,7 +53,7 @@ impl Ready {
     pub(crate) fn look<A: App>(&mut self, app: &A, graph: &Graph) -> Result<(), NoRoom>
         requires fit { AreFitTasks (A.meaning app.now) (tasks_of graph.now) }
         requires ready { AreReady (A.meaning app.now) graph.now self.old }
-        ensures all { OnOk result (self.new.ids ≡ ids_of (clear_nodes (A.meaning app.now) graph.now)) }
+        ensures all { OnOk result (ids_in self.new.ids ≡ ids_of (clear_nodes (A.meaning app.now) graph.now)) }
         ensures ready { AreReady (A.meaning app.now) graph.now self.new }
         ensures unchanged { OnErr result (self.new ≡ self.old) }
     {
@@ -62,24 +64,25 @@ impl Ready {
         Ok(())
     }
 
-    /// The id at the remainder of a pick, where there is one.
+    /// The id at the remainder of a pick, where there is one, and where it stands.
     #[inline(always)]
-    pub(crate) fn picked(&self, pick: u64) -> Option<NodeId>
-        ensures { result ≡ slice_get self.now.ids (pick % length self.now.ids) }
+    pub(crate) fn picked(&self, pick: u64) -> Option<(NodeId, Spot)>
+        ensures id { option_map (λ found. found.0) result ≡ slice_get (ids_in self.now.ids) (pick % length (ids_in self.now.ids)) }
+        ensures spot { IfSome result (λ found. IsSpot self.now.ids (pick % length (ids_in self.now.ids)) found.1) }
     {
         let place = pick.checked_rem(self.ids.len() as u64)?;
-        Some(self.ids.get(place as usize))
+        let spot = self.ids.spot(place as usize);
+        Some((self.ids.get(spot), spot))
     }
 
-    /// That id is there no more.
+    /// The id that stands there is no more.
     #[inline(always)]
-    pub(crate) fn take(&mut self, pick: u64)
-        requires { 0 < length self.old.ids }
-        ensures ids { self.new.ids ≡ remove self.old.ids (pick % length self.old.ids) }
+    pub(crate) fn take(&mut self, spot: Spot)
+        requires { (place : ℕ) × IsSpot self.old.ids place spot }
+        ensures ids { (place : ℕ) → IsSpot self.old.ids place spot → ids_in self.new.ids ≡ remove (ids_in self.old.ids) place }
         ensures current { self.new.is_current ≡ self.old.is_current }
     {
-        let place = pick % self.ids.len() as u64;
-        self.ids.remove(place as usize);
+        self.ids.remove(spot);
     }
 }
 
@@ -92,8 +95,8 @@ fn clear_ids<A: App>(
     graph: &Graph,
 ) -> Result<IdList, NoRoom>
     requires fit { AreFitTasks (A.meaning app.now) (tasks_of graph.now) }
-    requires known { AllByRecursion (IsOfClear (A.meaning app.now) graph.now) known.now }
-    ensures { IfOk result (λ ids. ids ≡ ids_of (clear_nodes (A.meaning app.now) graph.now)) }
+    requires known { AllByRecursion (IsOfClear (A.meaning app.now) graph.now) (ids_in known.now) }
+    ensures { IfOk result (λ ids. ids_in ids ≡ ids_of (clear_nodes (A.meaning app.now) graph.now)) }
 {
     node_laws();
     source_laws();

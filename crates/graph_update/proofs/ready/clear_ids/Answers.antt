@@ -4,6 +4,7 @@ use Rattle.std.proofs.lemmas.List.{append-nil}
 use Rattle.kdg_graph.specs.Edges.{sources_of}
 use Rattle.kdg_graph.specs.Nodes.{HasNode}
 use Rattle.graph_update.specs.Engine.{IsOfClear}
+use Rattle.graph_update.specs.IdChunks.{ids_in}
 use Rattle.graph_update.proofs.ClearIds.{clear_are_safe, fit_at, next_passed, safe_ids, sources_are_there}
 use Rattle.graph_update.proofs.ReadyIds.{known_is_safe}
 use Rattle.graph_update.proofs.ready.clear_ids.Goals as goal
@@ -26,7 +27,7 @@ loop-node-preserved-in-Continue-branch-2 g c =
     let safe = known_is_safe app c.args.graph.now c.node_laws.ensures.have_ids c.sources-node-items.ensures.graph c.in-Some.node known.0 in
     record {
       passed = ap (λ ids. ids ++ safe_ids app c.args.graph.now c.next.new.self) c.in_ok-push.ensures.ok
-          ∙ (next_passed app c.args.graph.now c.loop-node.ids c.in-Some.node c.next.new.self _ (ap (λ left. c.loop-node.ids ++ safe_ids app c.args.graph.now left) (sym steps) ∙ c.loop-node.invariant.passed)).0 safe;
+          ∙ (next_passed app c.args.graph.now (ids_in c.loop-node.ids) c.in-Some.node c.next.new.self _ (ap (λ left. ids_in c.loop-node.ids ++ safe_ids app c.args.graph.now left) (sym steps) ∙ c.loop-node.invariant.passed)).0 safe;
       there = (subst (AllByRecursion (HasNode c.args.graph.now)) steps c.loop-node.invariant.there).1;
       known = known.1;
     }
@@ -39,5 +40,5 @@ pub returns : goal.returns
 returns g c =
     let app = g.A.App.meaning c.args.app.now in
     let none : c.loop-node.node-iterator ≡ [] = c.in-None.ensures.steps.0 in
-    sym (append-nil c.loop-node.ids) ∙ ap (λ ids. c.loop-node.ids ++ safe_ids app c.args.graph.now ids) (sym none)
+    sym (append-nil (ids_in c.loop-node.ids)) ∙ ap (λ ids. ids_in c.loop-node.ids ++ safe_ids app c.args.graph.now ids) (sym none)
     ∙ c.loop-node.invariant.passed ∙ clear_are_safe app c.args.graph.now c.node_laws.ensures.have_ids c.sources-node-items.ensures.graph

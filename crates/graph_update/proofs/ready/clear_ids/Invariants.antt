@@ -3,13 +3,14 @@ use Rattle.std.specs.List.{AllByRecursion}
 use Rattle.kdg_graph.specs.Edges.{sources_of}
 use Rattle.kdg_graph.specs.Nodes.{HasNode}
 use Rattle.graph_update.specs.Engine.{IsOfClear}
+use Rattle.graph_update.specs.IdChunks.{ids_in}
 use Rattle.graph_update.proofs.ClearIds.{safe_ids}
 use Rattle.graph_update.proofs.ready.clear_ids.Given as goal
 
 -- the safe ones of the sources that were passed, the sources that are left, and the known ones that are left
 abbrev pub invariant-loop-node : goal.invariant-loop-node
 invariant-loop-node g l = record {
-  passed : l.ids ++ safe_ids (g.A.App.meaning l.app) l.graph l.node-iterator ≡ safe_ids (g.A.App.meaning l.app) l.graph (sources_of l.graph);
+  passed : ids_in l.ids ++ safe_ids (g.A.App.meaning l.app) l.graph l.node-iterator ≡ safe_ids (g.A.App.meaning l.app) l.graph (sources_of l.graph);
   there : AllByRecursion (HasNode l.graph) l.node-iterator;
   known : AllByRecursion (IsOfClear (g.A.App.meaning l.app) l.graph) l.left;
 }

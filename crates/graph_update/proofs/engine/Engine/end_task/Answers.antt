@@ -6,6 +6,7 @@ use Rattle.kdg_graph.specs.Rewrite.{HaveNewKeys}
 use Rattle.output_log.specs.Entries.{IsNewEntry, with_entry}
 use Rattle.graph_update.specs.Engine.{AreReady, HaveFixedSets, IsKept, IsOneStepEach}
 use Rattle.graph_update.specs.Events.{fresh_from}
+use Rattle.graph_update.specs.IdChunks.{ids_in}
 use Rattle.graph_update.specs.Progress.{EngineState, Progress}
 use Rattle.graph_update.proofs.Performed.{bundle_is_out, children_not_earlier, fresh_new}
 use Rattle.graph_update.proofs.ReadyIds.{some_are_ready}
@@ -58,13 +59,13 @@ invariant_of-self-in-Ok-end_node g c =
           (c.put.ensures.entries ∙ ap (with_entry c.args.done.task.key c.args.done.effect.text) c.reserve_for.ensures.entries)
           (c.requires.created ∙ ap (λ (engine : EngineState _ _). engine.progress.created + length c.args.done.effect.children) (sym c.self.view_is)) refl
           (c.sound_finish_laws.ensures c.self.inside.app.now) (subst (λ (engine : EngineState _ _). c.args.created ≤ engine.progress.limit) (sym c.self.view_is) c.requires.within) c.self.invariant.0.limited,
-      some_are_ready (g.A.App.meaning c.self.inside.app.now) c.end_node.new.graph c.expect_more.new.self c.self.inside.ready.ids c.expect_more.ensures.ids c.expect_more.ensures.current
+      some_are_ready (g.A.App.meaning c.self.inside.app.now) c.end_node.new.graph c.expect_more.new.self (ids_in c.self.inside.ready.ids) (ap ids_in c.expect_more.ensures.ids) c.expect_more.ensures.current
           (stays_ready (c.basis.ensures c.self.inside.app.now) _ c.args.done is c.args.done.node (node_is (c.basis.ensures c.self.inside.app.now) _ c.args.done is)
           c.give-shell.new.self c.in-Ok-fresh_tasks.fresh.items c.end_node.new.graph c.put.new.self.entries c.args.created (c.self.inside.ended + 1)
           c.give-shell.ensures.given (c.in-Ok-fresh_tasks.ensures ∙ ap (fresh_from c.args.done.task.key 0) c.items-children.ensures.all) c.in-Ok-end_node.ensures.graph c.in-Ok-end_node.ensures.ok
           (c.put.ensures.entries ∙ ap (with_entry c.args.done.task.key c.args.done.effect.text) c.reserve_for.ensures.entries)
           (c.requires.created ∙ ap (λ (engine : EngineState _ _). engine.progress.created + length c.args.done.effect.children) (sym c.self.view_is)) refl
-          (c.stay_clear_laws.ensures.stay c.self.inside.app.now) (subst (λ (engine : EngineState _ _). c.args.created ≤ engine.progress.limit) (sym c.self.view_is) c.requires.within) c.self.inside.ready.ids c.self.invariant.1.clear),
+          (c.stay_clear_laws.ensures.stay c.self.inside.app.now) (subst (λ (engine : EngineState _ _). c.args.created ≤ engine.progress.limit) (sym c.self.view_is) c.requires.within) (ids_in c.self.inside.ready.ids) c.self.invariant.1.clear),
       stays_fixed (c.basis.ensures c.self.inside.app.now) _ c.args.done is c.args.done.node (node_is (c.basis.ensures c.self.inside.app.now) _ c.args.done is)
           c.give-shell.new.self c.in-Ok-fresh_tasks.fresh.items c.end_node.new.graph c.put.new.self.entries c.args.created (c.self.inside.ended + 1)
           c.give-shell.ensures.given (c.in-Ok-fresh_tasks.ensures ∙ ap (fresh_from c.args.done.task.key 0) c.items-children.ensures.all) c.in-Ok-end_node.ensures.graph c.in-Ok-end_node.ensures.ok
