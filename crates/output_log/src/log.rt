@@ -59,10 +59,11 @@ impl Log {
     }
 
     /// Makes place for an entry with this text, where it needs one. The entries stay as they are, also
-    /// after `NoRoom`.
+    /// after `NoRoom`. An empty text needs none: then nothing changes, and `NoRoom` isn't given.
     #[inline(always)]
     pub fn reserve_for(&mut self, text: &Text) -> Result<(), NoRoom>
         ensures ok { OnOk result (text.now ≢ [] → 0 < self.new.spare) }
+        ensures none { text.now ≡ [] → (result ≡ Ok tt) × (self.new ≡ self.old) }
         ensures kept { self.old.spare ≤ self.new.spare }
         ensures entries { self.new.entries ≡ self.old.entries }
     {
