@@ -1,4 +1,4 @@
-ghost use Rattle.std.specs.Prelude.{◌≡◌, ◌+◌, slice_index, EachIndex};
+ghost use Rattle.std.specs.Prelude.{◌≡◌, ◌+◌, slice_index, true, EachIndex};
 ghost use Rattle.outer_edge.specs.Choices.{generator_at, seeded_word};
 
 use rand_core::utils::NextWord;
@@ -22,6 +22,12 @@ pub trait Gate {
 
     /// Comes before a worker performs the task with this key, outside any turn.
     fn pass(&self, worker: u32, key: &Key);
+
+    /// Whether each worker passes at once and unseen. Then a run may leave `pass` out, and perform tasks
+    /// of which none waits for another in any order.
+    fn is_open(&self) -> bool {
+        false
+    }
 }
 
 /// The gate that always takes the first, and passes at once.
@@ -36,6 +42,12 @@ impl Gate for Still {
     }
 
     fn pass(&self, _worker: u32, _key: &Key) {}
+
+    fn is_open(&self) -> bool
+        ensures { result ≡ true }
+    {
+        true
+    }
 }
 
 /// The generator of a worker, as it is at a turn.
@@ -70,4 +82,10 @@ impl Gate for Seeded {
     }
 
     fn pass(&self, _worker: u32, _key: &Key) {}
+
+    fn is_open(&self) -> bool
+        ensures { result ≡ true }
+    {
+        true
+    }
 }

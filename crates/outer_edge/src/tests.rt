@@ -226,6 +226,16 @@ impl Gate for Turns {
     fn pass(&self, _worker: u32, _key: &Key) {}
 }
 
+/// A gate is open only where it says so.
+#[test]
+fn gates_tell_whether_they_are_open(rt: HostRuntime) {
+    assert!(rt; opens(&Still) && opens(&Seeded) && !opens(&Turns));
+}
+
+fn opens<G: Gate>(gate: &G) -> bool {
+    gate.is_open()
+}
+
 fn four_ahead<G: Gate>(gate: &G, seed: u64, worker: u32, turn: u64) -> [u64; 4] {
     let mut picks = [9; 4];
     gate.choose_ahead(seed, worker, turn, &mut picks);
