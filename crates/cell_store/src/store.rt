@@ -65,6 +65,7 @@ impl<V: Held> Store<V> {
 
     /// Takes the cells of a set: moves out those that it writes, and copies those that it reads.
     /// After `NoRoom` the store is as it was.
+    #[inline(always)]
     pub fn take(&mut self, set: &RwSet) -> Result<Bundle<V>, NoRoom>
         requires { AreHome self.old set.now }
         ensures bundle { IfOk result (λ bundle. bundle ≡ part_of self.old set.now) }
