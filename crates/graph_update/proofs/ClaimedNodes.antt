@@ -66,7 +66,7 @@ own-filter test (node ∷ nodes) own = elim (test node) as (λ b. HaveOwnIds (co
   | false ↦ own-filter test nodes own.1
 ]
 
-other_at : (id : NodeId) (node : Node) → node.id ≢ id → is_at id node ≡ false
+pub other_at : (id : NodeId) (node : Node) → node.id ≢ id → is_at id node ≡ false
 other_at id node other = by_test (is_at id node) refl
   where
     by_test : (test : Bool) → is_at id node ≡ test → is_at id node ≡ false

@@ -5,6 +5,7 @@ pub mod Begun
 pub mod Behind
 pub mod ClaimedNodes
 pub mod Claims
+pub mod ClearActs
 pub mod ClearClaims
 pub mod ClearIds
 pub mod ClearNodes
@@ -27,6 +28,7 @@ pub mod MakingFresh
 pub mod IdLists
 pub mod Marks
 pub mod Members
+pub mod NodeTasks
 pub mod Performed
 pub mod Picked
 pub mod ReadyIds

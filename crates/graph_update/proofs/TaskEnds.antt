@@ -14,8 +14,10 @@ use Rattle.kdg_graph.specs.declared.change.Fresh.{Fresh}
 use Rattle.kdg_graph.specs.declared.node_id.NodeId.{NodeId}
 use Rattle.kdg_graph.specs.Edges.{laters_of}
 use Rattle.kdg_graph.specs.Node.{Node}
-use Rattle.kdg_graph.specs.Nodes.{HasNode, IsGraph, node_at, node_with_key}
+use Rattle.kdg_graph.specs.Nodes.{HasNode, IsGraph, node_at, node_with_key, task_at}
 use Rattle.kdg_graph.specs.Rewrite.{IsRewritten}
+use Rattle.app_laws.specs.declared.app.Effect.{Effect}
+use Rattle.app_laws.specs.declared.child.Child.{Child}
 use Rattle.app_laws.specs.Applications.{Application}
 use Rattle.graph_update.specs.declared.answers.OverCause.{OverCause}
 use Rattle.graph_update.specs.declared.answers.OverCause.TheVariants as cause
@@ -47,8 +49,8 @@ module _ {V : Type 0} (cells given : List (Cell V)) (bundle shell : Part V) (out
   bundle_back regains whole back is =
       is ∙ ap (λ (cells : List (Cell V)). bundle_of cells shell) given_is ∙ ap (bundle_of (cells_given cells bundle)) shell_is ∙ regains cells bundle whole out
 
-pub done_back : {V : Type 0} (done : Done V) (bundle : Part V) → bundle ≡ done.effect.bundle → (record done { effect = record done.effect { bundle = bundle } }) ≡ done
-done_back {V} done bundle is = ap (λ (bundle : Part V). let back : Done V = record done { effect = record done.effect { bundle = bundle } } in back) is
+pub effect_back : {V : Type 0} (effect : Effect V) (bundle : Part V) → bundle ≡ effect.bundle → (record effect { bundle = bundle }) ≡ effect
+effect_back {V} effect bundle is = ap (λ (bundle : Part V). let back : Effect V = record effect { bundle = bundle } in back) is
 
 pub progress_back : {V : Type 0} (old : Progress V) (cells : List (Cell V)) (nodes : List Node) (log : List Entry) → cells ≡ old.cells → nodes ≡ old.nodes → log ≡ old.log
     → (record old { cells = cells; nodes = nodes; log = log }) ≡ old
@@ -89,11 +91,26 @@ module _ {V : Type 0} {app : Application V} (basis : FinishBasis app) (old : Pro
   pub node_is : option_map (λ (node : Node). node.id) (node_with_key old.nodes done.task.key) ≡ Some done.node
   node_is = ap (option_map (λ (node : Node). node.id)) ended.found ∙ ap (λ (id : NodeId). Some id) id_is
 
+  -- the task that its id finds is that of the job
+  pub task_is : (task : Task) → task_at old.nodes done.node ≡ Some task → task ≡ done.task
+  task_is task at =
+      let node = (named basis is.sound is.performed).0 in
+      let there : node_at old.nodes done.node ≡ Some node = subst (λ (id : NodeId). node_at old.nodes id ≡ Some node) id_is ended.at_id in
+      sym (part_is (λ (node : Node). node.task) (node_at old.nodes done.node) task node at there) ∙ ended.task ∙ ended.job_task
+
+  -- what is made with that task's key is made with the key of the job's
+  pub fresh_is : (task : Task) → task_at old.nodes done.node ≡ Some task → (children : List Child) → children ≡ done.effect.children
+      → (fresh : List Fresh) → fresh ≡ fresh_from task.key 0 children → fresh ≡ fresh_from done.task.key 0 done.effect.children
+  fresh_is task at children all fresh made =
+      made ∙ ap (λ (task : Task). fresh_from task.key 0 children) (task_is task at) ∙ ap (fresh_from done.task.key 0) all
+
+  pub log_is : (task : Task) → task_at old.nodes done.node ≡ Some task → (before : List Entry) → before ≡ old.log
+      → (log : List Entry) → log ≡ with_entry task.key done.effect.text before → log ≡ with_entry done.task.key done.effect.text old.log
+  log_is task at before same log put =
+      put ∙ ap (λ (task : Task). with_entry task.key done.effect.text before) (task_is task at) ∙ ap (with_entry done.task.key done.effect.text) same
+
   pub has_node : HasNode old.nodes done.node
   has_node = subst (HasNode old.nodes) id_is (subst IsSome (sym ended.at_id) refl)
-
-  pub is_graph : IsGraph old.nodes
-  is_graph = is.sound.keys_and_counts.graph
 
   pub fit_given : (values : List V) × app.is_fit_cells values × AgreesWith (cells_given old.cells done.effect.bundle) values
   fit_given = ((app.act is.job.task is.values).cells, fit_after basis is.sound is.performed, agrees_given basis is.sound is.performed)

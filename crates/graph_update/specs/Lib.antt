@@ -1,3 +1,4 @@
+pub mod Acting
 pub mod Answers
 pub mod Basis
 pub mod Engine

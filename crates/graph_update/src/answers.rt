@@ -16,6 +16,17 @@ pub enum OverCause {
     NoRoom,
 }
 
+impl From<NoRoom> for OverCause {
+    ghost use Rattle.std.specs.Prelude.{◌≡◌};
+    ghost use Rattle.graph_update.specs.declared.answers.OverCause.TheVariants.{NoRoom};
+
+    ghost from_gives = { λ _ cause. cause ≡ NoRoom };
+
+    fn from(_: NoRoom) -> OverCause {
+        OverCause::NoRoom
+    }
+}
+
 /// How far an execution has come.
 #[derive(Clone, Copy, Debug, PartialEq, Eq)]
 pub struct Counts {

@@ -1,6 +1,7 @@
 //! How a task ends.
 
 ghost use Rattle.std.specs.Prelude.{◌≡◌, ◌+◌, ◌≤◌, length, IfErr, OnOk, OnErr};
+ghost use Rattle.task_order.specs.declared.task.Task.{Task};
 ghost use Rattle.graph_update.specs.Answers.{IsFinishRefusal};
 ghost use Rattle.graph_update.specs.Engine.{AsksForNoFixedSet, FinishStaysSound, IsDone, IsOneStepEach, StaysSound};
 ghost use Rattle.graph_update.specs.Events.{IsFinished, IsOverLimit};
@@ -11,6 +12,7 @@ use crate::rewriting::{end_node, fresh_tasks};
 use crate::standing_laws::stay_clear_laws;
 use crate::{Done, Engine, FinishFault, OverCause};
 use app_laws::{App, Effect};
+use kdg_graph::NodeId;
 use kdg_text::Steps;
 use std::sync::ledger::Ledger;
 
@@ -50,46 +52,50 @@ impl<'a, A: App> Engine<'a, A> {
                 limit,
             });
         }
-        match self.end_task(done, created, steps) {
+        let Done { node, task, effect } = done;
+        match self.end_running(node, effect, created, steps) {
             Ok(()) => Ok(()),
-            Err(done) => Err(FinishFault::NoRoom { done }),
+            Err(effect) => Err(FinishFault::NoRoom {
+                done: Done { node, task, effect },
+            }),
         }
     }
 
-    /// Ends a task whose children are no more than may be created. Where memory runs out, it comes
-    /// back and all is as it was.
+    /// Ends the running task of a node, whose children are no more than may be created. Where memory
+    /// runs out, what it did comes back and all is as it was.
     ///
     /// The new values are home while sets are asked for. They are taken out again where the graph
     /// finds no memory.
     #[inline(always)]
-    fn end_task<L: Ledger>(
+    pub(crate) fn end_running<L: Ledger>(
         &mut self,
-        done: Done<A::Val>,
+        node: NodeId,
+        effect: Effect<A::Val>,
         created: u64,
         steps: &mut Steps<L>,
-    ) -> Result<(), Done<A::Val>>
-        requires done { IsDone (A.meaning self.old.app) self.old.progress done }
-        requires created { created ≡ self.old.progress.created + length done.effect.children }
+    ) -> Result<(), Effect<A::Val>>
+        ghost task: { Task }
+        requires done { IsDone (A.meaning self.old.app) self.old.progress (record { node = node; task = task; effect = effect }) }
+        requires created { created ≡ self.old.progress.created + length effect.children }
         requires within { created ≤ self.old.progress.limit }
         ensures app { self.new.app ≡ self.old.app }
-        ensures finished { OnOk result (IsFinished (A.meaning self.old.app) self.old.progress done self.new.progress) }
-        ensures sound { OnOk result (FinishStaysSound (A.meaning self.old.app) self.old.progress done self.new.progress) }
-        ensures returned { IfErr result (λ back. back ≡ done) }
+        ensures finished { OnOk result (IsFinished (A.meaning self.old.app) self.old.progress (record { node = node; task = task; effect = effect }) self.new.progress) }
+        ensures sound { OnOk result (FinishStaysSound (A.meaning self.old.app) self.old.progress (record { node = node; task = task; effect = effect }) self.new.progress) }
+        ensures returned { IfErr result (λ back. back ≡ effect) }
         ensures unchanged { OnErr result (self.new ≡ self.old) }
-        ensures steps { IsOneStepEach self.old.progress.nodes done.task.key steps.old steps.new }
+        ensures steps { IsOneStepEach self.old.progress.nodes task.key steps.old steps.new }
         ensures no_step { AsksForNoFixedSet (A.meaning self.old.app) steps.old steps.new }
     {
         basis::<A>();
         sound_finish_laws::<A>();
         stay_clear_laws::<A>();
-        let Ok(()) = self.log.reserve_for(&done.effect.text) else {
-            return Err(done);
+        let Ok(()) = self.log.reserve_for(&effect.text) else {
+            return Err(effect);
         };
-        let children = done.effect.children.items();
-        let Ok(fresh) = fresh_tasks(self.alloc, &done.task.key, children) else {
-            return Err(done);
+        let parent = &self.graph.task(node).key;
+        let Ok(fresh) = fresh_tasks(self.alloc, parent, effect.children.items()) else {
+            return Err(effect);
         };
-        let Done { node, task, effect } = done;
         let shell = self.store.give(effect.bundle);
         match end_node(
             self.alloc,
@@ -100,7 +106,7 @@ impl<'a, A: App> Engine<'a, A> {
             fresh,
             steps,
         ) {
-            Ok(()) => {
+            Ok(task) => {
                 self.log.put(task.key, effect.text);
                 self.created = created;
                 self.ended += 1;
@@ -109,8 +115,7 @@ impl<'a, A: App> Engine<'a, A> {
             }
             Err(_) => {
                 let bundle = self.store.regain(shell);
-                let effect = Effect { bundle, ..effect };
-                Err(Done { node, task, effect })
+                Err(Effect { bundle, ..effect })
             }
         }
     }

@@ -1,6 +1,7 @@
 //! The engine of the kinetic dependence graph: tasks are claimed and ended in any order.
 #![tactic(auto)]
 
+mod acting;
 mod answers;
 mod beginning;
 mod claiming;

@@ -48,6 +48,18 @@ impl Ready {
         self.is_current = false;
     }
 
+    /// Forgets the nodes that it knows, as one of them may be claimed elsewhere.
+    #[inline(always)]
+    pub(crate) fn forget(&mut self)
+        ensures ids { ids_in self.new.ids ≡ [] }
+        ensures current { self.new.is_current ≡ false }
+    {
+        self.is_current = false;
+        if self.ids.len() > 0 {
+            self.ids = IdList::new(self.alloc);
+        }
+    }
+
     /// Looks at the sources, unless all clear nodes are known. After `NoRoom` all is as it was.
     #[inline(always)]
     pub(crate) fn look<A: App>(&mut self, app: &A, graph: &Graph) -> Result<(), NoRoom>

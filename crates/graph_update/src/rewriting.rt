@@ -4,7 +4,7 @@
 ghost use Rattle.std.specs.Prelude.{◌≡◌, ◌+◌, ◌<◌, ◌≤◌, ◌^◌, List, Some, length, IfOk, OnOk, OnErr};
 ghost use Rattle.std.specs.List.{AllByRecursion};
 ghost use Rattle.kdg_graph.specs.Node.{Node};
-ghost use Rattle.kdg_graph.specs.Nodes.{HasNode, IsGraph, node_at, tasks_of};
+ghost use Rattle.kdg_graph.specs.Nodes.{HasNode, IsGraph, node_at, task_at, tasks_of};
 ghost use Rattle.kdg_graph.specs.Edges.{laters_of};
 ghost use Rattle.kdg_graph.specs.Rewrite.{AreChangesOf, HaveNewKeys, IsRewritten, with_sets, without};
 ghost use Rattle.app_laws.specs.Applications.{AgreesWith, AreFitTasks};
@@ -20,9 +20,9 @@ use std::alloc::Global;
 use std::sync::ledger::Ledger;
 use task_order::{Key, Task};
 
-/// Takes the node of a task that has ended out of the graph, gives new sets to the later nodes that
-/// its recorded set conflicts with, over the cells after it, and puts the fresh tasks in. After
-/// `NoRoom` the graph is as it was. Each of these later nodes takes one step at most, and none where
+/// Takes the node of a task that has ended out of the graph and gives its task, gives new sets to the
+/// later nodes that its recorded set conflicts with, over the cells after it, and puts the fresh tasks
+/// in. After `NoRoom` the graph is as it was. Each of these later nodes takes one step at most, and none where
 /// the sets are fixed.
 #[inline(always)]
 pub(crate) fn end_node<A: App, L: Ledger>(
@@ -33,7 +33,7 @@ pub(crate) fn end_node<A: App, L: Ledger>(
     ended: NodeId,
     fresh: Vec<Fresh>,
     steps: &mut Steps<L>,
-) -> Result<(), NoRoom>
+) -> Result<Task, NoRoom>
     requires graph { IsGraph graph.old }
     requires there { HasNode graph.old ended }
     requires tasks { AreFitTasks (A.meaning app.now) (tasks_of graph.old) }
@@ -42,6 +42,7 @@ pub(crate) fn end_node<A: App, L: Ledger>(
     requires new { HaveNewKeys (tasks_of graph.old) fresh.items }
     ensures ok { OnOk result ((node : Node) → node_at graph.old ended ≡ Some node →
         IsRewritten graph.old ended (renewals (A.meaning app.now) store.now graph.old node) fresh.items graph.new) }
+    ensures task { IfOk result (λ task. task_at graph.old ended ≡ Some task) }
     ensures graph { IsGraph graph.new }
     ensures unchanged { OnErr result (graph.new ≡ graph.old) }
     ensures steps { (node : Node) → node_at graph.old ended ≡ Some node →
@@ -49,10 +50,10 @@ pub(crate) fn end_node<A: App, L: Ledger>(
     ensures no_step { AsksForNoFixedSet (A.meaning app.now) steps.old steps.new }
 {
     let changes = set_changes(alloc, app, graph, store, ended, steps)?;
-    let Ok(()) = graph.rewrite(ended, changes, fresh) else {
-        return Err(NoRoom);
-    };
-    Ok(())
+    match graph.rewrite(ended, changes, fresh) {
+        Ok(task) => Ok(task),
+        Err(_) => Err(NoRoom),
+    }
 }
 
 /// The children of a task as fresh tasks, with their keys and copies of their sets.

@@ -78,8 +78,8 @@ impl Graph {
         Ok(self.nodes.put(task, set))
     }
 
-    /// Takes the node of a task that has ended out, replaces the sets that are named, and puts the
-    /// fresh tasks in, each as a node that is not running. Nothing else changes.
+    /// Takes the node of a task that has ended out and gives its task, replaces the sets that are named,
+    /// and puts the fresh tasks in, each as a node that is not running. Nothing else changes.
     ///
     /// All memory is taken first. Where it runs out, both lists come back and the graph is as it
     /// was.
@@ -88,11 +88,12 @@ impl Graph {
         ended: NodeId,
         changed: Vec<SetChange>,
         fresh: Vec<Fresh>,
-    ) -> Result<(), (Vec<SetChange>, Vec<Fresh>)>
+    ) -> Result<Task, (Vec<SetChange>, Vec<Fresh>)>
         requires there { HasNode self.old ended }
         requires changes { AreChangesOf self.old ended changed.items }
         requires new { HaveNewKeys (tasks_of self.old) fresh.items }
         ensures ok { OnOk result (IsRewritten self.old ended changed.items fresh.items self.new) }
+        ensures task { IfOk result (λ task. task_at self.old ended ≡ Some task) }
         ensures graph { IsGraph self.new }
         ensures returned { IfErr result (λ back. back ≡ (changed, fresh)) }
         ensures unchanged { OnErr result (self.new ≡ self.old) }
@@ -100,10 +101,10 @@ impl Graph {
         if self.nodes.reserve_all(&changed, &fresh).is_err() {
             return Err((changed, fresh));
         }
-        self.nodes.remove(ended);
+        let task = self.nodes.remove(ended);
         self.nodes.set_sets(changed);
         self.nodes.put_all(fresh);
-        Ok(())
+        Ok(task)
     }
 
     /// Marks a node as running.

@@ -1,6 +1,12 @@
-use Rattle.std.proofs.Common.{◌+◌, ◌∙◌, Some, length, ap}
+use Rattle.std.proofs.Common.{◌+◌, ◌≤◌, ◌∙◌, Some, length, sym, ap, subst}
 use Rattle.std.specs.Option.{option_or}
+use Rattle.task_order.specs.declared.task.Task.{Task}
 use Rattle.graph_update.specs.declared.answers.OverCause.TheVariants as cause
+use Rattle.graph_update.specs.declared.job.Done.{Done}
+use Rattle.graph_update.specs.Engine.{FinishStaysSound, IsDone, IsOneStepEach}
+use Rattle.graph_update.specs.Events.{IsFinished}
+use Rattle.graph_update.specs.Progress.{EngineState}
+use Rattle.graph_update.proofs.NodeTasks.{own_task, same_done}
 use Rattle.graph_update.proofs.TaskEnds.{over_sound}
 use Rattle.graph_update.proofs.engine.Engine.finish.Goals as goal
 
@@ -8,3 +14,26 @@ pub returns-then-created-limit-clause-refused_sound : goal.returns-then-created-
 returns-then-created-limit-clause-refused_sound g c =
     over_sound g.A.App.meaning _ _ c.args.done c.self.view_is (c.drain_laws.ensures.sound c.args.self.now.app) c.or-self-inside.result
     (c.or-self-inside.ensures ∙ ap (λ (children : _). option_or c.self.inside.over (Some (cause.Budget (c.self.inside.created + length children) c.self.inside.limit))) c.items.ensures.all)
+
+pub end_running-requires-send-A-Val : goal.end_running-requires-send-A-Val
+end_running-requires-send-A-Val g c κs within =
+    let is = subst (λ (done : Done _). IsDone (g.A.App.meaning c.args.self.now.app) c.args.self.now.progress done) (sym (same_done c.args.self.now.progress c.args.done c.requires)) c.requires in
+    let created = ap (λ (children : _). c.self.inside.created + length children) c.items.ensures.all ∙ ap (λ (engine : EngineState _ _). engine.progress.created + length c.args.done.effect.children) c.self.view_is in
+    let below = subst (λ (engine : EngineState _ _). c.self.inside.created + length c.items.result.now ≤ engine.progress.limit) c.self.view_is c.if-created-limit.false in
+    (within.0, (within.1.0, (within.1.1, (c.type_bounds.send-A-Val, (is, (created, below))))))
+
+pub returns-in-Ok-clause-finished : goal.returns-in-Ok-clause-finished
+returns-in-Ok-clause-finished g c =
+    subst (λ (done : Done _). IsFinished (g.A.App.meaning c.args.self.now.app) c.args.self.now.progress done c.end_running.new.self.progress) (same_done c.args.self.now.progress c.args.done c.requires) c.in-Ok.ensures.finished
+
+pub returns-in-Ok-clause-sound : goal.returns-in-Ok-clause-sound
+returns-in-Ok-clause-sound g c =
+    subst (λ (done : Done _). FinishStaysSound (g.A.App.meaning c.args.self.now.app) c.args.self.now.progress done c.end_running.new.self.progress) (same_done c.args.self.now.progress c.args.done c.requires) c.in-Ok.ensures.sound
+
+pub returns-in-Ok-clause-steps : goal.returns-in-Ok-clause-steps
+returns-in-Ok-clause-steps g c =
+    subst (λ (task : Task). IsOneStepEach c.args.self.now.progress.nodes task.key c.args.steps.now c.end_running.new.steps) (own_task c.args.self.now.progress c.args.done c.requires) c.in-Ok.ensures.steps
+
+pub returns-in-Err-clause-steps : goal.returns-in-Err-clause-steps
+returns-in-Err-clause-steps g c =
+    subst (λ (task : Task). IsOneStepEach c.args.self.now.progress.nodes task.key c.args.steps.now c.end_running.new.steps) (own_task c.args.self.now.progress c.args.done c.requires) c.in-Err.ensures.steps

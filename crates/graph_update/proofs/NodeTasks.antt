@@ -1,0 +1,54 @@
+-- The task of the node of an id, and that it is the one of a job that was performed.
+use Rattle.std.proofs.Common.{◌≡◌, ◌≢◌, Bool, true, false, cond, Option, Some, List, [], ◌∷◌, sym, ap, subst, ◌∙◌, inl, inr, eq-eqb}
+use Rattle.std.specs.Prelude.{Contains, option_map}
+use Rattle.std.specs.List.{AllByRecursion, find}
+use Rattle.std.specs.Option.{unwrap_or}
+use Rattle.task_order.specs.declared.task.Task.{Task}
+use Rattle.kdg_graph.specs.declared.node_id.NodeId.{NodeId}
+use Rattle.kdg_graph.specs.Node.{Node}
+use Rattle.kdg_graph.specs.Nodes.{HaveOwnIds, node_at}
+use Rattle.app_laws.specs.Applications.{Application}
+use Rattle.graph_update.specs.declared.job.Done.{Done}
+use Rattle.graph_update.specs.Acting.{no_task, task_named}
+use Rattle.graph_update.specs.Engine.{IsDone}
+use Rattle.graph_update.specs.Progress.{Progress}
+use Rattle.graph_update.specs.Sound.{IsOfNode}
+use Rattle.graph_update.proofs.ClaimedNodes.{other_at}
+use Rattle.graph_update.proofs.FinishMembers.{all_at, all_in_middle, cases, here, none, there}
+
+found_is_there : (test : Node → Bool) (nodes : List Node) (node : Node) → find test nodes ≡ Some node → Contains nodes node
+found_is_there test [] node is = cc
+found_is_there test (other ∷ nodes) node is = by_case (test other) (found_is_there test nodes node) is
+  where
+    by_case : (passes : Bool) → (find test nodes ≡ Some node → Contains nodes node) → cond passes (Some other) (find test nodes) ≡ Some node → Contains (other ∷ nodes) node
+    by_case true rest found = let same : other ≡ node = cc in subst (Contains (other ∷ nodes)) same (here other nodes)
+    by_case false rest found = there other node nodes (rest found)
+
+found_by_id : (nodes : List Node) (node : Node) → HaveOwnIds nodes → Contains nodes node → node_at nodes node.id ≡ Some node
+found_by_id [] node own has = absurd (none node has)
+found_by_id (other ∷ nodes) node own has = elim (cases other node nodes has) [
+  | inl same ↦ ap (λ test. cond test (Some other) (node_at nodes node.id)) (eq-eqb other.id.at node.id.at (ap (λ (node : Node). node.id.at) same)) ∙ ap (λ (node : Node). Some node) same
+  | inr later ↦
+      ap (λ test. cond test (Some other) (node_at nodes node.id)) (other_at node.id other (λ same. all_at (λ (node : Node). node.id ≢ other.id) nodes node own.0 later (sym same)))
+      ∙ found_by_id nodes node own.1 later
+]
+
+module _ {V : Type 0} {app : Application V} (old : Progress V) (done : Done V) (is : IsDone app old done) where
+  named : IsOfNode app old.nodes is.job
+  named = all_in_middle (IsOfNode app old.nodes) is.performed.before is.job is.performed.after (subst (AllByRecursion (IsOfNode app old.nodes)) is.performed.there is.sound.outs_match.named)
+
+  pub own_task : task_named old.nodes done.node ≡ done.task
+  own_task =
+      let node = named.0 in
+      let has = found_is_there _ old.nodes node named.1 in
+      let at : node_at old.nodes done.node ≡ Some node =
+      subst (λ (id : NodeId). node_at old.nodes id ≡ Some node) (named.2.id ∙ is.performed.node) (found_by_id old.nodes node is.sound.keys_and_counts.graph.own_ids has) in
+      ap (λ (found : Option Node). unwrap_or (option_map (λ (node : Node). node.task) found) no_task) at
+      ∙ named.2.task ∙ is.performed.task
+
+  -- what was done, with the task of its node
+  abbrev pub with_own_task : Done V
+  with_own_task = record { node = done.node; task = task_named old.nodes done.node; effect = done.effect }
+
+  pub same_done : with_own_task ≡ done
+  same_done = ap (λ (task : Task). let same : Done V = record { node = done.node; task = task; effect = done.effect } in same) own_task
