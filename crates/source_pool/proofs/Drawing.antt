@@ -135,6 +135,33 @@ module _ {V : Type 0} {app : Application V} (basis : Basis app) where
             (start_keeps_set claimed.node.id was ∙ all_at Exact now.nodes was drawing.sets_are from.1 ∙ ap (set_in app values) (sym (start_keeps_task claimed.node.id was)))));
       }
 
+  -- ---- while jobs are drawn
+
+  -- by the recorded sets, which are the declared ones, the node of a clear task is unblocked
+  pub unblocked : (first now : Progress V) (cells : List V) (state : State V) (text : List ℕ) (jobs : List (Job V)) (drawing : IsDrawing app first cells state text now jobs) (node : Node) → Contains now.nodes node
+      → IsClear app (whole_state now drawing.values) node.task → is_unblocked app now.nodes node ≡ true
+  unblocked first now cells state text jobs drawing node there clear =
+      let values = drawing.values in
+      let key = node.task.key in
+      let earlier = earlier_than key now.nodes in
+      let same = tasks-earlier_than key now.nodes in
+      let Exact = λ (other : Node). other.set ≡ set_in app values other.task in
+      let free : is_blocked now.nodes node ≡ false = none_any (λ (other : Node). conflicts_with other.set node.set) earlier (λ other among.
+      let were = from_filter (λ (n : Node). is_lt (key_cmp n.task.key key)) now.nodes other among in
+      let task_there = subst (λ tasks. Contains tasks other.task) same (in_map (λ (n : Node). n.task) earlier other among) in
+      let apart = all_at (λ (task : Task). ¬ Conflicts (set_in app values task) (set_in app values node.task)) (tasks_before key (tasks_of now.nodes)) other.task clear.unblocked.apart task_there in
+      let set : other.set ≡ set_in app values other.task = all_at Exact now.nodes other drawing.sets_are were.0 in
+      let own : node.set ≡ set_in app values node.task = all_at Exact now.nodes node drawing.sets_are there in
+      no_conflict other.set node.set (λ conflict. apart (subst (λ s. Conflicts s (set_in app values node.task)) set (subst (Conflicts other.set) own conflict)))) in
+      and_from _ _ (ap not free) (ap (app.is_safe node.task) same ∙ clear.unblocked.safe)
+    where
+      no_conflict : (set other : Accesses) → ¬ Conflicts set other → conflicts_with set other ≡ false
+      no_conflict set other free = by_case (conflicts_with set other) refl
+        where
+          by_case : (test : Bool) → conflicts_with set other ≡ test → test ≡ false
+          by_case true is = absurd (free ((basis.decided set other).0 is))
+          by_case false is = refl
+
   -- ---- all jobs of a round
 
   module _ (first now : Progress V) (cells : List V) (state : State V) (text : List ℕ) (jobs : List (Job V)) (dones : List (Done V))
@@ -153,29 +180,6 @@ module _ {V : Type 0} {app : Application V} (basis : Basis app) where
         let from : (done : Done V) × Contains dones done × (done.task ≡ task) = from_map (λ (done : Done V). done.task) dones task has in
         let job = all.no_other from.0 from.1 in
         subst (IsClear app state) (job.2.task ∙ from.2) (whole_clear job.0.task (job_is_clear basis now jobs values job.0 sound job.1))
-
-    -- by the recorded sets, which are the declared ones, the node of a clear task is unblocked
-    unblocked : (node : Node) → Contains now.nodes node → IsClear app (whole_state now values) node.task → is_unblocked app now.nodes node ≡ true
-    unblocked node there clear =
-        let key = node.task.key in
-        let earlier = earlier_than key now.nodes in
-        let same = tasks-earlier_than key now.nodes in
-        let Exact = λ (other : Node). other.set ≡ set_in app values other.task in
-        let free : is_blocked now.nodes node ≡ false = none_any (λ (other : Node). conflicts_with other.set node.set) earlier (λ other among.
-        let were = from_filter (λ (n : Node). is_lt (key_cmp n.task.key key)) now.nodes other among in
-        let task_there = subst (λ tasks. Contains tasks other.task) same (in_map (λ (n : Node). n.task) earlier other among) in
-        let apart = all_at (λ (task : Task). ¬ Conflicts (set_in app values task) (set_in app values node.task)) (tasks_before key (tasks_of now.nodes)) other.task clear.unblocked.apart task_there in
-        let set : other.set ≡ set_in app values other.task = all_at Exact now.nodes other drawing.sets_are were.0 in
-        let own : node.set ≡ set_in app values node.task = all_at Exact now.nodes node drawing.sets_are there in
-        no_conflict other.set node.set (λ conflict. apart (subst (λ s. Conflicts s (set_in app values node.task)) set (subst (Conflicts other.set) own conflict)))) in
-        and_from _ _ (ap not free) (ap (app.is_safe node.task) same ∙ clear.unblocked.safe)
-      where
-        no_conflict : (set other : Accesses) → ¬ Conflicts set other → conflicts_with set other ≡ false
-        no_conflict set other free = by_case (conflicts_with set other) refl
-          where
-            by_case : (test : Bool) → conflicts_with set other ≡ test → test ≡ false
-            by_case true is = absurd (free ((basis.decided set other).0 is))
-            by_case false is = refl
 
     runs : (node : Node) → Contains now.nodes node → is_unblocked app now.nodes node ≡ true → node.running ≡ true
     runs node there free = by_case node.running refl
@@ -200,7 +204,7 @@ module _ {V : Type 0} {app : Application V} (basis : Basis app) where
         let here_clear = subst (λ (s : State V). IsClear app s task) (sym drawing.state_is) clear in
         let from : (node : Node) × Contains now.nodes node × (node.task ≡ task) = from_map (λ (n : Node). n.task) now.nodes task here_clear.pending in
         let node = from.0 in
-        let running = runs node from.1 (unblocked node from.1 (subst (IsClear app (whole_state now values)) (sym from.2) here_clear)) in
+        let running = runs node from.1 (unblocked first now cells state text jobs drawing node from.1 (subst (IsClear app (whole_state now values)) (sym from.2) here_clear)) in
         let any : HasJob app jobs node = all_at (λ (n : Node). n.running ≡ true → HasJob app jobs n) now.nodes node sound.outs_match.all from.1 running in
         let its : (job : Job V) × Contains jobs job × (is_eq (key_cmp job.task.key node.task.key) ≡ true) = passing (λ (j : Job V). is_eq (key_cmp j.task.key node.task.key)) jobs any in
         let job = its.0 in
@@ -282,7 +286,7 @@ module _ {V : Type 0} {app : Application V} (basis : Basis app) where
             ]
       ]
 
-  found_is_there : {X : Type 0} (xs : List X) (i : ℕ) (x : X) → slice_get xs i ≡ Some x → Contains xs x
+  pub found_is_there : {X : Type 0} (xs : List X) (i : ℕ) (x : X) → slice_get xs i ≡ Some x → Contains xs x
   found_is_there [] i x found = cc
   found_is_there {X} (y ∷ xs) zero x found = subst (λ (z : X). Contains (y ∷ xs) z) (Some-injective y x found) (here y xs)
   found_is_there (y ∷ xs) (suc i) x found = there y x xs (found_is_there xs i x found)

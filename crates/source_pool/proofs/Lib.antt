@@ -1,3 +1,5 @@
+pub mod Acted
+pub mod Acts
 pub mod AsDrawn
 pub mod Dealing
 pub mod Drained

@@ -10,6 +10,7 @@ use Rattle.commuting.specs.Rounds.{ClearTasksAreListed}
 use Rattle.commuting.specs.Standing.{StartsStandForThemselves, ClearTasksKeepStanding, NothingPendingIsTheEnd, TooManyTasksNeverEnd}
 use Rattle.graph_update.specs.Finishes.{FinishesActOnWhole}
 use Rattle.graph_update.specs.Laws.{ClaimsKeepSound, FinishesKeepSound, MarksAndDrainsKeepSound, RecordedSetsSuffice, SomeIsClear}
+use Rattle.graph_update.specs.StandingLaws.{ClearNodesStayClear}
 
 pub record Basis {V : Type 0} (app : Application V) : Type 0 where
   pub lawful : IsLawful app
@@ -24,6 +25,7 @@ pub record Basis {V : Type 0} (app : Application V) : Type 0 where
   pub drains_keep_sound : MarksAndDrainsKeepSound app
   pub suffice : RecordedSetsSuffice app
   pub some_clear : SomeIsClear app
+  pub stay_clear : ClearNodesStayClear app
   pub have_ids : graph.NodesHaveIds
   pub have_keys : graph.NodesHaveKeys
   pub keys_find : graph.KeysFindNodes

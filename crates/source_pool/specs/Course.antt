@@ -6,8 +6,9 @@ use Rattle.task_order.specs.declared.task.Task.{Task}
 use Rattle.task_order.specs.Key.{key_cmp}
 use Rattle.task_order.specs.TaskList.{IsAscending}
 use Rattle.output_log.specs.Entries.{Entry, joined_by_key, joined_texts}
+use Rattle.kdg_graph.specs.declared.node_id.NodeId.{NodeId}
 use Rattle.kdg_graph.specs.Node.{Node}
-use Rattle.kdg_graph.specs.Nodes.{tasks_of}
+use Rattle.kdg_graph.specs.Nodes.{ids_of, tasks_of}
 use Rattle.app_laws.specs.Order.{Pairwise}
 use Rattle.app_laws.specs.Applications.{Application, IsEffect, set_in}
 use Rattle.commuting.specs.Rounds.{after_round}
@@ -17,6 +18,7 @@ use Rattle.graph_update.specs.declared.job.Done.{Done}
 use Rattle.graph_update.specs.declared.job.Job.{Job}
 use Rattle.graph_update.specs.Progress.{Progress, whole_state}
 use Rattle.graph_update.specs.Sound.{IsSound}
+use Rattle.graph_update.specs.StandingLaws.{IsClearNode}
 
 -- the tasks of performed jobs, in order
 abbrev pub done_tasks : {V : Type 0} → List (Done V) → List Task
@@ -94,6 +96,16 @@ module _ {V : Type 0} (app : Application V) where
       pub come : HasCome entries text now jobs values
       pub state_is : whole_state now values ≡ state
       pub sets_are : AllByRecursion (λ node. node.set ≡ set_in app values node.task) now.nodes
+
+    -- while clear tasks act one after the other: nothing is running, these are left, and once they have acted the state is the target
+    pub record IsActing (target : State V) (text : List ℕ) (now : Progress V) (ids : List NodeId) : Type 0 where
+      pub state : State V
+      pub rest : IsAtRest state text now
+      pub nodes : List Node
+      pub ids_are : ids ≡ ids_of nodes
+      pub clear : AllByRecursion (IsClearNode app now.nodes) nodes
+      pub in_order : IsAscending (tasks_of nodes)
+      pub leads : after_tasks app.act (tasks_of nodes) state ≡ target
 
     -- while jobs are ended in key order: these are performed and not ended yet, and once their tasks have acted the state is the target
     pub record IsEnding (target : State V) (text : List ℕ) (now : Progress V) (dones : List (Done V)) : Type 0 where

@@ -1,9 +1,10 @@
 -- What claims and ends make of rounds, for every application.
-use Rattle.std.specs.Prelude.{◌≡◌, ◌≢◌, ℕ, suc, ◌+◌, ◌-◌, List, [], ◌∷◌, ◌++◌, length, Some, None}
+use Rattle.std.specs.Prelude.{◌≡◌, ◌≢◌, ◌<◌, ℕ, suc, ◌+◌, ◌-◌, List, [], ◌∷◌, ◌++◌, length, Some, None}
 use Rattle.task_order.specs.Key.{end}
 use Rattle.task_order.specs.TaskList.{IsAscending}
 use Rattle.cell_store.specs.Values.{homes, values_of}
-use Rattle.kdg_graph.specs.Nodes.{IsGraph}
+use Rattle.kdg_graph.specs.declared.node_id.NodeId.{NodeId}
+use Rattle.kdg_graph.specs.Nodes.{HasNode, IsGraph, ids_of}
 use Rattle.output_log.specs.Entries.{joined_by_key, joined_texts}
 use Rattle.app_laws.specs.Applications.{Application}
 use Rattle.app_laws.specs.Execution.{Execution}
@@ -11,11 +12,13 @@ use Rattle.commuting.specs.Rounds.{TakesRounds, after_round}
 use Rattle.commuting.specs.States.{State, run_from}
 use Rattle.graph_update.specs.declared.job.Done.{Done}
 use Rattle.graph_update.specs.declared.job.Job.{Job}
+use Rattle.graph_update.specs.Acting.{HasActed, IsTooMany}
+use Rattle.graph_update.specs.Engine.{IsOfClear}
 use Rattle.graph_update.specs.Events.{IsClaimed, IsFinished, IsOverLimit, clear_nodes, drainable, drained}
 use Rattle.graph_update.specs.Laws.{IsPerformed}
 use Rattle.graph_update.specs.Progress.{Progress, whole_state}
 use Rattle.graph_update.specs.Sound.{IsSound}
-use Rattle.source_pool.specs.Course.{AreAllDone, HaveOwnKeys, IsAtRest, IsDrawing, IsEnding, LeadsByRounds, NothingRuns, done_tasks, idle_count}
+use Rattle.source_pool.specs.Course.{AreAllDone, HaveOwnKeys, IsActing, IsAtRest, IsDrawing, IsEnding, LeadsByRounds, NothingRuns, done_tasks, idle_count}
 
 module _ {V : Type 0} (app : Application V) where
   -- ---- claims
@@ -77,6 +80,37 @@ module _ {V : Type 0} (app : Application V) where
 
   abbrev pub EndsComeToRest : Type 0
   EndsComeToRest = (start now : Progress V) (cells : List V) (target : State V) (text : List ℕ) → IsEnding app start cells target text now [] → IsAtRest app start cells target text now
+
+  -- ---- acts
+
+  -- while nothing is running, all clear nodes may act one after the other in key order, and then the round is done
+  abbrev pub ActsBegin : Type 0
+  ActsBegin = (start now : Progress V) (cells : List V) (state : State V) (text : List ℕ) →
+      IsAtRest app start cells state text now → IsActing app start cells (after_round app state) text now (ids_of (clear_nodes app now.nodes))
+
+  -- some node is clear, where any is there
+  abbrev pub RoundsHaveActs : Type 0
+  RoundsHaveActs = (start now : Progress V) (cells : List V) (state : State V) (text : List ℕ) →
+      IsAtRest app start cells state text now → now.nodes ≢ [] → ids_of (clear_nodes app now.nodes) ≢ []
+
+  -- the first of those that are left may act
+  abbrev pub FirstMayAct : Type 0
+  FirstMayAct = (start now : Progress V) (cells : List V) (target : State V) (text : List ℕ) (id : NodeId) (ids : List NodeId) →
+      IsActing app start cells target text now (id ∷ ids) → IsOfClear app now.nodes id × HasNode now.nodes id × (now.over ≡ None)
+
+  -- then the others are left, and one more task has ended
+  abbrev pub ActsGoOn : Type 0
+  ActsGoOn = (start now next : Progress V) (cells : List V) (target : State V) (text : List ℕ) (id : NodeId) (ids : List NodeId) →
+      IsActing app start cells target text now (id ∷ ids) → HasActed app now id next → IsActing app start cells target text next ids × (next.ended ≡ suc now.ended)
+
+  -- where the limit is passed, the sequential run from the start doesn't end within what was left of it
+  abbrev pub TooManyActsNeverEnd : Type 0
+  TooManyActsNeverEnd = (start now next : Progress V) (cells : List V) (target : State V) (text : List ℕ) (id : NodeId) (ids : List NodeId) (created limit : ℕ) →
+      IsActing app start cells target text now (id ∷ ids) → IsTooMany app now id next created limit →
+      (run_from app.act (start.limit - start.ended) end (whole_state start cells) ≡ None) × (limit ≡ start.limit) × (limit < created)
+
+  abbrev pub ActsComeToRest : Type 0
+  ActsComeToRest = (start now : Progress V) (cells : List V) (target : State V) (text : List ℕ) → IsActing app start cells target text now [] → IsAtRest app start cells target text now
 
   -- ---- drains
 

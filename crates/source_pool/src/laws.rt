@@ -1,10 +1,12 @@
 ghost use Rattle.source_pool.specs.Basis.{Basis};
-ghost use Rattle.source_pool.specs.Laws.{ClaimsGoOn, ClaimsStartOne, DrainsKeepRest, DrawingsBegin, DrawnJobsAreTheRound, DrawnJobsDiffer, EndsComeToRest, EndsGoOn, FirstMayEnd, IdleIsSound, RestWithoutNodesIsTheEnd, RoundsAdd, RoundsAreTaken, RoundsHaveJobs, StartsAreAtRest, TooManyNeverEnd, WholeIsHome};
+ghost use Rattle.source_pool.specs.Laws.{ActsBegin, ActsComeToRest, ActsGoOn, ClaimsGoOn, ClaimsStartOne, DrainsKeepRest, DrawingsBegin, DrawnJobsAreTheRound, DrawnJobsDiffer, EndsComeToRest, EndsGoOn, FirstMayAct, FirstMayEnd, IdleIsSound, RestWithoutNodesIsTheEnd, RoundsAdd, RoundsAreTaken, RoundsHaveActs, RoundsHaveJobs, StartsAreAtRest, TooManyActsNeverEnd, TooManyNeverEnd, WholeIsHome};
 
 use app_laws::{App, lawful};
 use cell_store::value_laws;
 use commuting::{round_laws as clear_round_laws, standing_laws};
-use graph_update::{claim_laws, clear_laws, drain_laws, finish_state_laws, sound_finish_laws};
+use graph_update::{
+    claim_laws, clear_laws, drain_laws, finish_state_laws, sound_finish_laws, stay_clear_laws,
+};
 use kdg_graph::{node_laws, put_laws};
 use output_log::{join_laws, part_laws};
 use rw_sets::conflict_laws;
@@ -22,6 +24,7 @@ fn basis<A: App>()
     finish_state_laws::<A>();
     drain_laws::<A>();
     clear_laws::<A>();
+    stay_clear_laws::<A>();
     node_laws();
     put_laws();
     key_order();
@@ -56,6 +59,19 @@ pub fn ending_laws<A: App>()
     ensures goes_on { (app : A) → EndsGoOn (A.meaning app) }
     ensures too_many { (app : A) → TooManyNeverEnd (A.meaning app) }
     ensures rest { (app : A) → EndsComeToRest (A.meaning app) }
+{
+    basis::<A>();
+}
+
+/// While nothing is running, all clear tasks may act one after the other in key order, and then the
+/// round is done; where one passes the limit, the sequential run does too.
+pub fn acting_laws<A: App>()
+    ensures begins { (app : A) → ActsBegin (A.meaning app) }
+    ensures some { (app : A) → RoundsHaveActs (A.meaning app) }
+    ensures first { (app : A) → FirstMayAct (A.meaning app) }
+    ensures goes_on { (app : A) → ActsGoOn (A.meaning app) }
+    ensures too_many { (app : A) → TooManyActsNeverEnd (A.meaning app) }
+    ensures rest { (app : A) → ActsComeToRest (A.meaning app) }
 {
     basis::<A>();
 }

@@ -1,6 +1,7 @@
 //! Rounds: all tasks that are clear are performed at once, and then all that are clear then.
 #![tactic(auto)]
 
+mod acting;
 mod claiming;
 mod draining;
 mod finishing;
@@ -11,7 +12,7 @@ mod performing;
 mod round_lists;
 mod rounds;
 
-pub use laws::{draining_laws, drawing_laws, ending_laws, idle_laws, rounds_laws};
+pub use laws::{acting_laws, draining_laws, drawing_laws, ending_laws, idle_laws, rounds_laws};
 pub use rounds::{RunFault, run_rounds};
 
 #[cfg(test)]

@@ -5,6 +5,7 @@ ghost use Rattle.std.specs.Prelude.{◌≡◌, []};
 use crate::hands::Hand;
 use cell_store::Held;
 use graph_update::{Done, Job};
+use kdg_graph::NodeId;
 use std::alloc::Global;
 use std::collections::VecDeque;
 
@@ -17,6 +18,8 @@ pub(crate) struct RoundLists<V: Held> {
     pub(crate) dones: Vec<Option<Done<V>>>,
     /// The places of all that is performed, in the order of the keys.
     pub(crate) turns: Vec<usize>,
+    /// The ids of the clear nodes, in key order, where their tasks act one after the other.
+    pub(crate) ids: Vec<NodeId>,
     /// What each worker has in hand, where the round is performed by threads.
     pub(crate) hands: Vec<Hand<Job<V>, Done<V>>>,
     /// The most cells that the jobs of a round had in all so far, a hint for the next round. Before the
@@ -33,6 +36,7 @@ impl<V: Held> RoundLists<V> {
             jobs: VecDeque::new(alloc),
             dones: Vec::new(alloc),
             turns: Vec::new(alloc),
+            ids: Vec::new(alloc),
             hands: Vec::new(alloc),
             most_cells: None,
         }

@@ -5,15 +5,16 @@ ghost use Rattle.graph_update.specs.Progress.{Progress};
 ghost use Rattle.source_pool.specs.Course.{IsAtRest, NothingRuns, RunPoint};
 ghost use Rattle.source_pool.specs.Runs.{IsRoundsEnd, IsRunFault, state_at_rest};
 
+use crate::acting::act_round;
 use crate::claiming::Picks;
 use crate::draining::drain;
 use crate::finishing::end_all;
 use crate::laws::{drawing_laws, idle_laws, rounds_laws};
-use crate::performing::perform_round;
+use crate::performing::{perform_round, stays_alone};
 use crate::round_lists::RoundLists;
 use app_laws::{App, Finals};
 use cell_store::Held;
-use graph_update::{Engine, FinishFault};
+use graph_update::{Engine, FinishFault, OverCause};
 use kdg_text::{NoRoom, Steps, Text};
 use outer_edge::Gate;
 use std::alloc::Global;
@@ -46,6 +47,20 @@ impl From<NoRoom> for RunFault {
     }
 }
 
+impl From<OverCause> for RunFault {
+    ghost use Rattle.std.specs.Prelude.{◌≡◌};
+    ghost use Rattle.source_pool.specs.Faults.{fault_by};
+
+    ghost from_gives = { λ cause fault. fault ≡ fault_by cause };
+
+    fn from(cause: OverCause) -> RunFault {
+        match cause {
+            OverCause::Budget { created, limit } => RunFault::Budget { created, limit },
+            OverCause::NoRoom => RunFault::NoRoom,
+        }
+    }
+}
+
 impl<V: Held> From<FinishFault<V>> for RunFault {
     ghost use Rattle.std.specs.Prelude.{◌≡◌};
     ghost use Rattle.source_pool.specs.Faults.{fault_of};
@@ -65,7 +80,9 @@ impl<V: Held> From<FinishFault<V>> for RunFault {
 /// while others of its round are still to be claimed. Only rounds with a task are counted.
 ///
 /// Worker 0 claims, and the gate chooses for it at each turn, counted from 0; job number `i` of a
-/// round is worker `i mod workers`'s. What was handed in is dropped after a fault.
+/// round is worker `i mod workers`'s. But where the gate is open, a round in which no thread is likely
+/// to start asks for no choice: its tasks are claimed, performed and ended one after the other, in the
+/// order of their keys. What was handed in is dropped after a fault.
 pub fn run_rounds<'a, R: Threads + Sync, A: App + Sync, G: Gate + Sync>(
     rt: &R,
     alloc: Global,
@@ -135,8 +152,9 @@ fn counted_rounds<'a, R: Threads + Sync, A: App + Sync, G: Gate + Sync, L: Ledge
 }
 
 /// Plays one round of an execution in which nothing runs: draws the jobs of all clear tasks, has
-/// them performed, and ends them in the order of their keys. Then the texts that no pending task is
-/// before leave the log for the text of the run. Whatever is in the lists is dropped.
+/// them performed, and ends them in the order of their keys. Where no thread is likely to start and
+/// the gate is open, they act one after the other, which comes to the same. Then the texts that no
+/// pending task is before leave the log for the text of the run. Whatever is in the lists is dropped.
 fn play_round<R: Threads + Sync, A: App + Sync, G: Gate + Sync, L: Ledger>(
     rt: &R,
     engine: &mut Engine<'_, A>,
@@ -156,8 +174,12 @@ fn play_round<R: Threads + Sync, A: App + Sync, G: Gate + Sync, L: Ledger>(
     ensures ended { OnOk result (engine.old.progress.ended < engine.new.progress.ended) }
     ensures fault { IfErr result (IsRunFault (A.meaning engine.old.app) from.start) }
 {
-    perform_round(rt, engine, picks, workers, lists)?;
-    end_all(engine, &mut lists.dones, &lists.turns, steps)?;
+    if picks.gate().is_open() && stays_alone(workers, lists.most_cells) {
+        act_round(engine, lists, steps)?;
+    } else {
+        perform_round(rt, engine, picks, workers, lists)?;
+        end_all(engine, &mut lists.dones, &lists.turns, steps)?;
+    }
     drain(engine, text)?;
     Ok(())
 }

@@ -16,7 +16,7 @@ use std::marker::Brand;
 use std::sync::ledger::{Blank, Ledger};
 use std::test::Fail;
 use std::thread::Threads;
-use task_order::{Body, Start, StartList};
+use task_order::{Body, Key, Start, StartList};
 
 /// A meeting of two hosts, where further ones may follow.
 fn meeting(prio: u64, kind: u8, at: u32, arg: u64) -> Start
@@ -168,8 +168,19 @@ fn ten_in_rounds<R: Threads + Sync, G: Gate + Sync>(
     run_rounds(rt, alloc, engine, gate, seed, workers)
 }
 
+/// The program's choices at a gate that isn't open, so that each of them counts.
+struct Watched;
+
+impl Gate for Watched {
+    fn choose(&self, seed: u64, worker: u32, turn: u64) -> u64 {
+        Seeded.choose(seed, worker, turn)
+    }
+
+    fn pass(&self, _worker: u32, _key: &Key) {}
+}
+
 /// Whoever the workers are and whatever they choose, the same is left as by one meeting after the
-/// other, after the same number of rounds.
+/// other, after the same number of rounds, at a gate that is open and at one that isn't.
 #[test]
 fn rounds_leave_what_meetings_in_turn_do(rt: HostRuntime) -> Result<(), Fail> {
     let alloc = rt.alloc();
@@ -180,12 +191,15 @@ fn rounds_leave_what_meetings_in_turn_do(rt: HostRuntime) -> Result<(), Fail> {
         assert!(rt; 1 <= workers && workers <= 64);
         for seed in 0..4 {
             let (finals, again) = ten_in_rounds(&rt, alloc, &Seeded, seed, workers, 36)?;
-            assert_eq!(rt;
-                outcome_of(alloc, &finals)?,
-                wanted,
-                "with {workers} workers at {seed}"
-            );
-            assert_eq!(rt; again, rounds);
+            let (others, once_more) = ten_in_rounds(&rt, alloc, &Watched, seed, workers, 36)?;
+            for finals in [&finals, &others] {
+                assert_eq!(rt;
+                    outcome_of(alloc, finals)?,
+                    wanted,
+                    "with {workers} workers at {seed}"
+                );
+            }
+            assert_eq!(rt; (again, once_more), (rounds, rounds));
         }
     }
     Ok(())
@@ -218,13 +232,18 @@ fn many_meet_at_once(rt: HostRuntime) -> Result<(), Fail> {
 
 #[test]
 fn a_meeting_too_many_ends_the_run(rt: HostRuntime) {
-    let fault = ten_in_rounds(&rt, rt.alloc(), &Seeded, 1, 3, 35).err();
-    assert!(rt;
-        matches!(
-            fault,
-            Some(RunFault::Budget { created, limit }) if limit == 35 && created > 35
-        )
-    );
+    let faults = [
+        ten_in_rounds(&rt, rt.alloc(), &Seeded, 1, 1, 35).err(),
+        ten_in_rounds(&rt, rt.alloc(), &Watched, 1, 3, 35).err(),
+    ];
+    for fault in faults {
+        assert!(rt;
+            matches!(
+                fault,
+                Some(RunFault::Budget { created, limit }) if limit == 35 && created > 35
+            )
+        );
+    }
 }
 
 /// Of five items, each time the one is taken that has so many before it that are left.

@@ -14,6 +14,7 @@ returns g c = λ app. record {
   drains_keep_sound = c.drain_laws.ensures.sound app;
   suffice = c.clear_laws.ensures.suffice app;
   some_clear = c.clear_laws.ensures.some app;
+  stay_clear = c.stay_clear_laws.ensures.stay app;
   have_ids = c.node_laws.ensures.have_ids;
   have_keys = c.node_laws.ensures.have_keys;
   keys_find = c.node_laws.ensures.keys_find;

@@ -1,14 +1,52 @@
 use mir.Syntax.{of_param}
-use Rattle.std.proofs.Common.{◌≡◌, ◌<◌, List, length, sym, ap, subst, arith}
+use Rattle.std.proofs.Common.{◌≡◌, ◌<◌, ℕ, List, length, sym, ap, subst, arith}
 use Rattle.std.proofs.lemmas.Result.{err_from_is_err_and}
 use Rattle.cell_store.specs.Values.{values_of}
 use Rattle.commuting.specs.Rounds.{after_round}
 use Rattle.graph_update.specs.declared.job.Done.{Done}
-use Rattle.graph_update.specs.Progress.{Progress}
+use Rattle.graph_update.specs.Progress.{EngineState, Progress}
 use Rattle.source_pool.specs.Course.{IsAtRest, IsEnding}
 use Rattle.source_pool.specs.Runs.{IsRunFault}
 use Rattle.source_pool.specs.Turns.{taken_in_turn}
 use Rattle.source_pool.proofs.rounds.play_round.Goals as goal
+use Rattle.source_pool.proofs.rounds.play_round.Goals.{then-is_open+then-stays_alone+in_ok-act_round, else-is_open+in_ok-perform_round+in_ok-end_all}
+
+pub act_round-requires-send-A-Val : goal.act_round-requires-send-A-Val
+act_round-requires-send-A-Val g c κs within =
+    let asked = c.requires.1.1.1.1.1 in
+    let sent = asked.0 in (
+      within.0,
+      (
+        within.1.0,
+        (
+          within.1.1,
+          (
+            record { owned = sent.owned; leaving = λ k. sent.leaving (λ _. k (of_param 2)) },
+            (asked.1.1.1.1.1.0, asked.1.1.1.1.1.1.1),
+          ),
+        ),
+      ),
+    )
+
+pub perform_round-requires : goal.perform_round-requires
+perform_round-requires g c κs within =
+    let asked = c.requires.1.1.1.1.1 in
+    let sent = asked.0 in (
+      within.0,
+      (
+        within.1.0,
+        (
+          within.1.1.0,
+          (
+            within.1.1.1,
+            (
+              record { owned = sent.owned; leaving = λ k. sent.leaving (λ _. k (of_param 3)) },
+              (asked.1.0, (asked.1.1.0, (asked.1.1.1.0, (asked.1.1.1.1.0, (asked.1.1.1.1.1.0, asked.1.1.1.1.1.1.1))))),
+            ),
+          ),
+        ),
+      ),
+    )
 
 pub end_all-requires-send-A-Val : goal.end_all-requires-send-A-Val
 end_all-requires-send-A-Val g c κs within =
@@ -34,27 +72,45 @@ end_all-requires-send-A-Val g c κs within =
 pub drain-requires-send-A-Val : goal.drain-requires-send-A-Val
 drain-requires-send-A-Val g c κs within =
     let start = g.from.start in
-    let now = c.end_all.new.engine.progress in
     let text = c.requires.1.1.1.1.1.1.1.1.1.1.1.0 in
-    let rest = subst (λ (app : g.row.A.Denot). IsAtRest (g.A.App.meaning app) start (values_of start.cells) (after_round (g.A.App.meaning app) g.from.state) g.from.text now) (sym c.end_all.ensures.app) c.in_ok-end_all.ensures.rest in
+    let Rests = λ (app : g.row.A.Denot) (now : Progress g.row.A-Val.Denot) (text : List ℕ). IsAtRest (g.A.App.meaning app) start (values_of start.cells) (after_round (g.A.App.meaning app) g.from.state) text now in
+    let rest : Rests c.if-is_open.engine.app c.if-is_open.engine.progress g.from.text = elim c.if-is_open.branch [
+      | then-is_open+then-stays_alone+in_ok-act_round w ↦
+          subst (λ (e : EngineState g.row.A.Denot g.row.A-Val.Denot). Rests e.app e.progress g.from.text) (sym w.engine-is)
+          (subst (λ (app : g.row.A.Denot). Rests app w.act_round.new.engine.progress g.from.text) (sym w.act_round.ensures.app) w.in_ok-act_round.ensures.rest)
+      | else-is_open+in_ok-perform_round+in_ok-end_all w ↦
+          subst (λ (e : EngineState g.row.A.Denot g.row.A-Val.Denot). Rests e.app e.progress g.from.text) (sym w.engine-is)
+          (subst (λ (app : g.row.A.Denot). Rests app w.end_all.new.engine.progress g.from.text) (sym w.end_all.ensures.app) w.in_ok-end_all.ensures.rest)
+    ] in
     let sent = c.requires.1.1.1.1.1.0 in (
       within.0,
       (
         within.1,
         (
           record { owned = sent.owned; leaving = λ k. sent.leaving (λ _. k (of_param 1)) },
-          subst (λ text. IsAtRest (g.A.App.meaning c.end_all.new.engine.app) start (values_of start.cells) (after_round (g.A.App.meaning c.end_all.new.engine.app) g.from.state) text now) (sym text) rest,
+          subst (Rests c.if-is_open.engine.app c.if-is_open.engine.progress) (sym text) rest,
         ),
       ),
     )
 
 pub returns-clause-ended : goal.returns-clause-ended
 returns-clause-ended g c =
-    let taken : List (Done g.row.A-Val.Denot) = taken_in_turn c.perform_round.new.lists.dones.items c.perform_round.new.lists.turns.items in
-    let same : taken ≡ taken_in_turn c.deref_mut.result.now c.deref.result.now = (λ i. taken_in_turn (sym c.deref_mut.ensures.value i) (sym c.deref.ensures.value i)) in
-    let some : 0 < length (taken_in_turn c.deref_mut.result.now c.deref.result.now) = subst (λ (l : List (Done g.row.A-Val.Denot)). 0 < length l) same c.in_ok-perform_round.ensures.some in
     let drained = ap (λ (p : Progress g.row.A-Val.Denot). p.ended) c.in_ok-drain.ensures.drained in
-    omega (arith, c.in_ok-perform_round.ensures.ended, c.in_ok-end_all.ensures.ended, drained, some)
+    elim c.if-is_open.branch [
+      | then-is_open+then-stays_alone+in_ok-act_round w ↦ omega (arith, ap (λ (e : EngineState g.row.A.Denot g.row.A-Val.Denot). e.progress.ended) w.engine-is, w.in_ok-act_round.ensures.ended, drained)
+      | else-is_open+in_ok-perform_round+in_ok-end_all w ↦
+          let taken : List (Done g.row.A-Val.Denot) = taken_in_turn w.perform_round.new.lists.dones.items w.perform_round.new.lists.turns.items in
+          let same : taken ≡ taken_in_turn w.deref_mut.result.now w.deref.result.now = (λ i. taken_in_turn (sym w.deref_mut.ensures.value i) (sym w.deref.ensures.value i)) in
+          let some : 0 < length (taken_in_turn w.deref_mut.result.now w.deref.result.now) = subst (λ (l : List (Done g.row.A-Val.Denot)). 0 < length l) same w.in_ok-perform_round.ensures.some in
+          omega (
+            arith,
+            ap (λ (e : EngineState g.row.A.Denot g.row.A-Val.Denot). e.progress.ended) w.engine-is,
+            w.in_ok-perform_round.ensures.ended,
+            w.in_ok-end_all.ensures.ended,
+            drained,
+            some,
+          )
+    ]
 
 pub returns-in_err-end_all-clause-fault : goal.returns-in_err-end_all-clause-fault
 returns-in_err-end_all-clause-fault g c =

@@ -1,6 +1,9 @@
 use Rattle.commuting.specs.Rounds.{after_round}
 use Rattle.source_pool.proofs.rounds.play_round.Given as goal
 
+abbrev pub ghost-act_round : goal.ghost-act_round
+ghost-act_round g a = g.from
+
 abbrev pub ghost-perform_round : goal.ghost-perform_round
 ghost-perform_round g a = g.from
 

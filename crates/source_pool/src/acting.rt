@@ -1,0 +1,69 @@
+//! How the clear tasks of a round act one after the other.
+
+ghost use Rattle.std.specs.Prelude.{◌≡◌, ◌≢◌, ◌+◌, ◌<◌, [], length, IfErr, OnOk};
+ghost use Rattle.cell_store.specs.Values.{values_of};
+ghost use Rattle.commuting.specs.Rounds.{after_round};
+ghost use Rattle.kdg_graph.specs.Nodes.{HasNode};
+ghost use Rattle.source_pool.specs.Course.{IsActing, IsAtRest, RunPoint};
+ghost use Rattle.source_pool.specs.Runs.{IsRunFault};
+
+use crate::RunFault;
+use crate::laws::acting_laws;
+use crate::round_lists::RoundLists;
+use app_laws::App;
+use graph_update::Engine;
+use kdg_graph::{Graph, NodeId};
+use kdg_text::Steps;
+use std::sync::ledger::Ledger;
+
+/// Has all clear tasks act, one after the other in the order of their keys. What was in the list of
+/// ids is dropped.
+pub(crate) fn act_round<A: App, L: Ledger>(
+    engine: &mut Engine<'_, A>,
+    lists: &mut RoundLists<A::Val>,
+    steps: &mut Steps<L>,
+) -> Result<(), RunFault>
+    ghost from: { RunPoint A.Val }
+    requires rest { IsAtRest (A.meaning engine.old.app) from.start (values_of from.start.cells) from.state from.text engine.old.progress }
+    requires some { engine.old.progress.nodes ≢ [] }
+    ensures app { engine.new.app ≡ engine.old.app }
+    ensures rest { OnOk result (IsAtRest (A.meaning engine.old.app) from.start (values_of from.start.cells) (after_round (A.meaning engine.old.app) from.state) from.text engine.new.progress) }
+    ensures ended { OnOk result (engine.old.progress.ended < engine.new.progress.ended) }
+    ensures fault { IfErr result (IsRunFault (A.meaning engine.old.app) from.start) }
+{
+    acting_laws::<A>();
+    engine.find_clear(&mut lists.ids)?;
+    let cells = act_in_turn(engine, &lists.ids, steps)?;
+    lists.most_cells = lists.most_cells.max(Some(cells));
+    Ok(())
+}
+
+/// Has the tasks of these nodes act in turn. The answer is a hint for later rounds: how many cells they
+/// had in all, at most the greatest number.
+fn act_in_turn<A: App, L: Ledger>(
+    engine: &mut Engine<'_, A>,
+    ids: &[NodeId],
+    steps: &mut Steps<L>,
+) -> Result<usize, RunFault>
+    ghost to: { RunPoint A.Val }
+    requires acting { IsActing (A.meaning engine.old.app) to.start (values_of to.start.cells) to.state to.text engine.old.progress ids.now }
+    ensures app { engine.new.app ≡ engine.old.app }
+    ensures rest { OnOk result (IsAtRest (A.meaning engine.old.app) to.start (values_of to.start.cells) to.state to.text engine.new.progress) }
+    ensures ended { OnOk result (engine.new.progress.ended ≡ engine.old.progress.ended + length ids.now) }
+    ensures fault { IfErr result (IsRunFault (A.meaning engine.old.app) to.start) }
+{
+    acting_laws::<A>();
+    let mut cells = 0usize;
+    for id in ids {
+        cells = cells.saturating_add(cells_of(engine.graph(), *id));
+        engine.act(*id, steps)?;
+    }
+    Ok(cells)
+}
+
+/// How many cells a node's task has.
+fn cells_of(graph: &Graph, id: NodeId) -> usize
+    requires { HasNode graph.now id }
+{
+    graph.set(id).items().len()
+}
