@@ -59,6 +59,12 @@ pub trait App {
     fn sets_are_fixed(&self) -> bool
         ensures { result ≡ (meaning self.now).sets_are_fixed };
 
+    /// Whether a task has so little to do that it is performed sooner than it is handed to another
+    /// thread. No contract rests on it.
+    fn tasks_are_light(&self) -> bool {
+        false
+    }
+
     /// Whether a task may run although those of the pending tasks that are earlier haven't run yet:
     /// what they and their children may still do must not touch it.
     fn safe<P: PendingTasks>(&self, task: &Task, pending: &P) -> bool

@@ -187,6 +187,10 @@ impl App for Mesh {
         true
     }
 
+    fn tasks_are_light(&self) -> bool {
+        true
+    }
+
     fn safe<P: PendingTasks>(&self, _task: &Task, _pending: &P) -> bool {
         true
     }

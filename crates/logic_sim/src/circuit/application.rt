@@ -47,6 +47,10 @@ impl App for Circuit {
         true
     }
 
+    fn tasks_are_light(&self) -> bool {
+        true
+    }
+
     fn safe<P: PendingTasks>(&self, task: &Task, pending: &P) -> bool {
         match pending.earliest() {
             Some(first) => first.key.prio >= task.key.prio,
