@@ -75,7 +75,7 @@ fn perform_each<R: Threads + Sync, A: App + Sync, G: Gate + Sync>(
     ensures none_clear { OnOk result (clear_nodes (A.meaning engine.old.app) engine.new.progress.nodes ≡ []) }
     ensures ended { OnOk result (engine.new.progress.ended ≡ engine.old.progress.ended) }
 {
-    if stays_alone(workers, lists.most_cells) {
+    if stays_alone(workers, lists.are_light, lists.most_cells) {
         let cells = perform_as_drawn(engine, picks, workers, &mut lists.dones)?;
         lists.most_cells = lists.most_cells.max(Some(cells));
         Ok(())
@@ -85,9 +85,9 @@ fn perform_each<R: Threads + Sync, A: App + Sync, G: Gate + Sync>(
     }
 }
 
-/// Whether no thread is likely to start in a round, by the most cells that a round had so far.
-pub(crate) fn stays_alone(workers: u32, most_cells: Option<usize>) -> bool {
-    workers == 1 || matches!(most_cells, Some(most) if most < MANY_CELLS)
+/// Whether no thread is to start in a round, or is likely to, by the most cells that a round had so far.
+pub(crate) fn stays_alone(workers: u32, are_light: bool, most_cells: Option<usize>) -> bool {
+    workers == 1 || are_light || matches!(most_cells, Some(most) if most < MANY_CELLS)
 }
 
 /// Claims until a claim gives no job, and performs each job before the next claim, as the workers in

@@ -25,11 +25,13 @@ pub(crate) struct RoundLists<V: Held> {
     /// The most cells that the jobs of a round had in all so far, a hint for the next round. Before the
     /// first one it isn't known.
     pub(crate) most_cells: Option<usize>,
+    /// Whether tasks are too light for threads.
+    pub(crate) are_light: bool,
 }
 
 impl<V: Held> RoundLists<V> {
-    /// Lists without room.
-    pub(crate) fn new(alloc: Global) -> RoundLists<V>
+    /// Lists without room, for tasks that may be too light for threads.
+    pub(crate) fn new(alloc: Global, are_light: bool) -> RoundLists<V>
         ensures { result.jobs.items ≡ [] }
     {
         RoundLists {
@@ -39,6 +41,7 @@ impl<V: Held> RoundLists<V> {
             ids: Vec::new(alloc),
             hands: Vec::new(alloc),
             most_cells: None,
+            are_light,
         }
     }
 }

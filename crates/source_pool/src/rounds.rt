@@ -130,7 +130,7 @@ fn counted_rounds<'a, R: Threads + Sync, A: App + Sync, G: Gate + Sync, L: Ledge
     rounds_laws::<A>();
     let mut steps = Steps::<L>::new(blank);
     let mut picks = Picks::new(alloc, gate, seed);
-    let mut lists = RoundLists::new(alloc);
+    let mut lists = RoundLists::new(alloc, engine.app().tasks_are_light());
     let mut text = Text::new(alloc);
     let mut rounds = 0u64;
     while engine.graph().least().is_some() {
@@ -174,7 +174,7 @@ fn play_round<R: Threads + Sync, A: App + Sync, G: Gate + Sync, L: Ledger>(
     ensures ended { OnOk result (engine.old.progress.ended < engine.new.progress.ended) }
     ensures fault { IfErr result (IsRunFault (A.meaning engine.old.app) from.start) }
 {
-    if picks.gate().is_open() && stays_alone(workers, lists.most_cells) {
+    if picks.gate().is_open() && stays_alone(workers, lists.are_light, lists.most_cells) {
         act_round(engine, lists, steps)?;
     } else {
         perform_round(rt, engine, picks, workers, lists)?;
