@@ -37,10 +37,15 @@ pub(crate) struct Location {
     writers: Lane,
     /// Whether those that write stand in their own list.
     apart: bool,
+    /// The list of all has room for at least so many more ids.
+    spare: usize,
+    /// The other list has room for at least so many more behind all that write, in whichever list these
+    /// stand.
+    spare_writers: usize,
 }
 
 impl Model for Location {
-    ghost use Rattle.std.specs.Prelude.{◌≡◌, [], false};
+    ghost use Rattle.std.specs.Prelude.{◌≡◌, ◌+◌, ◌≤◌, [], false, length};
     ghost use Rattle.kdg_graph.specs.Locations as filed;
     ghost use Rattle.kdg_graph.specs.Locations.{room_for_both, writers_in};
 
@@ -52,7 +57,7 @@ impl Model for Location {
       room = room_for_both l.named.ids.capacity l.named.ids.items l.writers.ids.capacity (writers_in l.apart l.named.ids.items l.writers.ids.items);
     } };
 
-    ghost invariant = { λ l. l.apart ≡ false → l.writers.ids.items ≡ [] };
+    ghost invariant = { λ l. (l.apart ≡ false → l.writers.ids.items ≡ []) × (length l.named.ids.items + l.spare ≤ l.named.ids.capacity) × (length (writers_in l.apart l.named.ids.items l.writers.ids.items) + l.spare_writers ≤ l.writers.ids.capacity) };
 }
 
 impl Location {
@@ -65,6 +70,8 @@ impl Location {
             named: Lane::new(alloc),
             writers: Lane::new(alloc),
             apart: false,
+            spare: 0,
+            spare_writers: 0,
         }
     }
 
@@ -88,12 +95,30 @@ impl Location {
         ensures named { ids_for Write self.new ≡ ids_for Write self.old }
         ensures writers { ids_for Read self.new ≡ ids_for Read self.old }
     {
+        if additional <= self.spare && additional <= self.spare_writers {
+            return Ok(());
+        }
+        self.reserve_lists(additional)
+    }
+
+    /// Makes room for so many more nodes, where the counters may not tell that there is.
+    #[inline(never)]
+    fn reserve_lists(&mut self, additional: usize) -> Result<(), NoRoom>
+        ensures room { OnOk result (additional ≤ room_in self.new) }
+        ensures no_less { room_in self.old ≤ room_in self.new }
+        ensures named { ids_for Write self.new ≡ ids_for Write self.old }
+        ensures writers { ids_for Read self.new ≡ ids_for Read self.old }
+    {
         self.named.reserve(additional)?;
         if self.apart {
-            return self.writers.reserve(additional);
+            self.writers.reserve(additional)?;
+        } else {
+            let all = self.named.len().checked_add(additional).ok_or(NoRoom)?;
+            self.writers.reserve(all)?;
         }
-        let all = self.named.len().checked_add(additional).ok_or(NoRoom)?;
-        self.writers.reserve(all)
+        self.spare = additional;
+        self.spare_writers = additional;
+        Ok(())
     }
 
     /// Files a node, where `reserve` made room, and tells what it has before and behind it here. It takes
@@ -120,6 +145,10 @@ impl Location {
         };
         let blocked = earlier > 0 && access.is_write();
         let blocks_none = earlier == others || stoppers > 0;
+        self.spare = self.spare.saturating_sub(1);
+        if access.is_write() {
+            self.spare_writers = self.spare_writers.saturating_sub(1);
+        }
         Neighbours {
             first: earlier == 0,
             blocked,
@@ -135,9 +164,18 @@ impl Location {
         ensures lanes { (other : Access) (some : List Node) → IsLaneAmong nodes.now.nodes some (ids_for other self.old) → ids_for other self.new ≡ ids_of (without_if (excludes other access) id some) }
         ensures no_less { room_in self.old ≤ room_in self.new }
     {
+        let all = self.named.len();
         nodes.take_from(&mut self.named, id);
-        if self.apart && access.is_write() {
+        let fewer = all - self.named.len();
+        self.spare = self.spare.saturating_add(fewer);
+        if !self.apart {
+            self.spare_writers = self.spare_writers.saturating_add(fewer);
+        } else if access.is_write() {
+            let writing = self.writers.len();
             nodes.take_from(&mut self.writers, id);
+            self.spare_writers = self
+                .spare_writers
+                .saturating_add(writing - self.writers.len());
         }
     }
 }

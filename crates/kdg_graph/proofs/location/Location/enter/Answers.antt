@@ -12,7 +12,7 @@ use Rattle.kdg_graph.specs.Node.{Node}
 use Rattle.kdg_graph.specs.Nodes.{node_at}
 use Rattle.kdg_graph.proofs.Arriving.{blocked_if, first_if, last_if, stopped_if}
 use Rattle.kdg_graph.proofs.location.Location.enter.Goals as goal
-use Rattle.kdg_graph.proofs.location.Location.enter.Goals.{Joined-earlier-others, then-not-self+then-not-is_write, else-not-self, then-self+then-is_write, else-self, else-self-via-then-self+else-is_write, else-self-via-else-self, then-earlier-gt0, else-earlier-gt0, then-earlier-others, else-earlier-others}
+use Rattle.kdg_graph.proofs.location.Location.enter.Goals.{Joined-is_write-2, then-not-self+then-not-is_write, else-not-self, then-self+then-is_write, else-self, else-self-via-then-self+else-is_write, else-self-via-else-self, then-earlier-gt0, else-earlier-gt0, then-earlier-others, else-earlier-others}
 
 write_by_test : (access : Access) → is_write access ≡ true → access ≡ Write
 write_by_test Read is = absurd (true≢false (sym is))
@@ -23,7 +23,7 @@ read_by_test Read is = refl
 read_by_test Write is = absurd (true≢false is)
 
 -- those that write may get a list of their own, which changes nothing of all
-same_named : (c : Joined-earlier-others) → c.args.self.now.named ≡ c.if-not-self.self-inside.named.ids.items
+same_named : (c : Joined-is_write-2) → c.args.self.now.named ≡ c.if-not-self.self-inside.named.ids.items
 same_named c =
     let named = ap (λ (l : Location). l.named) (sym c.self.view_is) in
     elim c.if-not-self.branch [
@@ -31,11 +31,11 @@ same_named c =
       | else-not-self w ↦ named ∙ ap (λ l. l.named.ids.items) (sym w.self-inside-is)
     ]
 
-named_ranked : (c : Joined-earlier-others) (some : List Node) → IsLaneAmong c.args.nodes.now.nodes some (ids_for Write c.args.self.now) → IfSome (node_at c.args.nodes.now.nodes c.args.id) (λ node. IsRank node.task.key some c.put_into-earlier.result)
+named_ranked : (c : Joined-is_write-2) (some : List Node) → IsLaneAmong c.args.nodes.now.nodes some (ids_for Write c.args.self.now) → IfSome (node_at c.args.nodes.now.nodes c.args.id) (λ node. IsRank node.task.key some c.put_into-earlier.result)
 named_ranked c some among = c.put_into-earlier.ensures.place some (subst (IsLaneAmong c.args.nodes.now.nodes some) (same_named c) among)
 
 -- those that write stand in a list of their own, or in that of all
-own_writers : (c : Joined-earlier-others) → c.if-not-self.self-inside.apart ≡ true → is_write c.args.access ≡ true → c.args.self.now.writers ≡ c.if-not-self.self-inside.writers.ids.items
+own_writers : (c : Joined-is_write-2) → c.if-not-self.self-inside.apart ≡ true → is_write c.args.access ≡ true → c.args.self.now.writers ≡ c.if-not-self.self-inside.writers.ids.items
 own_writers c apart writes =
     elim c.if-not-self.branch [
       | then-not-self+then-not-is_write w ↦ absurd (true≢false (sym writes ∙ sym w.is_write.ensures ∙ w.if-not-is_write.true))
@@ -44,7 +44,7 @@ own_writers c apart writes =
           ∙ ap (λ b. writers_in b c.if-not-self.self-inside.named.ids.items c.if-not-self.self-inside.writers.ids.items) apart
     ]
 
-all_write : (c : Joined-earlier-others) → c.if-not-self.self-inside.apart ≡ false → c.args.self.now.writers ≡ c.if-not-self.self-inside.named.ids.items
+all_write : (c : Joined-is_write-2) → c.if-not-self.self-inside.apart ≡ false → c.args.self.now.writers ≡ c.if-not-self.self-inside.named.ids.items
 all_write c apart =
     elim c.if-not-self.branch [
       | then-not-self+then-not-is_write w ↦ absurd (true≢false (sym (ap (λ l. l.apart) w.self-inside-is) ∙ apart))
@@ -58,7 +58,7 @@ either_ranked found Read some writers place all writing = all
 either_ranked found Write some writers place all writing = writing
 
 -- the place among those that stop all that the access may block
-stoppers_ranked : (c : Joined-earlier-others) (some writers : List Node) → IsLaneAmong c.args.nodes.now.nodes some (ids_for Write c.args.self.now) → IsLaneAmong c.args.nodes.now.nodes writers (ids_for Read c.args.self.now)
+stoppers_ranked : (c : Joined-is_write-2) (some writers : List Node) → IsLaneAmong c.args.nodes.now.nodes some (ids_for Write c.args.self.now) → IsLaneAmong c.args.nodes.now.nodes writers (ids_for Read c.args.self.now)
     → IfSome (node_at c.args.nodes.now.nodes c.args.id) (λ node. IsRank node.task.key (stoppers c.args.access some writers) c.if-self.stoppers)
 stoppers_ranked c some writers among writing =
     let nodes : List Node = c.args.nodes.now.nodes in
@@ -80,7 +80,7 @@ stoppers_ranked c some writers among writing =
           ])
     ]
 
-blocked_by_write : (c : Joined-earlier-others) → c.if-earlier-gt0.blocked ≡ true → (0 < c.put_into-earlier.result) × (c.args.access ≡ Write)
+blocked_by_write : (c : Joined-is_write-2) → c.if-earlier-gt0.blocked ≡ true → (0 < c.put_into-earlier.result) × (c.args.access ≡ Write)
 blocked_by_write c is =
     elim c.if-earlier-gt0.branch [
       | then-earlier-gt0 w ↦ (w.if-earlier-gt0.true, write_by_test c.args.access (sym w.is_write-blocked.ensures ∙ sym w.blocked-is ∙ is))
