@@ -60,3 +60,7 @@ keys_have_marks numbers keys marks = by_case (keys - marks == 0) refl
     by_case : (fits : Bool) → (keys - marks == 0) ≡ fits → 0 < cond fits numbers 0 → keys ≤ marks
     by_case true is some = omega (arith, eqb-true (keys - marks) 0 is)
     by_case false is some = absurd (omega (arith, some))
+
+-- where some are taken, the others are left
+pub numbers_left : (taken numbers left keys keys_now marks marks_now : ℕ) → numbers ≤ left + taken → keys_now ≡ keys → marks_now ≡ marks → numbers_with_marks numbers keys marks ≤ numbers_with_marks left keys_now marks_now + taken
+numbers_left taken numbers left keys keys_now marks marks_now less same_keys same_marks = grind (arith, less, same_keys, same_marks)

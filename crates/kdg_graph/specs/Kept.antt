@@ -1,10 +1,11 @@
 -- What is kept beside the nodes of a graph.
-use Rattle.std.specs.Prelude.{◌≡◌, ◌≤◌, List, length, Option, IfSome}
+use Rattle.std.specs.Prelude.{◌≡◌, ◌≤◌, ◌-◌, ℕ, List, length, Option, IfSome}
 use Rattle.std.specs.Borrow.{Bor}
 use Rattle.kdg_graph.specs.Node.{Node}
 use Rattle.kdg_graph.specs.Nodes.{IsGraph, ids_of}
 use Rattle.kdg_graph.specs.declared.lane.Lane.{Lane}
 use Rattle.kdg_graph.specs.Locations.{AreFiled, Location}
+use Rattle.kdg_graph.specs.NodeStock.{NodeShelf, numbers_with_marks, places_in}
 use Rattle.kdg_graph.specs.Selected.{HaveMarks, MarkedIds, unblocked_of}
 
 -- all ids in key order, where a list of them is kept
@@ -21,3 +22,9 @@ pub record IsKept (nodes : List Node) (locations : List Location) (unblocked : M
   pub unblocked_are : unblocked.ids ≡ unblocked_of nodes
   pub room : length nodes ≤ unblocked.room
   pub marks : HaveMarks nodes unblocked.marks
+
+-- for so many more nodes there is a place in the order of all, an id, and a place among the unblocked nodes
+pub record HasSpare (count : ℕ) (nodes : NodeShelf) (order : Option Lane) (unblocked : MarkedIds) : Type 0 where
+  pub places : count ≤ places_in order nodes.numbers
+  pub numbers : count ≤ numbers_with_marks nodes.numbers nodes.keys unblocked.marks
+  pub marks : count ≤ unblocked.room - length nodes.nodes

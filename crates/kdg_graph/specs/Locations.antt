@@ -1,5 +1,5 @@
 -- The nodes of each location, and which of them stand in the way of which.
-use Rattle.std.specs.Prelude.{◌≡◌, ℕ, zero, suc, ◌-◌, ◌≤◌, Bool, false, min, if◌then◌else◌, List, [], ◌∷◌, length, map, Some, Contains}
+use Rattle.std.specs.Prelude.{◌≡◌, ℕ, zero, suc, ◌+◌, ◌-◌, ◌≤◌, Bool, false, min, if◌then◌else◌, List, [], ◌∷◌, length, map, Some, Contains}
 use Rattle.std.specs.List.{AllByRecursion, filter}
 use Rattle.std.specs.Ordering.{is_lt}
 use Rattle.rw_sets.specs.declared.access.Access.{Access}
@@ -8,6 +8,7 @@ use Rattle.rw_sets.specs.Accesses.{Accesses, access_at, clash, writes}
 use Rattle.task_order.specs.declared.key.Key.{Key}
 use Rattle.task_order.specs.Key.{key_cmp}
 use Rattle.task_order.specs.TaskList.{IsAscending}
+use Rattle.kdg_graph.specs.declared.lane.Lane.{Lane}
 use Rattle.kdg_graph.specs.declared.node_id.NodeId.{NodeId}
 use Rattle.kdg_graph.specs.Node.{Node}
 use Rattle.kdg_graph.specs.Nodes.{ids_of, later_than, put_node, tasks_of}
@@ -96,6 +97,12 @@ room_in location = location.room
 -- the room that two lists have, of all ids and of some of them
 abbrev pub room_for_both : ℕ → List NodeId → ℕ → List NodeId → ℕ
 room_for_both capacity ids other_capacity some = min (capacity - length ids) (other_capacity - length some)
+
+-- the list of those that write is empty until it is used; that of all has room for at least so many more ids, and the other one for at least so many more behind all that write
+pub record AreLists (named writers : Lane) (apart : Bool) (spare spare_writers : ℕ) : Type 0 where
+  pub unused : apart ≡ false → writers.ids.items ≡ []
+  pub room : length named.ids.items + spare ≤ named.ids.capacity
+  pub room_behind_writers : length (writers_in apart named.ids.items writers.ids.items) + spare_writers ≤ writers.ids.capacity
 
 abbrev pub rooms_of : List Location → List ℕ
 rooms_of locations = map room_in locations

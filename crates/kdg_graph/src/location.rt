@@ -45,9 +45,8 @@ pub(crate) struct Location {
 }
 
 impl Model for Location {
-    ghost use Rattle.std.specs.Prelude.{◌≡◌, ◌+◌, ◌≤◌, [], false, length};
     ghost use Rattle.kdg_graph.specs.Locations as filed;
-    ghost use Rattle.kdg_graph.specs.Locations.{room_for_both, writers_in};
+    ghost use Rattle.kdg_graph.specs.Locations.{AreLists, room_for_both, writers_in};
 
     ghost Value = { filed.Location };
 
@@ -57,7 +56,7 @@ impl Model for Location {
       room = room_for_both l.named.ids.capacity l.named.ids.items l.writers.ids.capacity (writers_in l.apart l.named.ids.items l.writers.ids.items);
     } };
 
-    ghost invariant = { λ l. (l.apart ≡ false → l.writers.ids.items ≡ []) × (length l.named.ids.items + l.spare ≤ l.named.ids.capacity) × (length (writers_in l.apart l.named.ids.items l.writers.ids.items) + l.spare_writers ≤ l.writers.ids.capacity) };
+    ghost invariant = { λ l. AreLists l.named l.writers l.apart l.spare l.spare_writers };
 }
 
 impl Location {

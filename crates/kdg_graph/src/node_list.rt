@@ -23,6 +23,9 @@ use std::alloc::Global;
 use std::marker::Model;
 use task_order::{Key, Task};
 
+/// For how many nodes room is made at once, so that it is seldom asked for.
+const AHEAD: usize = 64;
+
 /// The nodes of a graph, the order of those of each location, the unblocked ones, and the order of all
 /// where one is wanted.
 #[derive(Drop)]
@@ -31,11 +34,13 @@ pub(crate) struct NodeList {
     order: Option<Lane>,
     locations: Locations,
     sources: SourceLane,
+    /// There is room for at least so many more nodes, but at the locations of their sets.
+    spare: usize,
 }
 
 impl Model for NodeList {
     ghost use Rattle.std.specs.Prelude.{◌-◌, length};
-    ghost use Rattle.kdg_graph.specs.Kept.{IsKept, IsOrder};
+    ghost use Rattle.kdg_graph.specs.Kept.{HasSpare, IsKept, IsOrder};
     ghost use Rattle.kdg_graph.specs.Locations.{rooms_of};
     ghost use Rattle.kdg_graph.specs.NodeStock.{NodeStock, numbers_with_marks, places_in};
 
@@ -49,7 +54,7 @@ impl Model for NodeList {
       rooms = rooms_of l.locations.locations.items;
     } };
 
-    ghost invariant = { λ l. IsKept l.nodes.nodes l.locations.locations.items l.sources × IsOrder l.nodes.nodes l.order };
+    ghost invariant = { λ l. IsKept l.nodes.nodes l.locations.locations.items l.sources × IsOrder l.nodes.nodes l.order × HasSpare l.spare l.nodes l.order l.sources };
 }
 
 impl NodeList {
@@ -77,6 +82,7 @@ impl NodeList {
             order,
             locations: Locations::new(alloc),
             sources: SourceLane::new(alloc),
+            spare: 0,
         }
     }
 
@@ -159,18 +165,51 @@ impl NodeList {
     }
 
     /// Makes room for so many more nodes, but at the locations of their sets.
+    #[inline(always)]
     fn reserve_nodes(&mut self, additional: usize) -> Result<(), NoRoom>
         ensures places { OnOk result (additional ≤ self.new.places) }
         ensures numbers { OnOk result (additional ≤ self.new.numbers) }
         ensures marks { OnOk result (additional ≤ self.new.marks) }
         ensures nodes { self.new.nodes ≡ self.old.nodes }
     {
+        if additional <= self.spare {
+            return Ok(());
+        }
+        self.reserve_ahead(additional)
+    }
+
+    /// Makes room for so many more nodes, where `spare` may not tell that there is: for more than are
+    /// asked for, if memory allows.
+    #[inline(never)]
+    fn reserve_ahead(&mut self, additional: usize) -> Result<(), NoRoom>
+        ensures places { OnOk result (additional ≤ self.new.places) }
+        ensures numbers { OnOk result (additional ≤ self.new.numbers) }
+        ensures marks { OnOk result (additional ≤ self.new.marks) }
+        ensures nodes { self.new.nodes ≡ self.old.nodes }
+    {
+        match self.reserve_lists(additional.max(AHEAD)) {
+            Ok(()) => Ok(()),
+            Err(NoRoom) => self.reserve_lists(additional),
+        }
+    }
+
+    /// Asks all that is kept for room for so many more nodes.
+    fn reserve_lists(&mut self, additional: usize) -> Result<(), NoRoom>
+        ensures places { OnOk result (additional ≤ self.new.places) }
+        ensures numbers { OnOk result (additional ≤ self.new.numbers) }
+        ensures marks { OnOk result (additional ≤ self.new.marks) }
+        ensures nodes { self.new.nodes ≡ self.old.nodes }
+    {
+        // Where one of them has no room, nothing is known of the others.
+        self.spare = 0;
         self.nodes.reserve(additional)?;
         if let Some(order) = &mut self.order {
             order.reserve(additional)?;
         }
         let nodes = self.nodes.len().checked_add(additional).ok_or(NoRoom)?;
-        self.sources.reserve(nodes, self.nodes.keys())
+        self.sources.reserve(nodes, self.nodes.keys())?;
+        self.spare = additional;
+        Ok(())
     }
 
     /// Puts a node at its place, where `reserve` made room. It takes no memory.
@@ -188,6 +227,7 @@ impl NodeList {
         ensures rooms { (loc : ℕ) → room_at self.old.rooms loc ≤ room_at self.new.rooms loc + 1 }
         ensures graph { IsGraph self.new.nodes }
     {
+        self.spare = self.spare.saturating_sub(1);
         let id = self.nodes.put(task, set);
         enter_order(&mut self.order, &self.nodes, id);
         let known = self.locations.enter(&self.nodes, id);

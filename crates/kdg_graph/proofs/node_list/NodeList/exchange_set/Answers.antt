@@ -13,6 +13,7 @@ use Rattle.kdg_graph.specs.Selected.{AreSelected, is_unblocked, refreshed}
 use Rattle.kdg_graph.proofs.Exchanging.{filed_before}
 use Rattle.kdg_graph.proofs.Selecting.{but, found_node}
 use Rattle.kdg_graph.proofs.Ordered.{order_kept, places_kept}
+use Rattle.kdg_graph.proofs.Rooms.{numbers_left}
 use Rattle.kdg_graph.proofs.Settling.{found_changed, ids-changed, length-changed, marks_kept, select_but, select_left, settled_exchanged, without_changed}
 use Rattle.kdg_graph.proofs.node_list.NodeList.exchange_set.Goals as goal
 
@@ -85,7 +86,10 @@ invariant_of-self c =
     let found : Some c.entry-node.result.now ≡ Some changed = sym c.entry-node.ensures ∙ found_changed c.args.id gone.0 c.args.set nodes now c.self.invariant.0.graph c.set_set-before.ensures.graph gone.1 c.set_set-before.ensures.nodes in
     let is_changed : c.entry-node.result.now ≡ changed = cc in
     let had : Some before ≡ Some gone.0.set = sym c.set_set-before.ensures.before ∙ ap (option_map (λ (n : Node). n.set)) gone.1 in
-    let is_before : before ≡ gone.0.set = cc in (
+    let is_before : before ≡ gone.0.set = cc in
+    let spare = c.self.invariant.2 in
+    let long = ap length c.set_set-before.ensures.nodes ∙ length-changed (record { node = c.args.id; set = c.args.set } ∷ []) nodes in
+    let numbers = numbers_left 0 c.self.inside.nodes.numbers c.set_set-before.new.self.numbers _ _ _ _ (omega (arith, c.set_set-before.ensures.numbers)) c.set_set-before.ensures.keys (c.refresh_lacking-2.ensures.marks ∙ c.refresh_lacking.ensures.marks ∙ c.refresh.ensures.marks ∙ c.forget.ensures.marks) in (
       record {
         graph = c.set_set-before.ensures.graph;
         filed = c.exchange.ensures.filed;
@@ -95,6 +99,11 @@ invariant_of-self c =
         marks = c.refresh_lacking-2.ensures.some.marks;
       },
       order_kept nodes now c.self.inside.order (ap ids_of c.set_set-before.ensures.nodes ∙ ids-changed (record { node = c.args.id; set = c.args.set } ∷ []) nodes) c.self.invariant.1,
+      record {
+        places = omega (arith, spare.places, places_kept c.self.inside.order c.self.inside.nodes.numbers c.set_set-before.new.self.numbers c.set_set-before.ensures.numbers);
+        numbers = omega (arith, spare.numbers, numbers);
+        marks = omega (arith, spare.marks, long, c.forget.ensures.room, c.refresh.ensures.room, c.refresh_lacking.ensures.room, c.refresh_lacking-2.ensures.room);
+      },
     )
 
 pub returns-clause-places : goal.returns-clause-places

@@ -13,7 +13,7 @@ use Rattle.kdg_graph.specs.Selected.{AreSelected, HaveMarks, forgotten, is_unblo
 use Rattle.kdg_graph.proofs.LookUps.{ids_find_nodes}
 use Rattle.kdg_graph.proofs.Ordered.{place_left}
 use Rattle.kdg_graph.proofs.Selecting.{at_some, but, length-put}
-use Rattle.kdg_graph.proofs.Rooms.{keys_have_marks}
+use Rattle.kdg_graph.proofs.Rooms.{keys_have_marks, numbers_left}
 use Rattle.kdg_graph.proofs.Settling.{fronts_failing, found_put, marks_put, select_but, settled_put, without_put}
 use Rattle.kdg_graph.proofs.node_list.NodeList.put.Goals as goal
 
@@ -61,7 +61,11 @@ invariant_of-self c =
     λ none. fronts_failing node nodes now c.put-id.ensures.graph (ids_find_nodes now id node found).0 (subst (λ (l : List Node). AllByRecursion (λ other. is_blocked l other ≡ true) (fronts_after node.set node.task.key now)) left (blocked none)) in
     let all : AreSelected now (forgotten (ids_of (fronts_after node.set node.task.key now)) first) c.forget_behind.new.self.ids =
     at_some (λ (n : Node). (c.enter-known.result.blocks_none ≡ true → AllByRecursion (λ other. first other ≡ false) (fronts_after n.set n.task.key now)) → AreSelected now (forgotten (ids_of (fronts_after n.set n.task.key now)) first) c.forget_behind.new.self.ids)
-    (node_at now id) node found (c.forget_behind.ensures.ids first (c.enter.ensures.ids (but id (is_unblocked nodes)) others)) fail in (
+    (node_at now id) node found (c.forget_behind.ensures.ids first (c.enter.ensures.ids (but id (is_unblocked nodes)) others)) fail in
+    let spare = c.self.invariant.2 in
+    let fewer = c.saturating_sub-self-inside.ensures in
+    let long = ap length c.put-id.ensures.nodes ∙ length-put node nodes in
+    let left_numbers = numbers_left 1 c.self.inside.nodes.numbers c.put-id.new.self.numbers _ _ _ _ c.put-id.ensures.numbers c.put-id.ensures.keys (c.forget_behind.ensures.marks ∙ c.enter.ensures.marks) in (
       record {
         graph = c.put-id.ensures.graph;
         filed = c.enter-known.ensures.filed;
@@ -70,6 +74,11 @@ invariant_of-self c =
         marks = c.forget_behind.ensures.some.marks;
       },
       c.enter_order.ensures.order,
+      record {
+        places = omega (arith, spare.places, fewer, c.enter_order.ensures.places c.self.inside.nodes.numbers c.put-id.new.self.numbers c.put-id.ensures.numbers);
+        numbers = omega (arith, spare.numbers, fewer, left_numbers);
+        marks = omega (arith, spare.marks, fewer, long, c.enter.ensures.room, c.forget_behind.ensures.room);
+      },
     )
 
 pub enter_order-requires-clause-others : goal.enter_order-requires-clause-others

@@ -12,6 +12,7 @@ use Rattle.kdg_graph.specs.Rewrite.{without}
 use Rattle.kdg_graph.specs.Selected.{AreSelected, HaveMarks, is_unblocked}
 use Rattle.kdg_graph.proofs.Leaving.{unblocked_leads}
 use Rattle.kdg_graph.proofs.Ordered.{length-without}
+use Rattle.kdg_graph.proofs.Rooms.{numbers_left}
 use Rattle.kdg_graph.proofs.Selecting.{listed_selected}
 use Rattle.kdg_graph.proofs.Settling.{marks_without, select_left, settled_without}
 use Rattle.kdg_graph.proofs.node_list.NodeList.remove.Goals as goal
@@ -49,7 +50,11 @@ invariant_of-self c =
     let is : node_at nodes c.args.id ≡ Some node = c.remove-node.ensures.node ∙ ap (λ (n : Node). Some n) (sym c.node.view_is) in
     let now : c.remove-node.new.self.nodes ≡ without c.args.id nodes = c.remove-node.ensures.nodes in
     let left = select_left nodes (is_unblocked nodes) c.args.id c.forget.new.self.ids (c.forget.ensures.ids (is_unblocked nodes) c.self.invariant.0.unblocked_are) in
-    let others = subst (λ (l : List Node). AreSelected l (is_unblocked nodes) c.forget.new.self.ids) (sym now) left in (
+    let others = subst (λ (l : List Node). AreSelected l (is_unblocked nodes) c.forget.new.self.ids) (sym now) left in
+    let spare = c.self.invariant.2 in
+    let fewer = ap length now in
+    let one = length-without c.args.id nodes c.remove-node.result c.self.invariant.0.graph c.remove-node.ensures.node in
+    let numbers = numbers_left 0 c.self.inside.nodes.numbers c.remove-node.new.self.numbers _ _ _ _ (omega (arith, c.remove-node.ensures.numbers)) c.remove-node.ensures.keys (c.refresh_fronts.ensures.marks ∙ c.forget.ensures.marks) in (
       record {
         graph = c.remove-node.ensures.graph;
         filed = subst (λ (l : List Node). AreFiled l c.leave.new.self.locations.items) (sym now) c.leave.ensures.filed;
@@ -58,6 +63,11 @@ invariant_of-self c =
         marks = c.refresh_fronts.ensures.some.marks;
       },
       subst (λ (l : List Node). IsOrder l c.leave_order.new.order) (sym now) c.leave_order.ensures.order,
+      record {
+        places = omega (arith, spare.places, c.leave_order.ensures.places c.self.inside.nodes.numbers c.remove-node.new.self.numbers c.remove-node.ensures.numbers);
+        numbers = omega (arith, spare.numbers, numbers);
+        marks = omega (arith, spare.marks, fewer, one, c.self.invariant.0.room, c.forget.ensures.room, c.refresh_fronts.ensures.room);
+      },
     )
 
 pub returns-clause-task : goal.returns-clause-task
