@@ -38,10 +38,10 @@ pub(crate) struct Location {
     /// Whether those that write stand in their own list.
     apart: bool,
     /// The list of all has room for at least so many more ids.
-    spare: usize,
+    spare: u32,
     /// The other list has room for at least so many more behind all that write, in whichever list these
     /// stand.
-    spare_writers: usize,
+    spare_writers: u32,
 }
 
 impl Model for Location {
@@ -94,7 +94,7 @@ impl Location {
         ensures named { ids_for Write self.new ≡ ids_for Write self.old }
         ensures writers { ids_for Read self.new ≡ ids_for Read self.old }
     {
-        if additional <= self.spare && additional <= self.spare_writers {
+        if additional <= self.spare as usize && additional <= self.spare_writers as usize {
             return Ok(());
         }
         self.reserve_lists(additional)
@@ -115,8 +115,10 @@ impl Location {
             let all = self.named.len().checked_add(additional).ok_or(NoRoom)?;
             self.writers.reserve(all)?;
         }
-        self.spare = additional;
-        self.spare_writers = additional;
+        if let Ok(counted) = u32::try_from(additional) {
+            self.spare = counted;
+            self.spare_writers = counted;
+        }
         Ok(())
     }
 
@@ -165,16 +167,15 @@ impl Location {
     {
         let all = self.named.len();
         nodes.take_from(&mut self.named, id);
-        let fewer = all - self.named.len();
+        let fewer = u32::from(self.named.len() < all);
         self.spare = self.spare.saturating_add(fewer);
         if !self.apart {
             self.spare_writers = self.spare_writers.saturating_add(fewer);
         } else if access.is_write() {
             let writing = self.writers.len();
             nodes.take_from(&mut self.writers, id);
-            self.spare_writers = self
-                .spare_writers
-                .saturating_add(writing - self.writers.len());
+            let fewer = u32::from(self.writers.len() < writing);
+            self.spare_writers = self.spare_writers.saturating_add(fewer);
         }
     }
 }
