@@ -33,16 +33,17 @@ pub(crate) fn act_round<A: App, L: Ledger>(
 {
     acting_laws::<A>();
     engine.find_clear(&mut lists.ids)?;
-    let cells = act_in_turn(engine, &lists.ids, steps)?;
+    let cells = act_in_turn(engine, &lists.ids, !lists.are_light, steps)?;
     lists.most_cells = lists.most_cells.max(Some(cells));
     Ok(())
 }
 
 /// Has the tasks of these nodes act in turn. The answer is a hint for later rounds: how many cells they
-/// had in all, at most the greatest number.
+/// had in all, at most the greatest number, where that is to be counted.
 fn act_in_turn<A: App, L: Ledger>(
     engine: &mut Engine<'_, A>,
     ids: &[NodeId],
+    counts: bool,
     steps: &mut Steps<L>,
 ) -> Result<usize, RunFault>
     ghost to: { RunPoint A.Val }
@@ -55,7 +56,9 @@ fn act_in_turn<A: App, L: Ledger>(
     acting_laws::<A>();
     let mut cells = 0usize;
     for id in ids {
-        cells = cells.saturating_add(cells_of(engine.graph(), *id));
+        if counts {
+            cells = cells.saturating_add(cells_of(engine.graph(), *id));
+        }
         engine.act(*id, steps)?;
     }
     Ok(cells)
