@@ -23,7 +23,7 @@ pub(crate) struct RoundLists<V: Held> {
     /// What each worker has in hand, where the round is performed by threads.
     pub(crate) hands: Vec<Hand<Job<V>, Done<V>>>,
     /// The most cells that the jobs of a round had in all so far, a hint for the next round. Before the
-    /// first one it isn't known.
+    /// first one it isn't known, and those of light tasks needn't be counted.
     pub(crate) most_cells: Option<usize>,
     /// Whether tasks are too light for threads.
     pub(crate) are_light: bool,
