@@ -259,12 +259,17 @@ fn run_all(rt: &impl Abort, alloc: Global, calls: &[Call]) -> Result<(), Fail> {
     run_on(rt, alloc, Graph::ordered(alloc), calls)
 }
 
-/// Does all this to a graph without nodes, which it checks after each step.
+/// Does all this to a graph without nodes, which it checks after each step, and settles after each
+/// third one.
 fn run_on(rt: &impl Abort, alloc: Global, mut graph: Graph, calls: &[Call]) -> Result<(), Fail> {
     let mut tasks = TaskList::new(alloc);
-    for call in calls {
-        run(rt, &mut graph, alloc, *call)?;
-        follow(rt, &mut tasks, alloc, *call)?;
+    for calls in calls.chunks(3) {
+        for call in calls {
+            run(rt, &mut graph, alloc, *call)?;
+            follow(rt, &mut tasks, alloc, *call)?;
+            check_plain(rt, &graph, &tasks, alloc)?;
+        }
+        graph.settle();
         check_plain(rt, &graph, &tasks, alloc)?;
     }
     Ok(())

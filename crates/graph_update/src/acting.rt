@@ -19,7 +19,17 @@ use std::sync::ledger::Ledger;
 impl<'a, A: App> Engine<'a, A> {
     /// The ids of all clear nodes, in key order. What was in the list is dropped. After `NoRoom` it may
     /// lack some.
-    pub fn find_clear(&self, ids: &mut Vec<NodeId>) -> Result<(), NoRoom>
+    pub fn find_clear(&mut self, ids: &mut Vec<NodeId>) -> Result<(), NoRoom>
+        ensures same { self.new ≡ self.old }
+        ensures ids { OnOk result (ids.new.items ≡ ids_of (clear_nodes (A.meaning self.old.app) self.old.progress.nodes)) }
+    {
+        self.settle();
+        self.list_clear(ids)
+    }
+
+    /// The same, which is quick where the pending tasks are in order.
+    #[inline(always)]
+    fn list_clear(&self, ids: &mut Vec<NodeId>) -> Result<(), NoRoom>
         ensures { OnOk result (ids.new.items ≡ ids_of (clear_nodes (A.meaning self.now.app) self.now.progress.nodes)) }
     {
         node_laws();

@@ -29,6 +29,7 @@ impl<'a, A: App> Engine<'a, A> {
         ensures not_ended { OnErr result (self.old.progress.nodes ≢ []) }
     {
         basis::<A>();
+        self.settle();
         if let Some(cause) = self.over {
             return Ok(Claim::Over(cause));
         }

@@ -152,6 +152,14 @@ impl<'a, A: App> Engine<'a, A> {
         }
     }
 
+    /// Puts the pending tasks in order before they are looked at, which changes nothing that is seen.
+    #[inline(always)]
+    pub(crate) fn settle(&mut self)
+        ensures { self.new ≡ self.old }
+    {
+        self.graph.settle();
+    }
+
     /// Nothing more is to be claimed, for want of memory, unless a mark stands that says why.
     pub fn give_up(&mut self)
         ensures marked { self.new ≡ record self.old { progress = marked (A.meaning self.old.app) self.old.progress cause.NoRoom } }
@@ -170,6 +178,7 @@ impl<'a, A: App> Engine<'a, A> {
         ensures unchanged { OnErr result (self.new ≡ self.old) }
         ensures sound { StaysSound (A.meaning self.old.app) self.old.progress self.new.progress }
     {
+        self.settle();
         drain_laws::<A>();
         match self.graph.least() {
             Some(least) => self.log.take_below(&self.graph.task(least).key),

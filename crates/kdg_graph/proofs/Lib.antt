@@ -15,7 +15,9 @@ pub mod Rooms
 pub mod Fronts
 pub mod Selecting
 pub mod Marking
+pub mod Listing
 pub mod Running
+pub mod Left
 pub mod Settling
 pub mod Filtered
 pub mod Among
@@ -32,3 +34,5 @@ pub mod Searching
 pub mod Sought
 pub mod Arriving
 pub mod Leaving
+pub mod Carried
+pub mod Arrivals

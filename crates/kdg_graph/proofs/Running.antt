@@ -5,15 +5,14 @@ use Rattle.std.specs.List.{AllByRecursion, filter}
 use Rattle.std.specs.Option.{option_map}
 use Rattle.kdg_graph.specs.declared.node_id.NodeId.{NodeId}
 use Rattle.kdg_graph.specs.Node.{Node}
-use Rattle.kdg_graph.specs.Nodes.{HasNode, IsGraph, ids_of, node_at}
+use Rattle.kdg_graph.specs.Nodes.{IsGraph, ids_of, node_at}
 use Rattle.kdg_graph.specs.Edges.{sources_of}
 use Rattle.kdg_graph.specs.Selected.{is_unblocked, not_running, runs, unblocked_of}
 use Rattle.kdg_graph.proofs.Filtered.{filter_twice, filters_commute}
 use Rattle.kdg_graph.proofs.LookUps.{nodes_have_ids}
-use Rattle.kdg_graph.proofs.Members.{all_from, from_filter, from_map}
-use Rattle.kdg_graph.proofs.Neighbours.{found_some}
+use Rattle.kdg_graph.proofs.Members.{all_from, from_filter}
 
-runs_as_found : (nodes : List Node) (id : NodeId) (node : Node) → node_at nodes id ≡ Some node → runs nodes id ≡ node.running
+pub runs_as_found : (nodes : List Node) (id : NodeId) (node : Node) → node_at nodes id ≡ Some node → runs nodes id ≡ node.running
 runs_as_found nodes id node is = ap (λ (found : Option Node). unwrap_or (option_map (λ (n : Node). n.running) found) false) is
 
 -- of the ids of some of the nodes those stay whose nodes are not running
@@ -33,9 +32,3 @@ not_running_unblocked nodes graph =
     let rests : Node → Bool = λ node. not node.running in
     not_running_ids nodes (filter (is_unblocked nodes) nodes) (all_from (λ (node : Node). node_at nodes node.id ≡ Some node) (filter (is_unblocked nodes) nodes) (λ node has. nodes_have_ids nodes node graph (from_filter (is_unblocked nodes) nodes node has).0))
     ∙ ap ids_of (filters_commute rests (is_unblocked nodes) nodes ∙ filter_twice (is_unblocked nodes) rests nodes)
-
--- each unblocked id has a node
-pub unblocked_there : (nodes : List Node) → IsGraph nodes → AllByRecursion (HasNode nodes) (unblocked_of nodes)
-unblocked_there nodes graph = all_from (HasNode nodes) (unblocked_of nodes) (λ id has.
-    let one = from_map (λ (node : Node). node.id) (filter (is_unblocked nodes) nodes) id has in
-    found_some nodes id one.0 graph (from_filter (is_unblocked nodes) nodes one.0 one.1).0 one.2)

@@ -1,7 +1,7 @@
 -- Ids of the nodes that pass a test, where one comes in or goes out.
-use Rattle.std.proofs.Common.{◌≡◌, ◌≢◌, inl, inr, ℕ, suc, ◌+◌, ◌-◌, ◌<◌, ◌≤◌, ◌||◌, ◌&&◌, Bool, true, false, not, cond, List, [], ◌∷◌, ◌++◌, length, take, drop, get_or, append-nil, length-drop, Option, Some, None, refl, sym, ◌∙◌, ap, subst, arith, ◌==◌}
+use Rattle.std.proofs.Common.{◌≡◌, ◌≢◌, inl, inr, ℕ, suc, ◌+◌, ◌-◌, ◌<◌, ◌≤◌, ◌||◌, ◌&&◌, Bool, true, false, not, cond, List, [], ◌∷◌, ◌++◌, length, take, drop, get_or, append-nil, length-drop, Option, Some, None, refl, sym, ◌∙◌, ap, subst, arith}
 use Rattle.std.specs.Prelude.{Contains, IfSome, IsSome}
-use Rattle.std.specs.List.{AllByRecursion, filter, flat_map, list_any}
+use Rattle.std.specs.List.{AllByRecursion, filter, flat_map}
 use Rattle.std.specs.Ordering.{is_lt}
 use Rattle.std.specs.declared.cmp.Ordering.TheVariants.{Less}
 use Rattle.std.proofs.lemmas.List.{get_or-drop, map-append, take_more}
@@ -83,15 +83,6 @@ same_answer nodes id node one other test graph is same =
     ] in
     same_filter (retested one (id ∷ []) test) (retested other (id ∷ []) test) nodes (λ n has. by_case n has (is_at id n) refl)
 
--- nor does the answer that the test gives change anything
-pub known_answer : (nodes : List Node) (id : NodeId) (node : Node) (answer test : Node → Bool) → IsGraph nodes → node_at nodes id ≡ Some node → test node ≡ answer node → filter test nodes ≡ filter (retested answer (id ∷ []) test) nodes
-known_answer nodes id node answer test graph is same =
-    same_filter test (retested test (id ∷ []) test) nodes (λ n _. own_answer (is_among (id ∷ []) n) (test n)) ∙ same_answer nodes id node test answer test graph is same
-  where
-    own_answer : (among answers : Bool) → answers ≡ cond among answers answers
-    own_answer true answers = refl
-    own_answer false answers = refl
-
 pub at_some : (P : Node → Type 0) (found : Option Node) (node : Node) → found ≡ Some node → IfSome found P → P node
 at_some P found node is holds = subst (λ (o : Option Node). IfSome o P) is holds
 
@@ -110,12 +101,6 @@ among_selected nodes test ids node graph has is = same_tests (is_among ids node)
     listed : test node ≡ true → is_among ids node ≡ true
     listed is_in =
         any_from (λ id. is_at id node) ids node.id (subst (λ (l : List NodeId). Contains l node.id) (sym is) (in_map (λ (n : Node). n.id) (filter test nodes) node (in_filter test nodes node has is_in))) (is_at-same node.id node refl)
-
--- the same of the number of its id
-pub listed_selected : (nodes : List Node) (test : Node → Bool) (ids : List NodeId) (id : NodeId) (node : Node) → IsGraph nodes → node_at nodes id ≡ Some node → AreSelected nodes test ids → list_any (λ (other : NodeId). id.at == other.at) ids ≡ test node
-listed_selected nodes test ids id node graph found is =
-    let is_node : Contains nodes node × (node.id ≡ id) = ids_find_nodes nodes id node found in
-    ap (λ (i : NodeId). list_any (λ (other : NodeId). i.at == other.at) ids) (sym is_node.1) ∙ among_selected nodes test ids node graph is_node.0 is
 
 -- the test that fails for the node with the id
 abbrev pub but : NodeId → (Node → Bool) → Node → Bool

@@ -1,5 +1,5 @@
 -- The unblocked nodes after a node came, went or changed, once the nodes in doubt are refreshed.
-use Rattle.std.proofs.Common.{◌≡◌, ◌≢◌, ℕ, suc, ◌<◌, length, ◌||◌, ◌&&◌, Bool, true, false, not, cond, List, [], ◌∷◌, ◌++◌, map, Some, refl, sym, ◌∙◌, ap, subst}
+use Rattle.std.proofs.Common.{◌≡◌, ◌≢◌, ℕ, suc, length, ◌||◌, ◌&&◌, Bool, true, false, not, cond, List, [], ◌∷◌, ◌++◌, map, Some, refl, sym, ◌∙◌, ap, subst}
 use Rattle.std.specs.Prelude.{Contains}
 use Rattle.std.specs.List.{AllByRecursion, filter, flat_map, list_any}
 use Rattle.std.specs.Ordering.{is_lt}
@@ -18,7 +18,7 @@ use Rattle.kdg_graph.specs.Exchange.{is_same, lacking}
 use Rattle.kdg_graph.specs.Fronts.{fronts_after}
 use Rattle.kdg_graph.specs.Locations.{AreFiled, Location, clashes_at, clashing_at, up_to_writer}
 use Rattle.kdg_graph.specs.Rewrite.{with_sets, without}
-use Rattle.kdg_graph.specs.Selected.{AreSelected, HaveMarks, forgotten, is_among, is_unblocked, refreshed, unblocked_of}
+use Rattle.kdg_graph.specs.Selected.{AreSelected, forgotten, is_among, is_unblocked, refreshed, unblocked_of}
 use Rattle.kdg_graph.proofs.Blocking.{any_from, pair_of}
 use Rattle.kdg_graph.proofs.Exchanging.{same_access}
 use Rattle.kdg_graph.proofs.Filtered.{ascending_filtered, filter_twice, filters_commute, put_dropped, put_without, same_filter}
@@ -76,7 +76,7 @@ fronts_put set new nodes =
 
 -- ---- after a node came
 
-neither : (a b : Bool) → (a || b) ≡ false → (a ≡ false) × (b ≡ false)
+pub neither : (a b : Bool) → (a || b) ≡ false → (a ≡ false) × (b ≡ false)
 neither true b is = (is, elim b as (λ c. c ≡ false) [ true ↦ is | false ↦ refl ])
 neither false b is = (refl, is)
 
@@ -280,26 +280,6 @@ filed_started id nodes locations filed loc access = filed loc access ∙ sym (cl
 pub length-started : (id : NodeId) (nodes : List Node) → length (started id nodes) ≡ length nodes
 length-started id [] = refl
 length-started id (node ∷ nodes) = ap suc (length-started id nodes)
-
--- ---- the marks of the ids
-
-pub marks_put : (new : Node) (nodes : List Node) (marks : ℕ) → HaveMarks nodes marks → new.id.at < marks → HaveMarks (put_node new nodes) marks
-marks_put new [] marks all inside = (inside, tt)
-marks_put new (node ∷ nodes) marks all inside = elim (is_before new.task.key node) as (λ b. HaveMarks (cond b (node ∷ put_node new nodes) (new ∷ node ∷ nodes)) marks) [
-  | true ↦ (all.0, marks_put new nodes marks all.1 inside)
-  | false ↦ (inside, all)
-]
-
-pub marks_without : (id : NodeId) (nodes : List Node) (marks : ℕ) → HaveMarks nodes marks → HaveMarks (without id nodes) marks
-marks_without id [] marks all = tt
-marks_without id (node ∷ nodes) marks all = elim (is_at id node) as (λ b. HaveMarks (cond (not b) (node ∷ without id nodes) (without id nodes)) marks) [
-  | true ↦ marks_without id nodes marks all.1
-  | false ↦ (all.0, marks_without id nodes marks all.1)
-]
-
--- a change that keeps the ids keeps the marks
-pub marks_kept : (nodes now : List Node) (marks : ℕ) → ids_of now ≡ ids_of nodes → HaveMarks nodes marks → HaveMarks now marks
-marks_kept nodes now marks same all = subst (AllByRecursion (λ (id : NodeId). id.at < marks)) (sym same) all
 
 pub ids-started : (id : NodeId) (nodes : List Node) → ids_of (started id nodes) ≡ ids_of nodes
 ids-started id = ids-map (start id) (start_keeps_id id)

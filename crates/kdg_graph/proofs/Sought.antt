@@ -1,5 +1,5 @@
 -- What a search for a key tells of the nodes of a graph.
-use Rattle.std.proofs.Common.{◌≡◌, ◌≢◌, inl, inr, eqb-true, ℕ, zero, suc, ◌<◌, Bool, true, false, cond, List, [], ◌∷◌, length, get_or, Option, Some, None, sym, ◌∙◌, ap, subst, arith}
+use Rattle.std.proofs.Common.{◌≡◌, ◌≢◌, inl, inr, eqb-true, eq-eqb, ℕ, zero, suc, ◌<◌, Bool, true, false, cond, List, [], ◌∷◌, length, get_or, Option, Some, None, refl, sym, ◌∙◌, ap, subst, arith}
 use Rattle.std.specs.Prelude.{Contains, slice_get}
 use Rattle.std.specs.Cmp.{tied_itself}
 use Rattle.std.specs.List.{find}
@@ -14,10 +14,11 @@ use Rattle.task_order.specs.declared.key.Key.{Key}
 use Rattle.task_order.specs.Key.{key_cmp, key_cmp_total}
 use Rattle.task_order.specs.TaskList.{IsAscending}
 use Rattle.kdg_graph.specs.declared.node_id.NodeId.{NodeId}
-use Rattle.kdg_graph.specs.Lanes.{IsFound, IsGap, IsRankPast, is_id_at}
+use Rattle.kdg_graph.specs.Lanes.{AreEarlier, IsFound, IsGap, IsRankPast, IsStart, cmp_if, cmp_in_if, is_id_at}
 use Rattle.kdg_graph.specs.Locations.{IsLaneAmong}
 use Rattle.kdg_graph.specs.Node.{Node}
-use Rattle.kdg_graph.specs.Nodes.{IsGraph, ids_of, node_at, node_with_key, tasks_of}
+use Rattle.kdg_graph.specs.Nodes.{IsGraph, ids_of, is_at, node_at, node_with_key, tasks_of}
+use Rattle.kdg_graph.specs.Selected.{key_at}
 use Rattle.kdg_graph.specs.Stored.{IsStored, nodes_of}
 use Rattle.kdg_graph.proofs.Among.{among_at, contains_at, same_by_number}
 use Rattle.kdg_graph.proofs.Lanes.{id_there, length-ids, some_node}
@@ -70,6 +71,39 @@ with_key_stored slots key (Some entry) is found_is =
     let kept : get slots entry.0 ≡ Some entry.1 = (Contains-entries slots entry.0 entry.1).0 was.0 in
     sym (with_key key (nodes_of slots) entry.1 is.graph.ascending (is.all entry.0 entry.1 kept).1 was.1)
 
+-- ---- what is kept
+
+-- what is kept under an id is the node that has it, if there is one
+kept_at : (slots : Slab Node) (id : NodeId) → IsStored slots → get slots id.at ≡ node_at (nodes_of slots) id
+kept_at slots id is =
+    let nodes : List Node = nodes_of slots in
+    let by_case : (found : Option Node) → node_at nodes id ≡ found → get slots id.at ≡ found = elim [
+      | Some node ↦ λ found.
+          let has : Contains nodes node × (node.id ≡ id) = ids_find_nodes nodes id node found in
+          ap (λ (i : NodeId). get slots i.at) (sym has.1) ∙ all_at (λ (n : Node). get slots n.id.at ≡ Some n) nodes node is.stored has.0
+      | None ↦ λ none_is. nothing none_is (get slots id.at) refl
+    ] in
+    by_case (node_at nodes id) refl
+  where
+    nothing : node_at (nodes_of slots) id ≡ None → (kept : Option Node) → get slots id.at ≡ kept → kept ≡ None
+    nothing none_is None at = refl
+    nothing none_is (Some node) at =
+        let was : (node.id.at ≡ id.at) × Contains (nodes_of slots) node = is.all id.at node at in
+        absurd (false≢true (sym (none_found (is_at id) (nodes_of slots) node none_is was.1) ∙ eq-eqb node.id.at id.at was.0))
+
+-- and its key is the node's
+pub key_kept : (slots : Slab Node) (id : NodeId) (found : Option Node) (nodes : List Node) → IsStored slots → nodes_of slots ≡ nodes → found ≡ get slots id.at → option_map (λ node. node.task.key) found ≡ key_at nodes id
+key_kept slots id found nodes is are kept = ap (option_map (λ (node : Node). node.task.key)) (kept ∙ kept_at slots id is ∙ ap (λ (l : List Node). node_at l id) are)
+
+-- nodes that are earlier are so where they are kept
+pub earlier_stored : (slots : Slab Node) (key : Key) (ids : List NodeId) (start : ℕ) → IsStored slots → AreEarlier (nodes_of slots) key ids start → IsStart slots key ids start
+earlier_stored slots key ids start is known = record {
+  inside = known.inside;
+  earlier = λ place at.
+      let last = known.earlier place at in
+      ap (cmp_in_if slots key) last.2 ∙ ap (cmp_if key) (all_at (λ (n : Node). get slots n.id.at ≡ Some n) (nodes_of slots) last.0 is.stored last.1) ∙ last.3;
+}
+
 -- ---- what is later than the key
 
 pub past_gap : (key : Key) (some : List Node) (place : ℕ) → IsAscending (tasks_of some) → IsGap key some place → IsRankPast key some place
@@ -85,7 +119,7 @@ past_found key some place up found =
 
 -- ---- the id of a node
 
-id_at : (ids : List NodeId) (place : ℕ) (id : NodeId) → is_id_at id ids place ≡ true → slice_get ids place ≡ Some id
+pub id_at : (ids : List NodeId) (place : ℕ) (id : NodeId) → is_id_at id ids place ≡ true → slice_get ids place ≡ Some id
 id_at [] place id is = absurd (false≢true is)
 id_at (first ∷ ids) zero id is = ap (λ (other : NodeId). Some other) (same_by_number first id (eqb-true first.at id.at is))
 id_at (first ∷ ids) (suc place) id is = id_at ids place id is
@@ -94,7 +128,7 @@ pub inside_at : (ids : List NodeId) (place : ℕ) (id : NodeId) → is_id_at id 
 inside_at ids place id is = slice_get_within ids place id (id_at ids place id is)
 
 -- two nodes at one key are one
-same_key : (nodes : List Node) (a b : Node) → IsAscending (tasks_of nodes) → Contains nodes a → Contains nodes b → key_cmp a.task.key b.task.key ≡ Equal → a ≡ b
+pub same_key : (nodes : List Node) (a b : Node) → IsAscending (tasks_of nodes) → Contains nodes a → Contains nodes b → key_cmp a.task.key b.task.key ≡ Equal → a ≡ b
 same_key [] a b up has_a has_b tied = absurd (none a has_a)
 same_key (node ∷ nodes) a b up has_a has_b tied = elim (cases node a nodes has_a) [
   | inl is_a ↦ elim (cases node b nodes has_b) [

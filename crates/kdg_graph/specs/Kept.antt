@@ -6,7 +6,7 @@ use Rattle.kdg_graph.specs.Nodes.{IsGraph, ids_of}
 use Rattle.kdg_graph.specs.declared.lane.Lane.{Lane}
 use Rattle.kdg_graph.specs.Locations.{AreFiled, Location}
 use Rattle.kdg_graph.specs.NodeStock.{NodeShelf, numbers_with_marks, places_in}
-use Rattle.kdg_graph.specs.Selected.{HaveMarks, MarkedIds, unblocked_of}
+use Rattle.kdg_graph.specs.Selected.{AreSome, MarkedIds, listed_in, unblocked_of}
 
 -- all ids in key order, where a list of them is kept
 abbrev pub IsOrder : List Node → Option Lane → Type 0
@@ -19,9 +19,8 @@ IsOrderShown nodes order = IfSome order (λ lane. lane.now.ids.items ≡ ids_of 
 pub record IsKept (nodes : List Node) (locations : List Location) (unblocked : MarkedIds) : Type 0 where
   pub graph : IsGraph nodes
   pub filed : AreFiled nodes locations
-  pub unblocked_are : unblocked.ids ≡ unblocked_of nodes
-  pub room : length nodes ≤ unblocked.room
-  pub marks : HaveMarks nodes unblocked.marks
+  pub some : AreSome nodes unblocked
+  pub unblocked_are : listed_in nodes unblocked ≡ unblocked_of nodes
 
 -- for so many more nodes there is a place in the order of all, an id, and a place among the unblocked nodes
 pub record HasSpare (count : ℕ) (nodes : NodeShelf) (order : Option Lane) (unblocked : MarkedIds) : Type 0 where

@@ -1,5 +1,5 @@
 -- Nodes that are kept under their ids, and lists of ids in the order of the nodes' keys.
-use Rattle.std.specs.Prelude.{◌≡◌, ◌==◌, ℕ, suc, ◌<◌, ◌≤◌, Bool, true, false, List, length, slice_get, slice_index_or, MatchResult, Option, Some, None, Result}
+use Rattle.std.specs.Prelude.{◌≡◌, ◌==◌, ℕ, suc, ◌<◌, ◌≤◌, Bool, true, false, List, Contains, length, slice_get, slice_index_or, MatchResult, Option, Some, None, Result}
 use Rattle.std.specs.List.{AllByRecursion}
 use Rattle.std.specs.List.Sorted.{IsPartitionPoint}
 use Rattle.std.specs.Ordering.{is_lt}
@@ -82,6 +82,16 @@ pub record IsBetween (slots : Slab Node) (key : Key) (ids : List NodeId) (low hi
   pub inside : high ≤ length ids
   pub earlier : (place : ℕ) → suc place ≡ low → cmp_at slots key ids place ≡ Less
   pub later : cmp_at slots key ids high ≡ Greater
+
+-- so many of the first are earlier than the key: the last of these is
+pub record IsStart (slots : Slab Node) (key : Key) (ids : List NodeId) (start : ℕ) : Type 0 where
+  pub inside : start ≤ length ids
+  pub earlier : (place : ℕ) → suc place ≡ start → cmp_at slots key ids place ≡ Less
+
+-- the same of nodes in key order
+pub record AreEarlier (nodes : List Node) (key : Key) (ids : List NodeId) (start : ℕ) : Type 0 where
+  pub inside : start ≤ length ids
+  pub earlier : (place : ℕ) → suc place ≡ start → (node : Node) × Contains nodes node × (slice_get ids place ≡ Some node.id) × (key_cmp node.task.key key ≡ Less)
 
 -- the node at the place has the key, or else the place is between an earlier node and a later one
 abbrev pub IsEnded : Slab Node → Key → List NodeId → Result ℕ ℕ → Type 0

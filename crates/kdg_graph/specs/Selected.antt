@@ -1,9 +1,19 @@
 -- Ids of those nodes of a graph that pass a test.
-use Rattle.std.specs.Prelude.{◌≡◌, ℕ, ◌<◌, ◌≤◌, Bool, false, not, ◌==◌, if◌then◌else◌, List, get_or, length, unwrap_or}
+use Rattle.std.specs.Prelude.{◌≡◌, ℕ, ◌<◌, ◌≤◌, Bool, true, false, not, ◌&&◌, ◌==◌, if◌then◌else◌, List, ◌++◌, drop, get_or, length, map, Contains, Option, None, Some, IfSome, unwrap_or}
 use Rattle.std.specs.List.{AllByRecursion, filter, list_any}
+use Rattle.std.specs.List.Sorted.{IsSortedBy}
+use Rattle.std.specs.Option.{option_cmp, option_map}
+use Rattle.std.specs.Ordering.{is_lt, nat_cmp, ordering_then}
+use Rattle.std.specs.declared.cmp.Ordering.{Ordering}
+use Rattle.task_order.specs.declared.key.Key.{Key}
+use Rattle.task_order.specs.Key.{key_cmp}
+use Rattle.task_order.specs.PathCode.{CanCode, path_beginning}
+use Rattle.kdg_graph.specs.declared.arrival.Arrival.{Arrival}
+use Rattle.kdg_graph.specs.declared.source_lane.Standing.{Standing}
+use Rattle.kdg_graph.specs.declared.source_lane.Standing.TheVariants.{Absent, Settled, Recent}
 use Rattle.kdg_graph.specs.declared.node_id.NodeId.{NodeId}
 use Rattle.kdg_graph.specs.Node.{Node}
-use Rattle.kdg_graph.specs.Nodes.{ids_of, is_at, running_at}
+use Rattle.kdg_graph.specs.Nodes.{HasNode, IsGraph, ids_of, is_at, node_at, running_at}
 use Rattle.kdg_graph.specs.Edges.{is_blocked}
 
 -- ---- the unblocked nodes
@@ -34,26 +44,108 @@ AreSelected nodes test ids = ids ≡ ids_of (filter test nodes)
 abbrev pub is_among : List NodeId → Node → Bool
 is_among ids node = list_any (λ id. is_at id node) ids
 
--- exactly the ids of the list are marked
-abbrev pub AreMarked : List NodeId → List Bool → Type 0
-AreMarked ids marks = (at : ℕ) → get_or marks at false ≡ list_any (λ id. at == id.at) ids
+-- whether an id with this number is there
+abbrev pub has_number : ℕ → List NodeId → Bool
+has_number at ids = list_any (λ id. at == id.at) ids
 
--- ids, room for so many, and a mark for each number below the last
+-- the ids are those of some of the nodes, in key order
+abbrev pub IsInOrder : List Node → List NodeId → Type 0
+IsInOrder nodes ids = ids ≡ ids_of (filter (is_among ids) nodes)
+
+-- ---- ids in key order, and those that came since
+
+-- the id of a node, with its priority and the beginning of its path
+pub record IsArrival (nodes : List Node) (arrival : Arrival) : Type 0 where
+  pub node : Node
+  pub there : Contains nodes node
+  pub id_is : node.id ≡ arrival.id
+  pub prio_is : arrival.prio ≡ node.task.key.prio
+  pub beginning_is : arrival.beginning ≡ path_beginning node.task.key.path
+  pub fits : CanCode 0 node.task.key.path
+
+-- the key of the node with the id, if there is one
+abbrev pub key_at : List Node → NodeId → Option Key
+key_at nodes id = option_map (λ node. node.task.key) (node_at nodes id)
+
+-- how two compare: as their nodes' keys do, where each is that of a node
+abbrev pub arrival_cmp : List Node → Arrival → Arrival → Ordering
+arrival_cmp nodes a b = ordering_then (nat_cmp a.prio b.prio) (ordering_then (nat_cmp a.beginning b.beginning) (option_cmp key_cmp (key_at nodes a.id) (key_at nodes b.id)))
+
+-- none comes before the one in front of it
+abbrev pub AreInTurn : List Node → List Arrival → Type 0
+AreInTurn nodes arrivals = IsSortedBy (λ a b. is_lt (arrival_cmp nodes a b)) arrivals
+
+abbrev pub arrived : List Arrival → List NodeId
+arrived recent = map (λ arrival. arrival.id) recent
+
+abbrev pub is_settled : Standing → Bool
+is_settled Absent = false
+is_settled Settled = true
+is_settled Recent = false
+
+abbrev pub is_recent : Standing → Bool
+is_recent Absent = false
+is_recent Settled = false
+is_recent Recent = true
+
+-- it is known of each number in which of two lists there is an id with it, which is in one of them at most
+pub record AreMarked (ids : List NodeId) (recent : List Arrival) (standings : List Standing) : Type 0 where
+  pub are_settled : (at : ℕ) → is_settled (get_or standings at Absent) ≡ has_number at ids
+  pub are_recent : (at : ℕ) → is_recent (get_or standings at Absent) ≡ has_number at (arrived recent)
+
+-- ids in key order, those that came since, room for so many in order, and a mark for each number below the last
 pub record MarkedIds : Type 0 where
   pub ids : List NodeId
+  pub recent : List Arrival
   pub room : ℕ
   pub marks : ℕ
+
+-- all of them
+abbrev pub ids_in : MarkedIds → List NodeId
+ids_in some = some.ids ++ arrived some.recent
+
+-- those of the nodes, in key order
+abbrev pub listed_in : List Node → MarkedIds → List NodeId
+listed_in nodes some = ids_of (filter (is_among (ids_in some)) nodes)
 
 -- each id of a node has a mark
 abbrev pub HaveMarks : List Node → ℕ → Type 0
 HaveMarks nodes marks = AllByRecursion (λ id. id.at < marks) (ids_of nodes)
 
--- some test selects the ids, and each node has room and a mark
+-- all of them are those of nodes, and each node has room and a mark
 pub record AreSome (nodes : List Node) (some : MarkedIds) : Type 0 where
-  pub test : Node → Bool
-  pub selected : AreSelected nodes test some.ids
+  pub in_order : IsInOrder nodes some.ids
+  pub recent : AllByRecursion (IsArrival nodes) some.recent
   pub room : length nodes ≤ some.room
   pub marks : HaveMarks nodes some.marks
+
+-- ---- those behind the one that was looked at last
+
+-- whether the node is later than another, if another is given
+abbrev pub is_later : Option Node → Node → Bool
+is_later None node = true
+is_later (Some last) node = is_lt (key_cmp last.task.key node.task.key)
+
+-- the same by the other's id
+abbrev pub is_behind : List Node → Option NodeId → Node → Bool
+is_behind nodes None node = true
+is_behind nodes (Some last) node = is_later (node_at nodes last) node
+
+abbrev pub is_left : List Node → List NodeId → Option NodeId → Node → Bool
+is_left nodes ids last node = is_among ids node && is_behind nodes last node
+
+abbrev pub left_in : List Node → List NodeId → Option NodeId → List NodeId
+left_in nodes ids last = ids_of (filter (is_left nodes ids last) nodes)
+
+-- of those in key order these are the ones from a place on
+abbrev pub IsLeft : List Node → List NodeId → ℕ → Option NodeId → Type 0
+IsLeft nodes ids place last = drop place ids ≡ left_in nodes ids last
+
+pub record AreLeft (nodes : List Node) (some : MarkedIds) (place : ℕ) (last : Option NodeId) : Type 0 where
+  pub graph : IsGraph nodes
+  pub some_are : AreSome nodes some
+  pub last_there : IfSome last (HasNode nodes)
+  pub place_is : IsLeft nodes some.ids place last
 
 -- ---- tests that are made anew
 

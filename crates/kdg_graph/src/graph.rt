@@ -116,6 +116,16 @@ impl Graph {
         self.nodes.mark_running(node);
     }
 
+    /// Puts the unblocked nodes that came to be so since the last time in order with the others, all at
+    /// once. Nothing else changes: `least` and `sources` tell the same before, but then go over all that
+    /// came, `sources` for each source again.
+    pub fn settle(&mut self)
+        ensures same { self.new ≡ self.old }
+        ensures graph { IsGraph self.new }
+    {
+        self.nodes.settle();
+    }
+
     /// The nodes that are not running and that no earlier node's recorded set conflicts with.
     pub fn sources(&self) -> Sources<'_>
         ensures sources { result ≡ sources_of self.now }

@@ -1,6 +1,6 @@
 ghost use Rattle.std.specs.Prelude.{◌≡◌, ◌+◌, ◌^◌, ◌≤◌, ◌<◌, [], length, slice_get, slice_index_or, true, IfSome, MatchResult, OnOk};
 ghost use Rattle.std.specs.List.{insert, remove};
-ghost use Rattle.kdg_graph.specs.Lanes.{IsBetween, IsEnded, IsLane, IsRank, IsRankPast, IsSearched, cmp_at, cmp_in, is_id_at};
+ghost use Rattle.kdg_graph.specs.Lanes.{IsBetween, IsEnded, IsLane, IsRank, IsRankPast, IsSearched, IsStart, cmp_at, cmp_in, is_id_at};
 ghost use Rattle.kdg_graph.specs.Locations.{is_first_before};
 ghost use Rattle.std.specs.Prelude.{List};
 ghost use Rattle.kdg_graph.specs.Node.{Node};
@@ -66,7 +66,8 @@ impl Lane {
     /// The id at a place, if one is there.
     #[inline(always)]
     pub(crate) fn get(&self, place: usize) -> Option<NodeId>
-        ensures { result ≡ slice_get self.now.ids.items place }
+        ensures id { result ≡ slice_get self.now.ids.items place }
+        ensures small { length self.now.ids.items < 2 ^ 63 }
     {
         self.ids.get(place).copied()
     }
@@ -94,6 +95,21 @@ impl Lane {
         }
         match self.search_near(slots, key, self.put_at) {
             Ok(place) | Err(place) => place,
+        }
+    }
+
+    /// How many of the nodes are earlier than the key, where it is known that so many of the first are.
+    #[inline(always)]
+    pub(crate) fn rank_from(&self, slots: &Slab<Entry>, key: &Key, start: usize) -> usize
+        requires known { IsStart slots.now key.now self.now.ids.items start }
+        ensures rank { (nodes : List Node) → IsLane slots.now nodes self.now.ids.items → IsRank key.now nodes result }
+        ensures inside { result ≤ length self.now.ids.items }
+    {
+        match self.compare_at(slots, start, key) {
+            Ordering::Less => match self.search_up(slots, key, start) {
+                Ok(place) | Err(place) => place,
+            },
+            _ => start,
         }
     }
 

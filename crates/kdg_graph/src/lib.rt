@@ -2,6 +2,7 @@
 //! them, and which of them stand in the way of which.
 #![tactic(auto)]
 
+mod arrival;
 mod change;
 mod entry;
 mod exchange;

@@ -124,6 +124,7 @@ impl Location {
 
     /// Files a node, where `reserve` made room, and tells what it has before and behind it here. It takes
     /// no memory.
+    #[inline(always)]
     pub(crate) fn enter(&mut self, nodes: &OrderedNodes, id: NodeId, access: Access) -> Neighbours
         requires there { HasNode nodes.now.nodes id }
         requires room { 1 ≤ room_in self.old }

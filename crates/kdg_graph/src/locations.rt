@@ -40,6 +40,7 @@ impl Locations {
     }
 
     /// Makes room for so many more nodes at each location of a set.
+    #[inline(always)]
     pub(crate) fn reserve(&mut self, set: &RwSet, additional: usize) -> Result<(), NoRoom>
         ensures room { OnOk result (HasRoom additional set.now (rooms_of self.new.locations.items)) }
         ensures no_less { HaveNoLess (rooms_of self.old.locations.items) (rooms_of self.new.locations.items) }
@@ -215,6 +216,7 @@ impl Locations {
     }
 
     /// The same, where so many are not later. Where all write the location, it is the next one alone.
+    #[inline(always)]
     fn front_from(
         &self,
         nodes: &OrderedNodes,

@@ -105,7 +105,8 @@ impl NodeList {
     pub(crate) fn least(&self) -> Option<NodeId>
         ensures { result ≡ least_of self.now.nodes }
     {
-        self.sources.lane().get(0)
+        let settled = self.sources.settled().get(0);
+        self.sources.earliest(&self.nodes, settled, None)
     }
 
     /// The node whose task has the key.
@@ -130,7 +131,20 @@ impl NodeList {
         ensures sources { result ≡ sources_of self.now.nodes }
         ensures graph { IsGraph self.now.nodes }
     {
-        Sources::among(&self.nodes, self.sources.lane())
+        Sources::among(&self.nodes, &self.sources)
+    }
+
+    /// Puts the unblocked nodes that came to be so in order with the others, which changes nothing of the
+    /// graph. It takes no memory.
+    pub(crate) fn settle(&mut self)
+        ensures nodes { self.new.nodes ≡ self.old.nodes }
+        ensures places { self.old.places ≤ self.new.places }
+        ensures numbers { self.old.numbers ≤ self.new.numbers }
+        ensures marks { self.old.marks ≤ self.new.marks }
+        ensures rooms { HaveNoLess self.old.rooms self.new.rooms }
+        ensures graph { IsGraph self.new.nodes }
+    {
+        self.sources.settle(&self.nodes);
     }
 
     /// Makes room for one more node with the set.

@@ -1,19 +1,23 @@
-ghost use Rattle.std.specs.Prelude.{◌≡◌, ◌+◌, ◌<◌, ◌≤◌, ◌||◌, Bool, List, [], ◌∷◌, Some, IfSome, MatchResult, OnOk, filter, length};
-ghost use Rattle.std.specs.Option.{option_map};
+ghost use Rattle.std.specs.Prelude.{◌≡◌, ◌+◌, ◌^◌, ◌<◌, ◌≤◌, ◌||◌, Bool, List, [], ◌∷◌, Some, IfSome, MatchResult, OnOk, filter, length, slice_get};
+ghost use Rattle.std.specs.Option.{option_cmp, option_map};
+ghost use Rattle.task_order.specs.Key.{key_cmp};
 ghost use Rattle.task_order.specs.TaskList.{IsNewKey};
 ghost use Rattle.kdg_graph.specs.Node.{Node, new_node};
 ghost use Rattle.kdg_graph.specs.Nodes.{IsGraph, HasNode, ids_of, least_of, node_at, node_with_key, put_node, set_at, started, tasks_of};
-ghost use Rattle.kdg_graph.specs.Lanes.{IsRank, IsRankPast, IsSearched};
+ghost use Rattle.kdg_graph.specs.Lanes.{AreEarlier, IsRank, IsRankPast, IsSearched};
 ghost use Rattle.kdg_graph.specs.Locations.{IsLaneAmong, is_first_before};
 ghost use Rattle.kdg_graph.specs.Rewrite.{with_sets, without};
+ghost use Rattle.kdg_graph.specs.Selected.{IsArrival, arrival_cmp, is_behind, key_at};
 
 use crate::NodeId;
+use crate::arrival::Arrival;
 use crate::entry::Entry;
 use crate::lane::Lane;
 use kdg_text::NoRoom;
 use rw_sets::RwSet;
 use slab::Slab;
 use std::alloc::Global;
+use std::cmp::Ordering;
 use std::marker::Model;
 use std::mem;
 use task_order::{Key, Task, put_in_laws};
@@ -160,6 +164,65 @@ impl OrderedNodes {
         }
     }
 
+    /// Whether a node is later than another, if another is given.
+    #[inline(always)]
+    pub(crate) fn is_behind(&self, id: NodeId, last: Option<NodeId>) -> bool
+        requires there { HasNode self.now.nodes id }
+        requires last { IfSome last (HasNode self.now.nodes) }
+        ensures { IfSome (node_at self.now.nodes id) (λ node. result ≡ is_behind self.now.nodes last node) }
+    {
+        match last {
+            Some(last) => {
+                let last = self.entry(last);
+                last.task.key.compare(&self.entry(id).task.key).is_lt()
+            }
+            None => true,
+        }
+    }
+
+    /// A node that is to be put in order among others.
+    #[inline(always)]
+    pub(crate) fn arrival(&self, id: NodeId) -> Arrival
+        requires { HasNode self.now.nodes id }
+        ensures arrival { IsArrival self.now.nodes result }
+        ensures id { result.id ≡ id }
+    {
+        let node = self.entry(id);
+        let key = &node.task.key;
+        Arrival {
+            prio: key.prio,
+            beginning: key.path.beginning(),
+            id,
+        }
+    }
+
+    /// How the keys of two such nodes compare. Mostly neither node is read.
+    #[inline(always)]
+    pub(crate) fn compare(&self, one: &Arrival, other: &Arrival) -> Ordering
+        ensures { result ≡ arrival_cmp self.now.nodes one.now other.now }
+    {
+        match one.prio.cmp(&other.prio) {
+            Ordering::Equal => match one.beginning.cmp(&other.beginning) {
+                Ordering::Equal => self.compare_keys(one.id, other.id),
+                order => order,
+            },
+            order => order,
+        }
+    }
+
+    /// How the keys of two nodes compare. One that isn't there comes first.
+    #[inline(never)]
+    fn compare_keys(&self, one: NodeId, other: NodeId) -> Ordering
+        ensures { result ≡ option_cmp key_cmp (key_at self.now.nodes one) (key_at self.now.nodes other) }
+    {
+        match (self.slots.get(one.at), self.slots.get(other.at)) {
+            (Some(one), Some(other)) => one.task.key.compare(&other.task.key),
+            (Some(_), None) => Ordering::Greater,
+            (None, Some(_)) => Ordering::Less,
+            (None, None) => Ordering::Equal,
+        }
+    }
+
     /// Puts a node into a list of ids in key order, which has room for it, and tells its place there.
     pub(crate) fn put_into(&self, lane: &mut Lane, id: NodeId) -> usize
         requires there { HasNode self.now.nodes id }
@@ -171,6 +234,27 @@ impl OrderedNodes {
     {
         let node = self.entry(id);
         let place = self.rank_among(lane, &node.task.key);
+        lane.insert(place, id);
+        place
+    }
+
+    /// The same, where so many of the first are known to be earlier.
+    #[inline(always)]
+    pub(crate) fn put_behind(&self, lane: &mut Lane, id: NodeId, start: usize) -> usize
+        requires there { HasNode self.now.nodes id }
+        requires room { length lane.old.ids.items < lane.old.ids.capacity }
+        requires known { IfSome (node_at self.now.nodes id) (λ node. AreEarlier self.now.nodes node.task.key lane.old.ids.items start) }
+        ensures ids { (some : List Node) → IsLaneAmong self.now.nodes some lane.old.ids.items → IfSome (node_at self.now.nodes id) (λ node. lane.new.ids.items ≡ ids_of (put_node node some)) }
+        ensures place { slice_get lane.new.ids.items result ≡ Some id }
+        ensures small { result < 2 ^ 63 }
+        ensures room { lane.old.ids.capacity ≤ lane.new.ids.capacity }
+        ensures len { length lane.new.ids.items ≡ length lane.old.ids.items + 1 }
+    {
+        let place = if start == lane.len() {
+            start
+        } else {
+            lane.rank_from(&self.slots, &self.entry(id).task.key, start)
+        };
         lane.insert(place, id);
         place
     }

@@ -1,14 +1,15 @@
-ghost use Rattle.std.specs.Prelude.{◌≡◌, ◌∷◌, ◌≤◌, ◌==◌, [], Bool, true, false, IfSome, OnOk};
-ghost use Rattle.std.specs.List.{AllByRecursion, list_any};
+ghost use Rattle.std.specs.Prelude.{◌≡◌, ◌∷◌, ◌≤◌, ◌||◌, ℕ, [], Bool, true, false, filter, length, IfSome, OnOk};
+ghost use Rattle.std.specs.List.{AllByRecursion};
 ghost use Rattle.kdg_graph.specs.Node.{Node};
-ghost use Rattle.kdg_graph.specs.Nodes.{HasKey, HasNode, IsGraph, ids_of, node_at};
+ghost use Rattle.kdg_graph.specs.Nodes.{HasKey, HasNode, IsGraph, ids_of, least_of, node_at};
 ghost use Rattle.kdg_graph.specs.Edges.{is_blocked};
 ghost use Rattle.kdg_graph.specs.Fronts.{fronts_after};
 ghost use Rattle.kdg_graph.specs.Lanes.{IsRankPast};
 ghost use Rattle.kdg_graph.specs.Locations.{AreFiled, clashing_at, front_after};
-ghost use Rattle.kdg_graph.specs.Selected.{AreSelected, AreSome, forgotten, refreshed, retested};
+ghost use Rattle.kdg_graph.specs.Selected.{AreInTurn, AreMarked, AreSelected, AreSome, HaveMarks, IsArrival, IsInOrder, arrived, forgotten, has_number, ids_in, is_left, is_recent, is_settled, listed_in, refreshed, retested};
 
 use crate::NodeId;
+use crate::arrival::Arrival;
 use crate::lane::Lane;
 use crate::location::Neighbours;
 use crate::locations::Locations;
@@ -17,16 +18,33 @@ use kdg_text::NoRoom;
 use rw_sets::{Access, RwSet};
 use std::alloc::Global;
 use std::marker::Model;
-use task_order::Key;
+use task_order::{Key, beginning_laws};
 
-/// The ids of the nodes of a graph that no earlier node is in conflict with, in key order. Where a
-/// node comes, goes or changes, it and the fronts behind it at the locations of its set are tested
-/// anew; only an id that comes in or goes out is looked for.
+/// Where an id stands.
+#[derive(Clone, Copy, PartialEq, Eq)]
+pub(crate) enum Standing {
+    /// In neither list.
+    Absent,
+    /// Among those in key order.
+    Settled,
+    /// Among those that came since.
+    Recent,
+}
+
+/// The ids of the nodes of a graph that no earlier node is in conflict with. Where a node comes, goes
+/// or changes, it and the fronts behind it at the locations of its set are tested anew; only an id that
+/// goes out is looked for.
+///
+/// An id that comes in waits until `settle` puts it in order with all others that came, which takes
+/// less than to find a place for each at once.
 #[derive(Drop)]
 pub(crate) struct SourceLane {
-    lane: Lane,
-    /// Whether each id is in the list, by its number.
-    listed: Vec<bool>,
+    /// Those in key order.
+    settled: Lane,
+    /// Those that came since.
+    arrivals: Vec<Arrival>,
+    /// Where each id stands, by its number.
+    standings: Vec<Standing>,
 }
 
 impl Model for SourceLane {
@@ -36,30 +54,34 @@ impl Model for SourceLane {
     ghost Value = { MarkedIds };
 
     ghost view = { λ s. record {
-      ids = s.lane.ids.items;
-      room = s.lane.ids.capacity;
-      marks = length s.listed.items;
+      ids = s.settled.ids.items;
+      recent = s.arrivals.items;
+      room = s.settled.ids.capacity;
+      marks = length s.standings.items;
     } };
 
-    ghost invariant = { λ s. AreMarked s.lane.ids.items s.listed.items };
+    ghost invariant = { λ s. AreMarked s.settled.ids.items s.arrivals.items s.standings.items };
 }
 
 impl SourceLane {
     /// No ids, which take no memory.
     pub(crate) fn new(alloc: Global) -> SourceLane
-        ensures { result.ids ≡ [] }
+        ensures ids { result.ids ≡ [] }
+        ensures recent { result.recent ≡ [] }
     {
         SourceLane {
-            lane: Lane::new(alloc),
-            listed: Vec::new(alloc),
+            settled: Lane::new(alloc),
+            arrivals: Vec::new(alloc),
+            standings: Vec::new(alloc),
         }
     }
 
-    /// The ids.
-    pub(crate) fn lane(&self) -> &Lane
+    /// Those in key order.
+    #[inline(always)]
+    pub(crate) fn settled(&self) -> &Lane
         ensures { result.now.ids.items ≡ self.now.ids }
     {
-        &self.lane
+        &self.settled
     }
 
     /// Makes room for the ids of so many nodes, and marks for ids below a number.
@@ -69,13 +91,57 @@ impl SourceLane {
         ensures no_less { self.old.room ≤ self.new.room }
         ensures no_fewer { self.old.marks ≤ self.new.marks }
         ensures ids { self.new.ids ≡ self.old.ids }
+        ensures recent { self.new.recent ≡ self.old.recent }
     {
-        let len = self.lane.len();
-        self.lane.reserve(nodes.saturating_sub(len))?;
-        if self.listed.len() < below {
-            self.listed.resize(below, false)?;
+        let len = self.settled.len();
+        self.settled.reserve(nodes.saturating_sub(len))?;
+        if self.standings.len() < below {
+            self.standings.resize(below, Standing::Absent)?;
         }
         Ok(())
+    }
+
+    /// Where an id stands.
+    #[inline(always)]
+    fn standing(&self, id: NodeId) -> Standing
+        ensures settled { is_settled result ≡ has_number id.at self.now.ids }
+        ensures recent { is_recent result ≡ has_number id.at (arrived self.now.recent) }
+    {
+        match self.standings.get(id.at) {
+            Some(standing) => *standing,
+            None => Standing::Absent,
+        }
+    }
+
+    /// Whether an id is there.
+    pub(crate) fn is_listed(&self, id: NodeId) -> bool
+        ensures { result ≡ has_number id.at (ids_in self.now) }
+    {
+        self.standing(id) != Standing::Absent
+    }
+
+    /// The earliest of the nodes that are behind one, if one is given. The earliest of those in key order
+    /// is known.
+    #[inline(always)]
+    pub(crate) fn earliest(
+        &self,
+        nodes: &OrderedNodes,
+        settled: Option<NodeId>,
+        last: Option<NodeId>,
+    ) -> Option<NodeId>
+        requires graph { IsGraph nodes.now.nodes }
+        requires some { AreSome nodes.now.nodes self.now }
+        requires last { IfSome last (HasNode nodes.now.nodes) }
+        requires settled { settled ≡ least_of (filter (is_left nodes.now.nodes self.now.ids last) nodes.now.nodes) }
+        ensures { result ≡ least_of (filter (is_left nodes.now.nodes (ids_in self.now) last) nodes.now.nodes) }
+    {
+        let mut first = settled;
+        for arrival in &self.arrivals {
+            if nodes.is_behind(arrival.id, last) {
+                first = nodes.earlier(first, Some(arrival.id));
+            }
+        }
+        first
     }
 
     /// Takes the id of a node out, if it is there.
@@ -83,41 +149,95 @@ impl SourceLane {
         requires graph { IsGraph nodes.now.nodes }
         requires there { HasNode nodes.now.nodes id }
         requires some { AreSome nodes.now.nodes self.old }
-        ensures ids { (test : Node → Bool) → AreSelected nodes.now.nodes test self.old.ids → AreSelected nodes.now.nodes (forgotten (id ∷ []) test) self.new.ids }
+        ensures ids { (test : Node → Bool) → AreSelected nodes.now.nodes test (listed_in nodes.now.nodes self.old) → AreSelected nodes.now.nodes (forgotten (id ∷ []) test) (listed_in nodes.now.nodes self.new) }
         ensures some { AreSome nodes.now.nodes self.new }
         ensures room { self.old.room ≤ self.new.room }
         ensures marks { self.new.marks ≡ self.old.marks }
     {
-        if self.is_listed(id) {
-            nodes.take_from(&mut self.lane, id);
-            self.listed[id.at] = false;
+        match self.standing(id) {
+            Standing::Absent => {}
+            Standing::Settled => self.take_out(nodes, id),
+            Standing::Recent => {
+                self.settle(nodes);
+                self.take_out(nodes, id);
+            }
         }
     }
 
-    /// Puts the id of a node in, if it is not there.
+    /// Takes the id of a node that didn't come since out of those in key order, if it is there.
+    #[inline(always)]
+    fn take_out(&mut self, nodes: &OrderedNodes, id: NodeId)
+        requires graph { IsGraph nodes.now.nodes }
+        requires there { HasNode nodes.now.nodes id }
+        requires some { AreSome nodes.now.nodes self.old }
+        requires settled { has_number id.at (arrived self.old.recent) ≡ false }
+        ensures ids { (test : Node → Bool) → AreSelected nodes.now.nodes test (listed_in nodes.now.nodes self.old) → AreSelected nodes.now.nodes (forgotten (id ∷ []) test) (listed_in nodes.now.nodes self.new) }
+        ensures some { AreSome nodes.now.nodes self.new }
+        ensures room { self.old.room ≤ self.new.room }
+        ensures marks { self.new.marks ≡ self.old.marks }
+    {
+        nodes.take_from(&mut self.settled, id);
+        self.standings[id.at] = Standing::Absent;
+    }
+
+    /// Puts the id of a node in, if it is not there: among those to be put in order, or in its place
+    /// at once where there is no memory for that.
+    #[inline(always)]
     fn list(&mut self, nodes: &OrderedNodes, id: NodeId)
         requires graph { IsGraph nodes.now.nodes }
         requires there { HasNode nodes.now.nodes id }
         requires some { AreSome nodes.now.nodes self.old }
-        ensures ids { (test : Node → Bool) → AreSelected nodes.now.nodes test self.old.ids → AreSelected nodes.now.nodes (retested (λ _. true) (id ∷ []) test) self.new.ids }
+        ensures ids { (test : Node → Bool) → AreSelected nodes.now.nodes test (listed_in nodes.now.nodes self.old) → AreSelected nodes.now.nodes (retested (λ _. true) (id ∷ []) test) (listed_in nodes.now.nodes self.new) }
         ensures some { AreSome nodes.now.nodes self.new }
         ensures room { self.old.room ≤ self.new.room }
         ensures marks { self.new.marks ≡ self.old.marks }
     {
-        if !self.is_listed(id) {
-            let _ = nodes.put_into(&mut self.lane, id);
-            self.listed[id.at] = true;
+        if self.standing(id) != Standing::Absent {
+            return;
+        }
+        if self.arrivals.push(nodes.arrival(id)).is_ok() {
+            self.standings[id.at] = Standing::Recent;
+        } else {
+            let _ = nodes.put_into(&mut self.settled, id);
+            self.standings[id.at] = Standing::Settled;
         }
     }
 
-    /// Whether an id is there.
-    pub(crate) fn is_listed(&self, id: NodeId) -> bool
-        ensures { result ≡ list_any (λ other. id.at == other.at) self.now.ids }
+    /// Puts those that came in order with the others. It takes no memory.
+    #[inline(always)]
+    pub(crate) fn settle(&mut self, nodes: &OrderedNodes)
+        requires graph { IsGraph nodes.now.nodes }
+        requires some { AreSome nodes.now.nodes self.old }
+        ensures listed { listed_in nodes.now.nodes self.new ≡ listed_in nodes.now.nodes self.old }
+        ensures none_came { self.new.recent ≡ [] }
+        ensures some { AreSome nodes.now.nodes self.new }
+        ensures room { self.old.room ≤ self.new.room }
+        ensures marks { self.new.marks ≡ self.old.marks }
     {
-        match self.listed.get(id.at) {
-            Some(mark) => *mark,
-            None => false,
+        if !self.arrivals.is_empty() {
+            self.settle_arrivals(nodes);
         }
+    }
+
+    /// The same, where some came.
+    fn settle_arrivals(&mut self, nodes: &OrderedNodes)
+        requires graph { IsGraph nodes.now.nodes }
+        requires some { AreSome nodes.now.nodes self.old }
+        ensures listed { listed_in nodes.now.nodes self.new ≡ listed_in nodes.now.nodes self.old }
+        ensures none_came { self.new.recent ≡ [] }
+        ensures some { AreSome nodes.now.nodes self.new }
+        ensures room { self.old.room ≤ self.new.room }
+        ensures marks { self.new.marks ≡ self.old.marks }
+    {
+        self.arrivals
+            .sort_unstable_by(|one, other| nodes.compare(one, other));
+        put_in_order(
+            &mut self.settled,
+            &mut self.standings,
+            &self.arrivals,
+            nodes,
+        );
+        self.arrivals.clear();
     }
 
     /// Puts the id of a node in or takes it out, by whether an earlier node is in conflict with it.
@@ -126,7 +246,7 @@ impl SourceLane {
         requires there { HasNode nodes.now.nodes id }
         requires filed { AreFiled nodes.now.nodes locations.now.locations.items }
         requires some { AreSome nodes.now.nodes self.old }
-        ensures ids { (test : Node → Bool) → AreSelected nodes.now.nodes test self.old.ids → AreSelected nodes.now.nodes (refreshed nodes.now.nodes (id ∷ []) test) self.new.ids }
+        ensures ids { (test : Node → Bool) → AreSelected nodes.now.nodes test (listed_in nodes.now.nodes self.old) → AreSelected nodes.now.nodes (refreshed nodes.now.nodes (id ∷ []) test) (listed_in nodes.now.nodes self.new) }
         ensures some { AreSome nodes.now.nodes self.new }
         ensures room { self.old.room ≤ self.new.room }
         ensures marks { self.new.marks ≡ self.old.marks }
@@ -153,7 +273,7 @@ impl SourceLane {
         requires first { IfSome (node_at nodes.now.nodes id) (λ node. known.first ≡ true → is_blocked nodes.now.nodes node ≡ false) }
         requires blocked { IfSome (node_at nodes.now.nodes id) (λ node. known.blocked ≡ true → is_blocked nodes.now.nodes node ≡ true) }
         requires some { AreSome nodes.now.nodes self.old }
-        ensures ids { (test : Node → Bool) → AreSelected nodes.now.nodes test self.old.ids → AreSelected nodes.now.nodes (refreshed nodes.now.nodes (id ∷ []) test) self.new.ids }
+        ensures ids { (test : Node → Bool) → AreSelected nodes.now.nodes test (listed_in nodes.now.nodes self.old) → AreSelected nodes.now.nodes (refreshed nodes.now.nodes (id ∷ []) test) (listed_in nodes.now.nodes self.new) }
         ensures some { AreSome nodes.now.nodes self.new }
         ensures room { self.old.room ≤ self.new.room }
         ensures marks { self.new.marks ≡ self.old.marks }
@@ -181,9 +301,9 @@ impl SourceLane {
         requires there { HasNode nodes.now.nodes id }
         requires filed { AreFiled nodes.now.nodes locations.now.locations.items }
         requires some { AreSome nodes.now.nodes self.old }
-        ensures ids { (test : Node → Bool) → AreSelected nodes.now.nodes test self.old.ids
+        ensures ids { (test : Node → Bool) → AreSelected nodes.now.nodes test (listed_in nodes.now.nodes self.old)
             → IfSome (node_at nodes.now.nodes id) (λ node. (blocks_none ≡ true → AllByRecursion (λ other. test other ≡ false) (fronts_after node.set node.task.key nodes.now.nodes))
-            → AreSelected nodes.now.nodes (forgotten (ids_of (fronts_after node.set node.task.key nodes.now.nodes)) test) self.new.ids) }
+            → AreSelected nodes.now.nodes (forgotten (ids_of (fronts_after node.set node.task.key nodes.now.nodes)) test) (listed_in nodes.now.nodes self.new)) }
         ensures some { AreSome nodes.now.nodes self.new }
         ensures room { self.old.room ≤ self.new.room }
         ensures marks { self.new.marks ≡ self.old.marks }
@@ -209,8 +329,8 @@ impl SourceLane {
         requires first { first ≡ true → IsRankPast key.now (clashing_at loc access nodes.now.nodes) 0 }
         requires filed { AreFiled nodes.now.nodes locations.now.locations.items }
         requires some { AreSome nodes.now.nodes self.old }
-        ensures ids { (test : Node → Bool) → AreSelected nodes.now.nodes test self.old.ids
-            → AreSelected nodes.now.nodes (refreshed nodes.now.nodes (ids_of (front_after loc access key.now nodes.now.nodes)) test) self.new.ids }
+        ensures ids { (test : Node → Bool) → AreSelected nodes.now.nodes test (listed_in nodes.now.nodes self.old)
+            → AreSelected nodes.now.nodes (refreshed nodes.now.nodes (ids_of (front_after loc access key.now nodes.now.nodes)) test) (listed_in nodes.now.nodes self.new) }
         ensures some { AreSome nodes.now.nodes self.new }
         ensures room { self.old.room ≤ self.new.room }
         ensures marks { self.new.marks ≡ self.old.marks }
@@ -235,8 +355,8 @@ impl SourceLane {
         requires first { first ≡ true → AllByRecursion (λ p. IsRankPast key.now (clashing_at p.0 p.1 nodes.now.nodes) 0) set.now }
         requires filed { AreFiled nodes.now.nodes locations.now.locations.items }
         requires some { AreSome nodes.now.nodes self.old }
-        ensures ids { (test : Node → Bool) → AreSelected nodes.now.nodes test self.old.ids
-            → AreSelected nodes.now.nodes (refreshed nodes.now.nodes (ids_of (fronts_after set.now key.now nodes.now.nodes)) test) self.new.ids }
+        ensures ids { (test : Node → Bool) → AreSelected nodes.now.nodes test (listed_in nodes.now.nodes self.old)
+            → AreSelected nodes.now.nodes (refreshed nodes.now.nodes (ids_of (fronts_after set.now key.now nodes.now.nodes)) test) (listed_in nodes.now.nodes self.new) }
         ensures some { AreSome nodes.now.nodes self.new }
         ensures room { self.old.room ≤ self.new.room }
         ensures marks { self.new.marks ≡ self.old.marks }
@@ -260,8 +380,8 @@ impl SourceLane {
         requires key { HasKey nodes.now.nodes id key.now }
         requires filed { AreFiled nodes.now.nodes locations.now.locations.items }
         requires some { AreSome nodes.now.nodes self.old }
-        ensures ids { (test : Node → Bool) → AreSelected nodes.now.nodes test self.old.ids
-            → AreSelected nodes.now.nodes (forgotten (ids_of (front_after loc access key.now nodes.now.nodes)) test) self.new.ids }
+        ensures ids { (test : Node → Bool) → AreSelected nodes.now.nodes test (listed_in nodes.now.nodes self.old)
+            → AreSelected nodes.now.nodes (forgotten (ids_of (front_after loc access key.now nodes.now.nodes)) test) (listed_in nodes.now.nodes self.new) }
         ensures some { AreSome nodes.now.nodes self.new }
         ensures room { self.old.room ≤ self.new.room }
         ensures marks { self.new.marks ≡ self.old.marks }
@@ -285,14 +405,47 @@ impl SourceLane {
         requires key { HasKey nodes.now.nodes id key.now }
         requires filed { AreFiled nodes.now.nodes locations.now.locations.items }
         requires some { AreSome nodes.now.nodes self.old }
-        ensures ids { (test : Node → Bool) → AreSelected nodes.now.nodes test self.old.ids
-            → AreSelected nodes.now.nodes (forgotten (ids_of (fronts_after set.now key.now nodes.now.nodes)) test) self.new.ids }
+        ensures ids { (test : Node → Bool) → AreSelected nodes.now.nodes test (listed_in nodes.now.nodes self.old)
+            → AreSelected nodes.now.nodes (forgotten (ids_of (fronts_after set.now key.now nodes.now.nodes)) test) (listed_in nodes.now.nodes self.new) }
         ensures some { AreSome nodes.now.nodes self.new }
         ensures room { self.old.room ≤ self.new.room }
         ensures marks { self.new.marks ≡ self.old.marks }
     {
         for pair in set.items() {
             self.forget_front(nodes, locations, id, pair.0, pair.1, key);
+        }
+    }
+}
+
+/// Puts the ids of nodes that came, which are in order, in order with the others, each by a search from
+/// behind the one before it on.
+fn put_in_order(
+    settled: &mut Lane,
+    standings: &mut [Standing],
+    arrivals: &[Arrival],
+    nodes: &OrderedNodes,
+)
+    requires graph { IsGraph nodes.now.nodes }
+    requires arrivals { AllByRecursion (IsArrival nodes.now.nodes) arrivals.now }
+    requires in_turn { AreInTurn nodes.now.nodes arrivals.now }
+    requires in_order { IsInOrder nodes.now.nodes settled.old.ids.items }
+    requires marked { AreMarked settled.old.ids.items arrivals.now standings.old }
+    requires room { length nodes.now.nodes ≤ settled.old.ids.capacity }
+    requires marks { HaveMarks nodes.now.nodes (length standings.old) }
+    ensures ids { (at : ℕ) → has_number at settled.new.ids.items ≡ (has_number at settled.old.ids.items || has_number at (arrived arrivals.now)) }
+    ensures in_order { IsInOrder nodes.now.nodes settled.new.ids.items }
+    ensures marked { AreMarked settled.new.ids.items [] standings.new }
+    ensures marks { length standings.new ≡ length standings.old }
+    ensures room { settled.old.ids.capacity ≤ settled.new.ids.capacity }
+{
+    beginning_laws();
+    let mut start = 0;
+    for arrival in arrivals {
+        let id = arrival.id;
+        // None is there twice, but nothing here rests on that.
+        if standings[id.at] == Standing::Recent {
+            start = nodes.put_behind(settled, id, start) + 1;
+            standings[id.at] = Standing::Settled;
         }
     }
 }

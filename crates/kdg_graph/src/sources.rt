@@ -1,11 +1,12 @@
 ghost use Rattle.std.specs.Prelude.{◌≡◌};
 ghost use Rattle.std.specs.Iterator.{YieldsFirst, item_count};
+ghost use Rattle.kdg_graph.specs.Nodes.{IsGraph};
 ghost use Rattle.kdg_graph.specs.Edges.{sources_of};
-ghost use Rattle.kdg_graph.specs.Selected.{unblocked_of};
+ghost use Rattle.kdg_graph.specs.Selected.{AreSome, listed_in, unblocked_of};
 
 use crate::NodeId;
-use crate::lane::Lane;
 use crate::ordered_nodes::OrderedNodes;
+use crate::source_lane::SourceLane;
 use std::marker::Model;
 
 /// The ids of the sources of a graph, in key order, seen as the list of those that are left.
@@ -14,35 +15,38 @@ use std::marker::Model;
 #[derive(Drop)]
 pub struct Sources<'g> {
     nodes: &'g OrderedNodes,
-    unblocked: &'g Lane,
-    at: usize,
+    unblocked: &'g SourceLane,
+    /// The unblocked node that was looked at last.
+    last: Option<NodeId>,
+    /// How many of those in key order were looked at.
+    place: usize,
 }
 
 impl<'g> Model for Sources<'g> {
-    ghost use Rattle.std.specs.Prelude.{List, drop};
-    ghost use Rattle.std.specs.List.{AllByRecursion};
+    ghost use Rattle.std.specs.Prelude.{List};
     ghost use Rattle.kdg_graph.specs.declared.node_id.NodeId.{NodeId};
-    ghost use Rattle.kdg_graph.specs.Nodes.{HasNode};
-    ghost use Rattle.kdg_graph.specs.Selected.{not_running};
+    ghost use Rattle.kdg_graph.specs.Selected.{AreLeft, ids_in, left_in, not_running};
 
     ghost Value = { List NodeId };
 
-    ghost view = { λ s. not_running s.nodes.now.nodes (drop s.at s.unblocked.now.ids.items) };
+    ghost view = { λ s. not_running s.nodes.now.nodes (left_in s.nodes.now.nodes (ids_in s.unblocked.now) s.last) };
 
-    ghost invariant = { λ s. AllByRecursion (HasNode s.nodes.now.nodes) s.unblocked.now.ids.items };
+    ghost invariant = { λ s. AreLeft s.nodes.now.nodes s.unblocked.now s.place s.last };
 }
 
 impl<'g> Sources<'g> {
     /// Those among the unblocked nodes.
-    pub(crate) fn among(nodes: &'g OrderedNodes, unblocked: &'g Lane) -> Sources<'g>
-        requires { unblocked.now.ids.items ≡ unblocked_of nodes.now.nodes }
+    pub(crate) fn among(nodes: &'g OrderedNodes, unblocked: &'g SourceLane) -> Sources<'g>
+        requires unblocked { listed_in nodes.now.nodes unblocked.now ≡ unblocked_of nodes.now.nodes }
+        requires some { AreSome nodes.now.nodes unblocked.now }
         ensures { result ≡ sources_of nodes.now.nodes }
     {
         let _graph = nodes.len();
         Sources {
             nodes,
             unblocked,
-            at: 0,
+            last: None,
+            place: 0,
         }
     }
 }
@@ -54,15 +58,17 @@ impl<'g> Iterator for Sources<'g> {
 
     ghost remaining = { item_count (λ ids. ids) };
 
+    #[inline(always)]
     fn next(&mut self) -> Option<NodeId> {
-        while self.at < self.unblocked.len() {
-            let id = self.unblocked.at(self.at);
-            self.at += 1;
+        loop {
+            let settled = self.unblocked.settled().get(self.place);
+            let id = self.unblocked.earliest(self.nodes, settled, self.last)?;
+            self.place += usize::from(settled == Some(id));
+            self.last = Some(id);
             let node = self.nodes.entry(id);
             if !node.running {
                 return Some(id);
             }
         }
-        None
     }
 }

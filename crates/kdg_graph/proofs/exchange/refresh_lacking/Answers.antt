@@ -6,7 +6,7 @@ use Rattle.kdg_graph.specs.Exchange.{is_same, lacking}
 use Rattle.kdg_graph.specs.Fronts.{fronts_after}
 use Rattle.kdg_graph.specs.Node.{Node}
 use Rattle.kdg_graph.specs.Nodes.{ids_of}
-use Rattle.kdg_graph.specs.Selected.{AreSelected, refreshed}
+use Rattle.kdg_graph.specs.Selected.{AreSelected, listed_in, refreshed}
 use Rattle.kdg_graph.proofs.Exchanging.{lacking_done, lacking_passed, still_beside}
 use Rattle.kdg_graph.proofs.Filing.{again}
 use Rattle.kdg_graph.proofs.exchange.refresh_lacking.Goals as goal
@@ -26,7 +26,7 @@ loop-pair-preserved-then-has c =
       ascending = c.has.ensures.ascending;
       beside = still_beside ps c.loop-pair.walk.left.now c.has.new.self.left.now c.args.other.now i p up at c.loop-pair.invariant.beside c.has.ensures.beyond;
       ids = λ test selected.
-          subst (λ (pairs : Accesses). AreSelected nodes (refreshed nodes (ids_of (fronts_after pairs c.args.key.now nodes)) test) c.loop-pair.sources.ids) (sym (lacking_passed ps c.args.other.now i p inside at has)) (c.loop-pair.invariant.ids test selected);
+          subst (λ (pairs : Accesses). AreSelected nodes (refreshed nodes (ids_of (fronts_after pairs c.args.key.now nodes)) test) (listed_in c.args.nodes.now.nodes c.loop-pair.sources)) (sym (lacking_passed ps c.args.other.now i p inside at has)) (c.loop-pair.invariant.ids test selected);
       some = c.loop-pair.invariant.some;
       room = c.loop-pair.invariant.room;
       marks = c.loop-pair.invariant.marks;
@@ -47,7 +47,7 @@ loop-pair-preserved c =
       ascending = c.has.ensures.ascending;
       beside = still_beside ps c.loop-pair.walk.left.now c.has.new.self.left.now c.args.other.now i p up at c.loop-pair.invariant.beside c.has.ensures.beyond;
       ids = λ test selected.
-          lacking_done nodes ps c.args.other.now c.args.key.now i p test c.refresh_front.new.self.ids inside at lacks
+          lacking_done nodes ps c.args.other.now c.args.key.now i p test (listed_in c.args.nodes.now.nodes c.refresh_front.new.self) inside at lacks
           (c.refresh_front.ensures.ids (refreshed nodes (ids_of (fronts_after (lacking (take i ps) c.args.other.now) c.args.key.now nodes)) test) (c.loop-pair.invariant.ids test selected));
       some = c.refresh_front.ensures.some;
       room = omega (arith, c.loop-pair.invariant.room, c.refresh_front.ensures.room);

@@ -4,6 +4,7 @@ use Rattle.cell_store.specs.Values.{values_of}
 use Rattle.kdg_graph.specs.Nodes.{ids_of}
 use Rattle.commuting.specs.Rounds.{after_round}
 use Rattle.graph_update.specs.Events.{clear_nodes}
+use Rattle.graph_update.specs.Progress.{EngineState}
 use Rattle.source_pool.specs.Course.{IsActing}
 use Rattle.source_pool.proofs.Acted.{some_in}
 use Rattle.source_pool.proofs.acting.act_round.Goals as goal
@@ -13,7 +14,7 @@ act_in_turn-requires-send-A-Val g c κs within =
     let app = g.A.App.meaning c.args.engine.now.app in
     let now = c.args.engine.now.progress in
     let acting = c.acting_laws.ensures.begins c.args.engine.now.app g.from.start now (values_of g.from.start.cells) g.from.state g.from.text c.requires.1.1.1.1.0 in
-    let same : c.deref.result.now ≡ ids_of (clear_nodes app now.nodes) = c.deref.ensures.value ∙ c.in_ok-find_clear.ensures in
+    let same : c.deref.result.now ≡ ids_of (clear_nodes app now.nodes) = c.deref.ensures.value ∙ c.in_ok-find_clear.ensures.ids in
     let sent = c.requires.1.1.1.0 in (
       within.0,
       (
@@ -22,7 +23,8 @@ act_in_turn-requires-send-A-Val g c κs within =
           within.1.1,
           (
             record { owned = sent.owned; leaving = λ k. sent.leaving (λ _. k (of_param 2)) },
-            subst (IsActing app g.from.start (values_of g.from.start.cells) (after_round app g.from.state) g.from.text now) (sym same) acting,
+            subst (λ (state : EngineState g.row.A.Denot g.row.A-Val.Denot). IsActing (g.A.App.meaning state.app) g.from.start (values_of g.from.start.cells) (after_round (g.A.App.meaning state.app) g.from.state) g.from.text state.progress c.deref.result.now) (sym c.find_clear.ensures.same)
+            (subst (IsActing app g.from.start (values_of g.from.start.cells) (after_round app g.from.state) g.from.text now) (sym same) acting),
           ),
         ),
       ),
@@ -32,7 +34,7 @@ pub returns-clause-ended : goal.returns-clause-ended
 returns-clause-ended g c =
     let app = g.A.App.meaning c.args.engine.now.app in
     let now = c.args.engine.now.progress in
-    let same : c.deref.result.now ≡ ids_of (clear_nodes app now.nodes) = c.deref.ensures.value ∙ c.in_ok-find_clear.ensures in
+    let same : c.deref.result.now ≡ ids_of (clear_nodes app now.nodes) = c.deref.ensures.value ∙ c.in_ok-find_clear.ensures.ids in
     let some = some_in (ids_of (clear_nodes app now.nodes))
     (c.acting_laws.ensures.some c.args.engine.now.app g.from.start now (values_of g.from.start.cells) g.from.state g.from.text c.requires.1.1.1.1.0 c.requires.1.1.1.1.1) in
-    omega (arith, c.in_ok-cells.ensures.ended, ap length same, some)
+    omega (arith, c.in_ok-cells.ensures.ended, ap (λ (state : EngineState g.row.A.Denot g.row.A-Val.Denot). state.progress.ended) c.find_clear.ensures.same, ap length same, some)

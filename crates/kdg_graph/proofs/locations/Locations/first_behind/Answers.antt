@@ -27,4 +27,4 @@ returns c =
     let among : IsLaneAmong nodes some ids = filed_among nodes c.args.loc c.args.access ids c.rank_behind-next.ensures.graph are in
     let behind : IsRankPast c.requires.key.node.task.key some c.rank_behind-next.result = subst (λ (o : Option Node). IfSome o (λ (n : Node). IsRankPast n.task.key some c.rank_behind-next.result)) c.requires.key.there (c.rank_behind-next.ensures.rank some among) in
     let rank : IsRankPast c.args.key.now some c.rank_behind-next.result = subst (λ k. IsRankPast k some c.rank_behind-next.result) c.requires.key.key_is behind in
-    c.get.ensures ∙ ap (λ (l : List NodeId). slice_get l c.rank_behind-next.result) are ∙ first_from c.rank_behind-next.result some ∙ ap least_of (later_clashing c.args.key.now c.args.loc c.args.access nodes c.rank_behind-next.result rank)
+    c.get.ensures.id ∙ ap (λ (l : List NodeId). slice_get l c.rank_behind-next.result) are ∙ first_from c.rank_behind-next.result some ∙ ap least_of (later_clashing c.args.key.now c.args.loc c.args.access nodes c.rank_behind-next.result rank)

@@ -26,4 +26,4 @@ returns c =
     let are : c.in_ok-writers.writers.now.ids.items ≡ ids_of writers = c.in_ok-writers.ensures.kept ∙ c.requires.filed c.args.loc Read in
     let zero_start : c.args.start ≡ 0 = omega (arith, c.if-start-gt0.false) in
     let at_first : IsRankPast c.args.key.now (clashing_at c.args.loc c.args.access nodes) 0 = subst (λ n. IsRankPast c.args.key.now (clashing_at c.args.loc c.args.access nodes) n) zero_start c.requires.rank in
-    c.get.ensures ∙ ap (λ (l : List NodeId). slice_get l 0) are ∙ first_from 0 writers ∙ ap least_of (writers_later c.args.key.now c.args.loc c.args.access nodes at_first)
+    c.get.ensures.id ∙ ap (λ (l : List NodeId). slice_get l 0) are ∙ first_from 0 writers ∙ ap least_of (writers_later c.args.key.now c.args.loc c.args.access nodes at_first)

@@ -2,6 +2,8 @@ use Rattle.std.proofs.Common.{◌≡◌, ◌∙◌, ℕ, Bool, List, [], ◌∷�
 use Rattle.std.specs.Prelude.{IfSome, IsSome}
 use Rattle.std.specs.Option.{option_map}
 use Rattle.rw_sets.specs.Accesses.{Accesses, access_at}
+use Rattle.kdg_graph.specs.declared.change.SetChange.{SetChange}
+use Rattle.kdg_graph.specs.declared.node_id.NodeId.{NodeId}
 use Rattle.kdg_graph.specs.Node.{Node}
 use Rattle.kdg_graph.specs.NodeStock.{NodeStock}
 use Rattle.kdg_graph.specs.Nodes.{HasNode, ids_of}
@@ -9,12 +11,13 @@ use Rattle.kdg_graph.specs.Exchange.{AreFiledWith, lacking}
 use Rattle.kdg_graph.specs.Fronts.{fronts_after}
 use Rattle.kdg_graph.specs.Locations.{HasRoom, Location, rooms_of}
 use Rattle.kdg_graph.specs.Rewrite.{without}
-use Rattle.kdg_graph.specs.Selected.{AreSelected, is_unblocked, refreshed}
+use Rattle.kdg_graph.specs.Selected.{AreSelected, is_unblocked, listed_in, refreshed}
+use Rattle.kdg_graph.proofs.Carried.{listed_changed, some_changed}
 use Rattle.kdg_graph.proofs.Exchanging.{filed_before}
 use Rattle.kdg_graph.proofs.Selecting.{but, found_node}
 use Rattle.kdg_graph.proofs.Ordered.{order_kept, places_kept}
 use Rattle.kdg_graph.proofs.Rooms.{numbers_left}
-use Rattle.kdg_graph.proofs.Settling.{found_changed, ids-changed, length-changed, marks_kept, select_but, select_left, settled_exchanged, without_changed}
+use Rattle.kdg_graph.proofs.Settling.{found_changed, ids-changed, length-changed, select_but, select_left, settled_exchanged, without_changed}
 use Rattle.kdg_graph.proofs.node_list.NodeList.exchange_set.Goals as goal
 
 pub exchange-requires-clause-there : goal.exchange-requires-clause-there
@@ -52,20 +55,7 @@ entry-node-requires c =
     subst IsSome (sym (found_changed c.args.id gone.0 c.args.set nodes c.set_set-before.new.self.nodes c.self.invariant.0.graph c.set_set-before.ensures.graph gone.1 c.set_set-before.ensures.nodes)) refl
 
 pub refresh-requires-clause-some : goal.refresh-requires-clause-some
-refresh-requires-clause-some c =
-    let nodes : List Node = c.self.inside.nodes.nodes in
-    let now : List Node = c.set_set-before.new.self.nodes in
-    let gone = found_node nodes c.args.id (subst (λ (stock : NodeStock). HasNode stock.nodes c.args.id) (sym c.self.view_is) c.requires.there) in
-    let left = without_changed c.args.id gone.0 c.args.set nodes now c.self.invariant.0.graph c.set_set-before.ensures.graph gone.1 c.set_set-before.ensures.nodes in
-    let others = select_left nodes (is_unblocked nodes) c.args.id c.forget.new.self.ids (c.forget.ensures.ids (is_unblocked nodes) c.self.invariant.0.unblocked_are) in
-    let changes = record { node = c.args.id; set = c.args.set } ∷ [] in
-    let long = ap length c.set_set-before.ensures.nodes ∙ length-changed changes nodes in
-    record {
-      test = but c.args.id (is_unblocked nodes);
-      selected = select_but now (is_unblocked nodes) c.args.id c.forget.new.self.ids (subst (λ (l : List Node). AreSelected l (is_unblocked nodes) c.forget.new.self.ids) (sym left) others);
-      room = omega (arith, long, c.forget.ensures.some.room);
-      marks = marks_kept nodes now c.forget.new.self.marks (ap ids_of c.set_set-before.ensures.nodes ∙ ids-changed changes nodes) c.forget.ensures.some.marks;
-    }
+refresh-requires-clause-some c = some_changed (record { node = c.args.id; set = c.args.set } ∷ []) c.self.inside.nodes.nodes c.set_set-before.new.self.nodes c.forget.new.self c.set_set-before.ensures.nodes c.forget.ensures.some
 
 pub invariant_of-self : goal.invariant_of-self
 invariant_of-self c =
@@ -73,32 +63,34 @@ invariant_of-self c =
     let now : List Node = c.set_set-before.new.self.nodes in
     let gone = found_node nodes c.args.id (subst (λ (stock : NodeStock). HasNode stock.nodes c.args.id) (sym c.self.view_is) c.requires.there) in
     let left = without_changed c.args.id gone.0 c.args.set nodes now c.self.invariant.0.graph c.set_set-before.ensures.graph gone.1 c.set_set-before.ensures.nodes in
-    let others = select_left nodes (is_unblocked nodes) c.args.id c.forget.new.self.ids (c.forget.ensures.ids (is_unblocked nodes) c.self.invariant.0.unblocked_are) in
-    let some = select_but now (is_unblocked nodes) c.args.id c.forget.new.self.ids (subst (λ (l : List Node). AreSelected l (is_unblocked nodes) c.forget.new.self.ids) (sym left) others) in
+    let changes : List SetChange = record { node = c.args.id; set = c.args.set } ∷ [] in
+    let listed : List NodeId = listed_in now c.forget.new.self in
+    let same : listed ≡ listed_in nodes c.forget.new.self = listed_changed changes nodes now c.forget.new.self c.set_set-before.ensures.nodes in
+    let others = select_left nodes (is_unblocked nodes) c.args.id listed (same ∙ c.forget.ensures.ids (is_unblocked nodes) c.self.invariant.0.unblocked_are) in
+    let some = select_but now (is_unblocked nodes) c.args.id listed (subst (λ (l : List Node). AreSelected l (is_unblocked nodes) listed) (sym left) others) in
     let first : Node → Bool = refreshed now (c.args.id ∷ []) (but c.args.id (is_unblocked nodes)) in
     let entry : Node = record { id = c.node.inside.id; task = c.node.inside.task; set = c.node.inside.set; running = c.node.inside.running } in
     let before : Accesses = c.set_set-before.result in
     let changed : Node = record gone.0 { set = c.args.set } in
     let second : Node → Bool = refreshed now (ids_of (fronts_after (lacking before entry.set) entry.task.key now)) first in
-    let after : AreSelected now second c.refresh_lacking.new.sources.ids = c.refresh_lacking.ensures.ids first (c.refresh.ensures.ids (but c.args.id (is_unblocked nodes)) some) in
-    let Settled : Accesses → Node → Type 0 = λ was n. AreSelected now (refreshed now (ids_of (fronts_after (lacking n.set was) n.task.key now)) (refreshed now (ids_of (fronts_after (lacking was n.set) n.task.key now)) first)) c.refresh_lacking-2.new.sources.ids in
+    let after : AreSelected now second (listed_in now c.refresh_lacking.new.sources) = c.refresh_lacking.ensures.ids first (c.refresh.ensures.ids (but c.args.id (is_unblocked nodes)) some) in
+    let Settled : Accesses → Node → Type 0 = λ was n. AreSelected now (refreshed now (ids_of (fronts_after (lacking n.set was) n.task.key now)) (refreshed now (ids_of (fronts_after (lacking was n.set) n.task.key now)) first)) (listed_in now c.refresh_lacking-2.new.sources) in
     let all : Settled before entry = c.refresh_lacking-2.ensures.ids second after in
     let found : Some c.entry-node.result.now ≡ Some changed = sym c.entry-node.ensures ∙ found_changed c.args.id gone.0 c.args.set nodes now c.self.invariant.0.graph c.set_set-before.ensures.graph gone.1 c.set_set-before.ensures.nodes in
     let is_changed : c.entry-node.result.now ≡ changed = cc in
     let had : Some before ≡ Some gone.0.set = sym c.set_set-before.ensures.before ∙ ap (option_map (λ (n : Node). n.set)) gone.1 in
     let is_before : before ≡ gone.0.set = cc in
     let spare = c.self.invariant.2 in
-    let long = ap length c.set_set-before.ensures.nodes ∙ length-changed (record { node = c.args.id; set = c.args.set } ∷ []) nodes in
+    let long = ap length c.set_set-before.ensures.nodes ∙ length-changed changes nodes in
     let numbers = numbers_left 0 c.self.inside.nodes.numbers c.set_set-before.new.self.numbers _ _ _ _ (omega (arith, c.set_set-before.ensures.numbers)) c.set_set-before.ensures.keys (c.refresh_lacking-2.ensures.marks ∙ c.refresh_lacking.ensures.marks ∙ c.refresh.ensures.marks ∙ c.forget.ensures.marks) in (
       record {
         graph = c.set_set-before.ensures.graph;
         filed = c.exchange.ensures.filed;
-        unblocked_are = settled_exchanged c.args.id gone.0 c.args.set nodes now c.refresh_lacking-2.new.sources.ids c.self.invariant.0.graph c.set_set-before.ensures.graph gone.1 c.set_set-before.ensures.nodes
+        some = c.refresh_lacking-2.ensures.some;
+        unblocked_are = settled_exchanged c.args.id gone.0 c.args.set nodes now (listed_in now c.refresh_lacking-2.new.sources) c.self.invariant.0.graph c.set_set-before.ensures.graph gone.1 c.set_set-before.ensures.nodes
             (subst (Settled gone.0.set) (c.node.view_is ∙ is_changed) (subst (λ (was : Accesses). Settled was entry) is_before all));
-        room = c.refresh_lacking-2.ensures.some.room;
-        marks = c.refresh_lacking-2.ensures.some.marks;
       },
-      order_kept nodes now c.self.inside.order (ap ids_of c.set_set-before.ensures.nodes ∙ ids-changed (record { node = c.args.id; set = c.args.set } ∷ []) nodes) c.self.invariant.1,
+      order_kept nodes now c.self.inside.order (ap ids_of c.set_set-before.ensures.nodes ∙ ids-changed changes nodes) c.self.invariant.1,
       record {
         places = omega (arith, spare.places, places_kept c.self.inside.order c.self.inside.nodes.numbers c.set_set-before.new.self.numbers c.set_set-before.ensures.numbers);
         numbers = omega (arith, spare.numbers, numbers);

@@ -1,9 +1,15 @@
-use Rattle.std.proofs.Common.{◌∙◌, ap}
+use Rattle.std.proofs.Common.{◌∙◌, List, None, ap}
+use Rattle.std.specs.Prelude.{slice_get}
+use Rattle.kdg_graph.specs.declared.node_id.NodeId.{NodeId}
 use Rattle.kdg_graph.specs.NodeStock.{NodeStock}
 use Rattle.kdg_graph.specs.Nodes.{least_of}
-use Rattle.kdg_graph.proofs.Ordered.{first_unblocked}
+use Rattle.kdg_graph.proofs.Left.{least_left, left_at_start, settled_first}
 use Rattle.kdg_graph.proofs.node_list.NodeList.least.Goals as goal
 
+pub earliest-requires-clause-settled : goal.earliest-requires-clause-settled
+earliest-requires-clause-settled c =
+    let s = c.self.inside in
+    c.get-settled.ensures.id ∙ ap (λ (l : List NodeId). slice_get l 0) c.settled.ensures ∙ settled_first s.nodes.nodes s.sources.ids 0 None (left_at_start s.nodes.nodes s.sources.ids c.self.invariant.0.some.in_order)
+
 pub returns : goal.returns
-returns c =
-    c.get.ensures ∙ first_unblocked c.self.inside.nodes.nodes c.lane.result.now.ids.items c.self.invariant.0.graph (c.lane.ensures ∙ c.self.invariant.0.unblocked_are) ∙ ap (λ (stock : NodeStock). least_of stock.nodes) c.self.view_is
+returns c = c.earliest.ensures ∙ least_left c.self.inside.nodes.nodes c.self.inside.sources c.self.invariant.0.graph c.self.invariant.0.unblocked_are ∙ ap (λ (stock : NodeStock). least_of stock.nodes) c.self.view_is

@@ -3,9 +3,10 @@ use Rattle.kdg_graph.specs.Node.{Node}
 use Rattle.kdg_graph.specs.Nodes.{ids_of, started}
 use Rattle.kdg_graph.specs.Locations.{AreFiled}
 use Rattle.kdg_graph.specs.Selected.{unblocked_of}
+use Rattle.kdg_graph.proofs.Carried.{listed_started, some_started}
 use Rattle.kdg_graph.proofs.Ordered.{order_kept, places_kept}
 use Rattle.kdg_graph.proofs.Rooms.{numbers_left}
-use Rattle.kdg_graph.proofs.Settling.{filed_started, ids-started, length-started, marks_kept, unblocked_started}
+use Rattle.kdg_graph.proofs.Settling.{filed_started, ids-started, length-started, unblocked_started}
 use Rattle.kdg_graph.proofs.node_list.NodeList.mark_running.Goals as goal
 
 pub invariant_of-self : goal.invariant_of-self
@@ -18,9 +19,8 @@ invariant_of-self c =
       record {
         graph = c.mark_running.ensures.graph;
         filed = subst (λ (l : List Node). AreFiled l c.self.inside.locations.locations.items) (sym is) (filed_started c.args.id nodes c.self.inside.locations.locations.items c.self.invariant.0.filed);
-        unblocked_are = c.self.invariant.0.unblocked_are ∙ sym (ap unblocked_of is ∙ unblocked_started c.args.id nodes);
-        room = omega (arith, long, c.self.invariant.0.room);
-        marks = marks_kept nodes c.mark_running.new.self.nodes c.self.inside.sources.marks (ap ids_of is ∙ ids-started c.args.id nodes) c.self.invariant.0.marks;
+        some = some_started c.args.id nodes c.mark_running.new.self.nodes c.self.inside.sources is c.self.invariant.0.some;
+        unblocked_are = listed_started c.args.id nodes c.mark_running.new.self.nodes c.self.inside.sources is ∙ c.self.invariant.0.unblocked_are ∙ sym (ap unblocked_of is ∙ unblocked_started c.args.id nodes);
       },
       order_kept nodes c.mark_running.new.self.nodes c.self.inside.order (ap ids_of is ∙ ids-started c.args.id nodes) c.self.invariant.1,
       record {

@@ -1,6 +1,7 @@
-use Rattle.std.proofs.Common.{◌≡◌, ◌<◌, ◌∙◌, Bool, true, false, List, [], ◌∷◌, Option, ap, length, refl, subst, sym, arith}
+use Rattle.std.proofs.Common.{◌≡◌, ◌<◌, ◌≤◌, ◌∙◌, Bool, true, false, List, [], ◌∷◌, Option, ap, length, refl, subst, sym, arith}
 use Rattle.std.specs.Prelude.{IfSome}
 use Rattle.std.specs.List.{AllByRecursion}
+use Rattle.kdg_graph.specs.declared.node_id.NodeId.{NodeId}
 use Rattle.kdg_graph.specs.Node.{Node, new_node}
 use Rattle.kdg_graph.specs.NodeStock.{NodeStock}
 use Rattle.kdg_graph.specs.Nodes.{HaveOwnIds, ids_of, node_at}
@@ -9,12 +10,13 @@ use Rattle.kdg_graph.specs.Kept.{IsOrder}
 use Rattle.kdg_graph.specs.Fronts.{fronts_after}
 use Rattle.kdg_graph.specs.Locations.{AreFiled, HasRoom, rooms_of}
 use Rattle.kdg_graph.specs.Rewrite.{without}
-use Rattle.kdg_graph.specs.Selected.{AreSelected, HaveMarks, forgotten, is_unblocked, refreshed}
+use Rattle.kdg_graph.specs.Selected.{AreSelected, forgotten, is_unblocked, listed_in, refreshed}
+use Rattle.kdg_graph.proofs.Carried.{listed_put, some_put}
 use Rattle.kdg_graph.proofs.LookUps.{ids_find_nodes}
 use Rattle.kdg_graph.proofs.Ordered.{place_left}
 use Rattle.kdg_graph.proofs.Selecting.{at_some, but, length-put}
 use Rattle.kdg_graph.proofs.Rooms.{keys_have_marks, numbers_left}
-use Rattle.kdg_graph.proofs.Settling.{fronts_failing, found_put, marks_put, select_but, settled_put, without_put}
+use Rattle.kdg_graph.proofs.Settling.{fronts_failing, found_put, select_but, settled_put, without_put}
 use Rattle.kdg_graph.proofs.node_list.NodeList.put.Goals as goal
 
 pub enter-known-requires-clause-room : goal.enter-known-requires-clause-room
@@ -34,16 +36,11 @@ pub enter-requires-clause-some : goal.enter-requires-clause-some
 enter-requires-clause-some c =
     let nodes : List Node = c.self.inside.nodes.nodes in
     let node : Node = new_node c.put-id.result c.args.task c.args.set in
-    let left : without c.put-id.result c.put-id.new.self.nodes ≡ nodes = ap (without c.put-id.result) c.put-id.ensures.nodes ∙ without_put node nodes (subst HaveOwnIds c.put-id.ensures.nodes c.put-id.ensures.graph.own_ids) in
     let long = ap length c.put-id.ensures.nodes ∙ length-put node nodes in
     let keys = keys_have_marks c.self.inside.nodes.numbers c.self.inside.nodes.keys c.self.inside.sources.marks (omega (arith, c.requires.numbers, ap (λ (stock : NodeStock). stock.numbers) c.self.view_is)) in
+    let fits : length c.put-id.new.self.nodes ≤ c.self.inside.sources.room = omega (arith, long, c.requires.marks, ap (λ (stock : NodeStock). stock.marks) c.self.view_is) in
     let inside : c.put-id.result.at < c.self.inside.sources.marks = omega (arith, keys, c.put-id.ensures.key, c.put-id.ensures.keys) in
-    record {
-      test = but c.put-id.result (is_unblocked nodes);
-      selected = select_but c.put-id.new.self.nodes (is_unblocked nodes) c.put-id.result c.self.inside.sources.ids (subst (λ (l : List Node). AreSelected l (is_unblocked nodes) c.self.inside.sources.ids) (sym left) c.self.invariant.0.unblocked_are);
-      room = omega (arith, long, c.requires.marks, ap (λ (stock : NodeStock). stock.marks) c.self.view_is);
-      marks = subst (λ (l : List Node). HaveMarks l c.self.inside.sources.marks) (sym c.put-id.ensures.nodes) (marks_put node nodes c.self.inside.sources.marks c.self.invariant.0.marks inside);
-    }
+    some_put node nodes c.put-id.new.self.nodes c.self.inside.sources c.put-id.ensures.graph c.put-id.ensures.nodes fits inside c.self.invariant.0.some
 
 pub invariant_of-self : goal.invariant_of-self
 invariant_of-self c =
@@ -51,7 +48,9 @@ invariant_of-self c =
     let now : List Node = c.put-id.new.self.nodes in
     let node : Node = new_node c.put-id.result c.args.task c.args.set in
     let left : without c.put-id.result now ≡ nodes = ap (without c.put-id.result) c.put-id.ensures.nodes ∙ without_put node nodes (subst HaveOwnIds c.put-id.ensures.nodes c.put-id.ensures.graph.own_ids) in
-    let others = select_but now (is_unblocked nodes) c.put-id.result c.self.inside.sources.ids (subst (λ (l : List Node). AreSelected l (is_unblocked nodes) c.self.inside.sources.ids) (sym left) c.self.invariant.0.unblocked_are) in
+    let listed : List NodeId = listed_in now c.self.inside.sources in
+    let unblocked : AreSelected nodes (is_unblocked nodes) listed = listed_put node nodes now c.self.inside.sources c.put-id.ensures.graph c.put-id.ensures.nodes c.self.invariant.0.some ∙ c.self.invariant.0.unblocked_are in
+    let others = select_but now (is_unblocked nodes) c.put-id.result listed (subst (λ (l : List Node). AreSelected l (is_unblocked nodes) listed) (sym left) unblocked) in
     let id = c.put-id.result in
     let first : Node → Bool = refreshed now (id ∷ []) (but id (is_unblocked nodes)) in
     let found = found_put node nodes now c.put-id.ensures.nodes c.put-id.ensures.graph in
@@ -59,8 +58,8 @@ invariant_of-self c =
     at_some (λ (n : Node). c.enter-known.result.blocks_none ≡ true → AllByRecursion (λ other. is_blocked (without id now) other ≡ true) (fronts_after n.set n.task.key now)) (node_at now id) node found c.enter-known.ensures.blocks_none in
     let fail : c.enter-known.result.blocks_none ≡ true → AllByRecursion (λ other. first other ≡ false) (fronts_after node.set node.task.key now) =
     λ none. fronts_failing node nodes now c.put-id.ensures.graph (ids_find_nodes now id node found).0 (subst (λ (l : List Node). AllByRecursion (λ other. is_blocked l other ≡ true) (fronts_after node.set node.task.key now)) left (blocked none)) in
-    let all : AreSelected now (forgotten (ids_of (fronts_after node.set node.task.key now)) first) c.forget_behind.new.self.ids =
-    at_some (λ (n : Node). (c.enter-known.result.blocks_none ≡ true → AllByRecursion (λ other. first other ≡ false) (fronts_after n.set n.task.key now)) → AreSelected now (forgotten (ids_of (fronts_after n.set n.task.key now)) first) c.forget_behind.new.self.ids)
+    let all : AreSelected now (forgotten (ids_of (fronts_after node.set node.task.key now)) first) (listed_in now c.forget_behind.new.self) =
+    at_some (λ (n : Node). (c.enter-known.result.blocks_none ≡ true → AllByRecursion (λ other. first other ≡ false) (fronts_after n.set n.task.key now)) → AreSelected now (forgotten (ids_of (fronts_after n.set n.task.key now)) first) (listed_in now c.forget_behind.new.self))
     (node_at now id) node found (c.forget_behind.ensures.ids first (c.enter.ensures.ids (but id (is_unblocked nodes)) others)) fail in
     let spare = c.self.invariant.2 in
     let fewer = c.saturating_sub-self-inside.ensures in
@@ -69,9 +68,8 @@ invariant_of-self c =
       record {
         graph = c.put-id.ensures.graph;
         filed = c.enter-known.ensures.filed;
-        unblocked_are = settled_put node nodes now [] (is_unblocked nodes) c.forget_behind.new.self.ids c.self.invariant.0.graph.ascending c.put-id.ensures.graph c.put-id.ensures.nodes (λ n _ _. refl) all;
-        room = c.forget_behind.ensures.some.room;
-        marks = c.forget_behind.ensures.some.marks;
+        some = c.forget_behind.ensures.some;
+        unblocked_are = settled_put node nodes now [] (is_unblocked nodes) (listed_in now c.forget_behind.new.self) c.self.invariant.0.graph.ascending c.put-id.ensures.graph c.put-id.ensures.nodes (λ n _ _. refl) all;
       },
       c.enter_order.ensures.order,
       record {

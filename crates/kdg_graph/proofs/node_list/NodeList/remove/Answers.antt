@@ -9,12 +9,12 @@ use Rattle.kdg_graph.specs.Nodes.{node_at, task_at}
 use Rattle.kdg_graph.specs.Kept.{IsOrder}
 use Rattle.kdg_graph.specs.Locations.{AreFiled, clashing_at}
 use Rattle.kdg_graph.specs.Rewrite.{without}
-use Rattle.kdg_graph.specs.Selected.{AreSelected, HaveMarks, is_unblocked}
+use Rattle.kdg_graph.specs.Selected.{AreSelected, is_unblocked, listed_in}
+use Rattle.kdg_graph.proofs.Carried.{listed_without, number_listed, some_without}
 use Rattle.kdg_graph.proofs.Leaving.{unblocked_leads}
 use Rattle.kdg_graph.proofs.Ordered.{length-without}
 use Rattle.kdg_graph.proofs.Rooms.{numbers_left}
-use Rattle.kdg_graph.proofs.Selecting.{listed_selected}
-use Rattle.kdg_graph.proofs.Settling.{marks_without, select_left, settled_without}
+use Rattle.kdg_graph.proofs.Settling.{select_left, settled_without}
 use Rattle.kdg_graph.proofs.node_list.NodeList.remove.Goals as goal
 
 pub refresh_fronts-requires-clause-first : goal.refresh_fronts-requires-clause-first
@@ -22,7 +22,7 @@ refresh_fronts-requires-clause-first c listed =
     let nodes : List Node = c.self.inside.nodes.nodes in
     let node : Node = record { id = c.node.inside.id; task = c.node.inside.task; set = c.node.inside.set; running = c.node.inside.running } in
     let is : node_at nodes c.args.id ≡ Some node = c.remove-node.ensures.node ∙ ap (λ (n : Node). Some n) (sym c.node.view_is) in
-    let free : is_unblocked nodes node ≡ true = sym (listed_selected nodes (is_unblocked nodes) c.self.inside.sources.ids c.args.id node c.self.invariant.0.graph is c.self.invariant.0.unblocked_are) ∙ sym c.is_listed-unblocked.ensures ∙ listed in
+    let free : is_unblocked nodes node ≡ true = sym (number_listed nodes (is_unblocked nodes) c.self.inside.sources c.args.id node c.self.invariant.0.graph is c.self.invariant.0.unblocked_are) ∙ sym c.is_listed-unblocked.ensures ∙ listed in
     subst (λ (l : List Node). AllByRecursion (λ (p : ℕ × Access). IsRankPast node.task.key (clashing_at p.0 p.1 l) 0) node.set) (sym c.remove-node.ensures.nodes)
     (unblocked_leads c.conflict_laws.ensures.decided c.conflict_laws.ensures.mutual nodes c.args.id node c.self.invariant.0.graph is free)
 
@@ -32,16 +32,7 @@ refresh_fronts-requires-clause-filed c = subst (λ (l : List Node). AreFiled l c
 pub refresh_fronts-requires-clause-some : goal.refresh_fronts-requires-clause-some
 refresh_fronts-requires-clause-some c =
     let nodes : List Node = c.self.inside.nodes.nodes in
-    let now : c.remove-node.new.self.nodes ≡ without c.args.id nodes = c.remove-node.ensures.nodes in
-    let left = select_left nodes (is_unblocked nodes) c.args.id c.forget.new.self.ids (c.forget.ensures.ids (is_unblocked nodes) c.self.invariant.0.unblocked_are) in
-    let fewer = ap length now in
-    let one = length-without c.args.id nodes c.remove-node.result c.self.invariant.0.graph c.remove-node.ensures.node in
-    record {
-      test = is_unblocked nodes;
-      selected = subst (λ (l : List Node). AreSelected l (is_unblocked nodes) c.forget.new.self.ids) (sym now) left;
-      room = omega (arith, fewer, one, c.forget.ensures.some.room);
-      marks = subst (λ (l : List Node). HaveMarks l c.forget.new.self.marks) (sym now) (marks_without c.args.id nodes c.forget.new.self.marks c.forget.ensures.some.marks);
-    }
+    some_without c.args.id c.remove-node.result nodes c.remove-node.new.self.nodes (is_unblocked nodes) c.forget.new.self c.self.invariant.0.graph c.remove-node.ensures.node c.remove-node.ensures.nodes (c.forget.ensures.ids (is_unblocked nodes) c.self.invariant.0.unblocked_are) c.forget.ensures.some
 
 pub invariant_of-self : goal.invariant_of-self
 invariant_of-self c =
@@ -49,8 +40,11 @@ invariant_of-self c =
     let node : Node = record { id = c.node.inside.id; task = c.node.inside.task; set = c.node.inside.set; running = c.node.inside.running } in
     let is : node_at nodes c.args.id ≡ Some node = c.remove-node.ensures.node ∙ ap (λ (n : Node). Some n) (sym c.node.view_is) in
     let now : c.remove-node.new.self.nodes ≡ without c.args.id nodes = c.remove-node.ensures.nodes in
-    let left = select_left nodes (is_unblocked nodes) c.args.id c.forget.new.self.ids (c.forget.ensures.ids (is_unblocked nodes) c.self.invariant.0.unblocked_are) in
-    let others = subst (λ (l : List Node). AreSelected l (is_unblocked nodes) c.forget.new.self.ids) (sym now) left in
+    let after : List Node = c.remove-node.new.self.nodes in
+    let forgets = c.forget.ensures.ids (is_unblocked nodes) c.self.invariant.0.unblocked_are in
+    let left = select_left nodes (is_unblocked nodes) c.args.id (listed_in nodes c.forget.new.self) forgets in
+    let same = listed_without c.args.id c.remove-node.result nodes after (is_unblocked nodes) c.forget.new.self c.self.invariant.0.graph c.remove-node.ensures.node now forgets in
+    let others = subst (λ (l : List Node). AreSelected l (is_unblocked nodes) (listed_in after c.forget.new.self)) (sym now) (same ∙ left) in
     let spare = c.self.invariant.2 in
     let fewer = ap length now in
     let one = length-without c.args.id nodes c.remove-node.result c.self.invariant.0.graph c.remove-node.ensures.node in
@@ -58,15 +52,14 @@ invariant_of-self c =
       record {
         graph = c.remove-node.ensures.graph;
         filed = subst (λ (l : List Node). AreFiled l c.leave.new.self.locations.items) (sym now) c.leave.ensures.filed;
-        unblocked_are = settled_without c.args.id node nodes c.remove-node.new.self.nodes c.refresh_fronts.new.self.ids c.self.invariant.0.graph is now (c.refresh_fronts.ensures.ids (is_unblocked nodes) others);
-        room = c.refresh_fronts.ensures.some.room;
-        marks = c.refresh_fronts.ensures.some.marks;
+        some = c.refresh_fronts.ensures.some;
+        unblocked_are = settled_without c.args.id node nodes after (listed_in after c.refresh_fronts.new.self) c.self.invariant.0.graph is now (c.refresh_fronts.ensures.ids (is_unblocked nodes) others);
       },
       subst (λ (l : List Node). IsOrder l c.leave_order.new.order) (sym now) c.leave_order.ensures.order,
       record {
         places = omega (arith, spare.places, c.leave_order.ensures.places c.self.inside.nodes.numbers c.remove-node.new.self.numbers c.remove-node.ensures.numbers);
         numbers = omega (arith, spare.numbers, numbers);
-        marks = omega (arith, spare.marks, fewer, one, c.self.invariant.0.room, c.forget.ensures.room, c.refresh_fronts.ensures.room);
+        marks = omega (arith, spare.marks, fewer, one, c.self.invariant.0.some.room, c.forget.ensures.room, c.refresh_fronts.ensures.room);
       },
     )
 
@@ -89,4 +82,4 @@ returns-clause-marks c =
     let fewer = ap length c.remove-node.ensures.nodes in
     let one = length-without c.args.id c.self.inside.nodes.nodes c.remove-node.result c.self.invariant.0.graph c.remove-node.ensures.node in
     let was = ap (λ (stock : NodeStock). stock.marks) c.self.view_is in
-    omega (arith, fewer, one, was, c.self.invariant.0.room, c.forget.ensures.room, c.refresh_fronts.ensures.room)
+    omega (arith, fewer, one, was, c.self.invariant.0.some.room, c.forget.ensures.room, c.refresh_fronts.ensures.room)

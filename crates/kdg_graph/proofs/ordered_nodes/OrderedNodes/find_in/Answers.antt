@@ -14,7 +14,7 @@ returns-in-Ok c =
     let nodes : List Node = nodes_of slots in
     let ids : c.args.order.now.ids.items ≡ ids_of nodes = c.requires ∙ ap (λ (shelf : NodeShelf). ids_of shelf.nodes) (sym c.self.view_is) in
     let lane : IsLane slots nodes c.args.order.now.ids.items = record { stored = c.self.invariant.stored; ids_are = ids; ascending = c.self.invariant.graph.ascending } in
-    c.get.ensures
+    c.get.ensures.id
     ∙ id_found_at c.args.key.now nodes c.args.order.now.ids.items c.in-Ok.place c.self.invariant.graph.ascending ids (c.in-Ok.ensures.found nodes lane)
     ∙ ap (λ (shelf : NodeShelf). option_map (λ (node : Node). node.id) (node_with_key shelf.nodes c.args.key.now)) c.self.view_is
 

@@ -4,7 +4,7 @@ use Rattle.std.specs.List.{AllByRecursion}
 use Rattle.kdg_graph.specs.Fronts.{fronts_after}
 use Rattle.kdg_graph.specs.Node.{Node}
 use Rattle.kdg_graph.specs.Nodes.{ids_of, node_at}
-use Rattle.kdg_graph.specs.Selected.{AreSelected, forgotten}
+use Rattle.kdg_graph.specs.Selected.{AreSelected, forgotten, listed_in}
 use Rattle.kdg_graph.proofs.Fronts.{fronts_are_nodes}
 use Rattle.kdg_graph.proofs.Selecting.{forgotten_failing, found_node}
 use Rattle.kdg_graph.proofs.source_lane.SourceLane.forget_behind.Goals as goal
@@ -15,7 +15,7 @@ returns-then-not-blocks_none-clause-ids c test selected =
     let node : Node = record { id = c.node.inside.id; task = c.node.inside.task; set = c.node.inside.set; running = c.node.inside.running } in
     let found : node_at nodes c.args.id ≡ Some node = c.entry-node.ensures ∙ ap (λ (n : Node). Some n) (sym c.node.view_is) in
     subst (λ (o : Option Node). IfSome o (λ (n : Node). (c.args.blocks_none ≡ true → AllByRecursion (λ other. test other ≡ false) (fronts_after n.set n.task.key nodes))
-    → AreSelected nodes (forgotten (ids_of (fronts_after n.set n.task.key nodes)) test) c.forget_fronts.new.self.ids)) (sym found) (λ _. c.forget_fronts.ensures.ids test selected)
+    → AreSelected nodes (forgotten (ids_of (fronts_after n.set n.task.key nodes)) test) (listed_in c.args.nodes.now.nodes c.forget_fronts.new.self))) (sym found) (λ _. c.forget_fronts.ensures.ids test selected)
 
 pub returns-else-not-blocks_none-clause-ids : goal.returns-else-not-blocks_none-clause-ids
 returns-else-not-blocks_none-clause-ids c test selected =
@@ -23,5 +23,5 @@ returns-else-not-blocks_none-clause-ids c test selected =
     let found = found_node nodes c.args.id c.requires.there in
     let front : List Node = fronts_after found.0.set found.0.task.key nodes in
     subst (λ (o : Option Node). IfSome o (λ (n : Node). (c.args.blocks_none ≡ true → AllByRecursion (λ other. test other ≡ false) (fronts_after n.set n.task.key nodes))
-    → AreSelected nodes (forgotten (ids_of (fronts_after n.set n.task.key nodes)) test) c.args.self.now.ids)) (sym found.1)
-    (λ fail. forgotten_failing nodes front test c.args.self.now.ids c.requires.graph (fronts_are_nodes found.0.set found.0.task.key nodes) (fail c.if-not-blocks_none.false) selected)
+    → AreSelected nodes (forgotten (ids_of (fronts_after n.set n.task.key nodes)) test) (listed_in c.args.nodes.now.nodes c.args.self.now))) (sym found.1)
+    (λ fail. forgotten_failing nodes front test (listed_in c.args.nodes.now.nodes c.args.self.now) c.requires.graph (fronts_are_nodes found.0.set found.0.task.key nodes) (fail c.if-not-blocks_none.false) selected)

@@ -1,67 +1,129 @@
-use Rattle.std.proofs.Common.{◌≡◌, ◌∙◌, ◌<◌, ◌∷◌, [], Bool, true, false, List, ap, length, subst, sym, arith}
-use Rattle.std.specs.List.{filter}
+use Rattle.std.proofs.Common.{◌≡◌, ◌∙◌, ◌∷◌, [], ◌++◌, ◌||◌, ◌<◌, Bool, true, false, not, cond, List, ap, length, subst, sym, refl, arith}
+use Rattle.std.specs.List.{AllByRecursion}
 use Rattle.std.proofs.lemmas.List.{length-set}
+use denote.Enum.Bare.{sameb}
+use Rattle.kdg_graph.specs.contracts.source_lane.Standing.{the_type}
+use Rattle.kdg_graph.specs.declared.arrival.Arrival.{Arrival}
 use Rattle.kdg_graph.specs.declared.node_id.NodeId.{NodeId}
+use Rattle.kdg_graph.specs.declared.source_lane.Standing.{Standing}
+use Rattle.kdg_graph.specs.declared.source_lane.Standing.TheVariants.{Absent, Settled, Recent}
 use Rattle.kdg_graph.specs.Node.{Node}
-use Rattle.kdg_graph.specs.Nodes.{ids_of, node_at, put_node}
-use Rattle.kdg_graph.specs.Selected.{AreSelected, HaveMarks, MarkedIds, retested}
-use Rattle.kdg_graph.proofs.LookUps.{ids_find_nodes}
-use Rattle.kdg_graph.proofs.Marking.{marked_in}
-use Rattle.kdg_graph.proofs.Members.{all_at, in_map}
-use Rattle.kdg_graph.proofs.Selecting.{at_some, found_node, has_room, known_answer, listed_selected, put_in_place, some_of_lane}
+use Rattle.kdg_graph.specs.Selected.{AreSome, HaveMarks, IsArrival, MarkedIds, arrived, has_number, ids_in, is_recent, is_settled}
+use Rattle.kdg_graph.proofs.Listing.{has_either, has_mark, in_order_putting, room_for_one, selected_set, set_by_putting}
+use Rattle.kdg_graph.proofs.Marking.{IsSetIn, marked_set, set_as_it_is, set_by_arrival, set_in_either}
 use Rattle.kdg_graph.proofs.source_lane.SourceLane.list.Goals as goal
 
-pub put_into-requires-clause-room : goal.put_into-requires-clause-room
-put_into-requires-clause-room c =
-    let nodes : List Node = c.args.nodes.now.nodes in
-    let test : Node → Bool = c.requires.some.test in
-    let found = found_node nodes c.args.id c.requires.there in
-    let out : test found.0 ≡ false = sym (listed_selected nodes test c.args.self.now.ids c.args.id found.0 c.requires.graph found.1 c.requires.some.selected) ∙ sym c.is_listed.ensures ∙ c.if-not-is_listed.true in
-    let room = has_room nodes c.args.id found.0 c.args.self.now.ids test c.args.self.now.room c.requires.graph found.1 out c.requires.some.selected c.requires.some.room in
-    omega (arith, room, ap (λ (some : MarkedIds). length some.ids) c.self.view_is, ap (λ (some : MarkedIds). some.room) c.self.view_is)
+-- what stands somewhere is in one of the lists
+somewhere : (standing : Standing) → not (sameb the_type standing Absent) ≡ (is_settled standing || is_recent standing)
+somewhere Absent = refl
+somewhere Settled = refl
+somewhere Recent = refl
+
+neither : (standing : Standing) (is settled recent : Bool) → is ≡ not (sameb the_type standing Absent) → is ≡ false → is_settled standing ≡ settled → is_recent standing ≡ recent → (settled ≡ false) × (recent ≡ false)
+neither Absent is settled recent tests fails one other = (sym one, sym other)
+neither Settled is settled recent tests fails one other = cc
+neither Recent is settled recent tests fails one other = cc
+
+-- what a push leaves, by what was told of it
+pushed_as_told : (all more less : List Arrival) (ok told answer : Bool) → all ≡ cond ok more less → told ≡ ok → told ≡ answer → all ≡ cond answer more less
+pushed_as_told all more less ok told answer is tells answers = is ∙ ap (λ b. cond b more less) (sym tells ∙ answers)
+
+-- ---- it is there
+
+pub returns-then-ne-clause-ids : goal.returns-then-ne-clause-ids
+returns-then-ne-clause-ids c test was =
+    let has = has_either c.args.self.now c.args.id.at ∙ (λ i. sym c.standing.ensures.settled i || sym c.standing.ensures.recent i) ∙ sym (somewhere c.standing.result) ∙ sym c.ne.ensures ∙ c.if-ne.true in
+    selected_set c.args.nodes.now.nodes test c.args.id true (ids_in c.args.self.now) (ids_in c.args.self.now) c.requires.graph (set_as_it_is c.args.id (ids_in c.args.self.now) true has) was
+
+-- ---- it waits
 
 pub index_mut-requires : goal.index_mut-requires
 index_mut-requires c =
     let nodes : List Node = c.args.nodes.now.nodes in
-    let found = found_node nodes c.args.id c.requires.there in
-    let is_node = ids_find_nodes nodes c.args.id found.0 found.1 in
-    let inside : found.0.id.at < c.args.self.now.marks = all_at (λ (id : NodeId). id.at < c.args.self.now.marks) (ids_of nodes) found.0.id c.requires.some.marks (in_map (λ (n : Node). n.id) nodes found.0 is_node.0) in
-    omega (arith, c.self.inside.listed.ok.0, inside, ap (λ (id : NodeId). id.at) is_node.1, ap (λ (some : MarkedIds). some.marks) c.self.view_is)
+    let some = subst (AreSome nodes) (sym c.self.view_is) c.requires.some in
+    omega (arith, c.self.inside.standings.ok.0, has_mark nodes c.args.id (length c.self.inside.standings.items) c.requires.there some.marks)
+
+came : (c : goal.After-self-1) → IsSetIn false c.args.id c.self.inside.settled.ids.items c.self.inside.settled.ids.items × IsSetIn true c.args.id (arrived c.self.inside.arrivals.items) (arrived c.push.new.self.items)
+came c =
+    let id : NodeId = c.args.id in
+    let recent : List Arrival = c.self.inside.arrivals.items in
+    let lacks = neither c.standing.result c.ne.result _ _ c.ne.ensures c.if-ne.false c.standing.ensures.settled c.standing.ensures.recent in
+    let pushed : c.push.new.self.items ≡ recent ++ c.arrival.result ∷ [] = pushed_as_told _ _ _ _ _ true c.push.ensures.items c.is_ok.ensures.value c.if-is_ok.true in (
+      set_as_it_is id c.self.inside.settled.ids.items false (ap (λ (marked : MarkedIds). has_number id.at marked.ids) c.self.view_is ∙ lacks.0),
+      subst (λ (l : List Arrival). IsSetIn true id (arrived recent) (arrived l)) (sym pushed) (set_by_arrival recent c.arrival.result id c.arrival.ensures.id),
+    )
 
 pub invariant_of-self : goal.invariant_of-self
 invariant_of-self c =
     let nodes : List Node = c.args.nodes.now.nodes in
-    let test : Node → Bool = c.requires.some.test in
-    let ids : List NodeId = c.self.inside.lane.ids.items in
-    let some : List Node = filter test nodes in
-    let found = found_node nodes c.args.id c.requires.there in
-    let is_node = ids_find_nodes nodes c.args.id found.0 found.1 in
-    let inside : found.0.id.at < c.args.self.now.marks = all_at (λ (id : NodeId). id.at < c.args.self.now.marks) (ids_of nodes) found.0.id c.requires.some.marks (in_map (λ (n : Node). n.id) nodes found.0 is_node.0) in
-    let within : c.args.id.at < length c.self.inside.listed.items = omega (arith, inside, ap (λ (id : NodeId). id.at) is_node.1, ap (λ (some : MarkedIds). some.marks) c.self.view_is) in
-    let selected : AreSelected nodes test ids = ap (λ (some : MarkedIds). some.ids) c.self.view_is ∙ c.requires.some.selected in
-    let put = at_some (λ (n : Node). c.put_into.new.lane.ids.items ≡ ids_of (put_node n some)) (node_at nodes c.args.id) found.0 found.1 (c.put_into.ensures.ids some (some_of_lane nodes test ids c.requires.graph.ascending selected)) in
-    marked_in c.self.inside.listed.items ids c.put_into.new.lane.ids.items c.args.id found.0 some c.self.invariant selected put is_node.1 within
+    let ids : List NodeId = c.self.inside.settled.ids.items in
+    let standings : List Standing = c.self.inside.standings.items in
+    let some = subst (AreSome nodes) (sym c.self.view_is) c.requires.some in
+    let inside : c.args.id.at < length standings = has_mark nodes c.args.id (length standings) c.requires.there some.marks in
+    marked_set standings ids ids c.self.inside.arrivals.items c.push.new.self.items c.args.id Recent c.self.invariant inside (came c).0 (came c).1
 
-pub returns-then-not-is_listed-clause-ids : goal.returns-then-not-is_listed-clause-ids
-returns-then-not-is_listed-clause-ids c test was =
+pub returns-then-is_ok-clause-ids : goal.returns-then-is_ok-clause-ids
+returns-then-is_ok-clause-ids c test was =
+    let ids : List NodeId = c.self.inside.settled.ids.items in
+    let waiting : List NodeId = arrived c.push.new.self.items in
+    let both = set_in_either false true c.args.id ids ids (arrived c.self.inside.arrivals.items) waiting (came c).0 (came c).1 in
+    selected_set c.args.nodes.now.nodes test c.args.id true (ids_in c.args.self.now) (ids ++ waiting) c.requires.graph (subst (λ (marked : MarkedIds). IsSetIn true c.args.id (ids_in marked) (ids ++ waiting)) c.self.view_is both) was
+
+-- ---- it comes to its place at once
+
+pub put_into-requires-clause-room : goal.put_into-requires-clause-room
+put_into-requires-clause-room c =
     let nodes : List Node = c.args.nodes.now.nodes in
-    let ids : List NodeId = c.self.inside.lane.ids.items in
-    let found = found_node nodes c.args.id c.requires.there in
-    let out : test found.0 ≡ false = sym (listed_selected nodes test c.args.self.now.ids c.args.id found.0 c.requires.graph found.1 was) ∙ sym c.is_listed.ensures ∙ c.if-not-is_listed.true in
-    let selected : AreSelected nodes test ids = ap (λ (some : MarkedIds). some.ids) c.self.view_is ∙ was in
-    put_in_place nodes c.args.id found.0 ids c.put_into.new.lane.ids.items test c.requires.graph found.1 out selected c.put_into.ensures.ids
+    let ids : List NodeId = c.self.inside.settled.ids.items in
+    let some = subst (AreSome nodes) (sym c.self.view_is) c.requires.some in
+    let lacks = neither c.standing.result c.ne.result _ _ c.ne.ensures c.if-ne.false c.standing.ensures.settled c.standing.ensures.recent in
+    room_for_one nodes c.args.id ids c.self.inside.settled.ids.capacity c.requires.graph c.requires.there some.in_order (ap (λ (marked : MarkedIds). has_number c.args.id.at marked.ids) c.self.view_is ∙ lacks.0) some.room
 
-pub returns-then-not-is_listed-clause-some : goal.returns-then-not-is_listed-clause-some
-returns-then-not-is_listed-clause-some c = record {
-  test = retested (λ _. true) (c.args.id ∷ []) c.requires.some.test;
-  selected = returns-then-not-is_listed-clause-ids c c.requires.some.test c.requires.some.selected;
-  room = omega (arith, c.requires.some.room, ap (λ (some : MarkedIds). some.room) c.self.view_is, c.put_into.ensures.room);
-  marks = subst (HaveMarks c.args.nodes.now.nodes) (ap (λ (some : MarkedIds). some.marks) (sym c.self.view_is) ∙ sym (length-set c.self.inside.listed.items c.args.id.at true)) c.requires.some.marks;
-}
-
-pub returns-else-not-is_listed-clause-ids : goal.returns-else-not-is_listed-clause-ids
-returns-else-not-is_listed-clause-ids c test selected =
+pub index_mut-requires-else-is_ok : goal.index_mut-requires-else-is_ok
+index_mut-requires-else-is_ok c =
     let nodes : List Node = c.args.nodes.now.nodes in
-    let found = found_node nodes c.args.id c.requires.there in
-    let is_in : test found.0 ≡ true = sym (listed_selected nodes test c.args.self.now.ids c.args.id found.0 c.requires.graph found.1 selected) ∙ sym c.is_listed.ensures ∙ c.if-not-is_listed.false in
-    selected ∙ ap ids_of (known_answer nodes c.args.id found.0 (λ _. true) test c.requires.graph found.1 is_in)
+    let some = subst (AreSome nodes) (sym c.self.view_is) c.requires.some in
+    omega (arith, c.self.inside.standings.ok.0, has_mark nodes c.args.id (length c.self.inside.standings.items) c.requires.there some.marks)
+
+unpushed : (c : goal.After-self-else-is_ok-1) → c.push.new.self.items ≡ c.self.inside.arrivals.items
+unpushed c = pushed_as_told _ _ _ _ _ false c.push.ensures.items c.is_ok.ensures.value c.if-is_ok.false
+
+put : (c : goal.After-self-else-is_ok-1) → IsSetIn true c.args.id c.self.inside.settled.ids.items c.put_into.new.lane.ids.items × IsSetIn false c.args.id (arrived c.self.inside.arrivals.items) (arrived c.push.new.self.items)
+put c =
+    let nodes : List Node = c.args.nodes.now.nodes in
+    let id : NodeId = c.args.id in
+    let recent : List Arrival = c.self.inside.arrivals.items in
+    let some = subst (AreSome nodes) (sym c.self.view_is) c.requires.some in
+    let lacks = neither c.standing.result c.ne.result _ _ c.ne.ensures c.if-ne.false c.standing.ensures.settled c.standing.ensures.recent in (
+      set_by_putting nodes id c.self.inside.settled.ids.items c.put_into.new.lane.ids.items c.requires.graph c.requires.there some.in_order c.put_into.ensures.ids,
+      subst (λ (l : List Arrival). IsSetIn false id (arrived recent) (arrived l)) (sym (unpushed c)) (set_as_it_is id (arrived recent) false (ap (λ (marked : MarkedIds). has_number id.at (arrived marked.recent)) c.self.view_is ∙ lacks.1)),
+    )
+
+pub invariant_of-self-else-is_ok : goal.invariant_of-self-else-is_ok
+invariant_of-self-else-is_ok c =
+    let nodes : List Node = c.args.nodes.now.nodes in
+    let standings : List Standing = c.self.inside.standings.items in
+    let some = subst (AreSome nodes) (sym c.self.view_is) c.requires.some in
+    let inside : c.args.id.at < length standings = has_mark nodes c.args.id (length standings) c.requires.there some.marks in
+    marked_set standings c.self.inside.settled.ids.items c.put_into.new.lane.ids.items c.self.inside.arrivals.items c.push.new.self.items c.args.id Settled c.self.invariant inside (put c).0 (put c).1
+
+pub returns-else-is_ok-clause-ids : goal.returns-else-is_ok-clause-ids
+returns-else-is_ok-clause-ids c test was =
+    let ids : List NodeId = c.put_into.new.lane.ids.items in
+    let waiting : List NodeId = arrived c.push.new.self.items in
+    let both = set_in_either true false c.args.id c.self.inside.settled.ids.items ids (arrived c.self.inside.arrivals.items) waiting (put c).0 (put c).1 in
+    selected_set c.args.nodes.now.nodes test c.args.id true (ids_in c.args.self.now) (ids ++ waiting) c.requires.graph (subst (λ (marked : MarkedIds). IsSetIn true c.args.id (ids_in marked) (ids ++ waiting)) c.self.view_is both) was
+
+pub returns-else-is_ok-clause-some : goal.returns-else-is_ok-clause-some
+returns-else-is_ok-clause-some c =
+    let nodes : List Node = c.args.nodes.now.nodes in
+    let ids : List NodeId = c.self.inside.settled.ids.items in
+    let some = subst (AreSome nodes) (sym c.self.view_is) c.requires.some in
+    let lacks = neither c.standing.result c.ne.result _ _ c.ne.ensures c.if-ne.false c.standing.ensures.settled c.standing.ensures.recent in
+    let absent : has_number c.args.id.at ids ≡ false = ap (λ (marked : MarkedIds). has_number c.args.id.at marked.ids) c.self.view_is ∙ lacks.0 in
+    record {
+      in_order = in_order_putting nodes c.args.id ids c.put_into.new.lane.ids.items c.requires.graph c.requires.there some.in_order absent c.put_into.ensures.ids;
+      recent = subst (AllByRecursion (IsArrival nodes)) (sym (unpushed c)) some.recent;
+      room = omega (arith, some.room, c.put_into.ensures.room);
+      marks = subst (HaveMarks nodes) (sym (length-set c.self.inside.standings.items c.args.id.at Settled)) some.marks;
+    }

@@ -10,7 +10,7 @@ use Rattle.kdg_graph.specs.Nodes.{ids_of}
 use Rattle.kdg_graph.specs.Fronts.{fronts_after}
 use Rattle.kdg_graph.specs.Lanes.{IsRankPast}
 use Rattle.kdg_graph.specs.Locations.{clashing_at}
-use Rattle.kdg_graph.specs.Selected.{AreSelected, is_unblocked, refreshed}
+use Rattle.kdg_graph.specs.Selected.{AreSelected, is_unblocked, listed_in, refreshed}
 use Rattle.kdg_graph.proofs.Members.{all_at}
 use Rattle.kdg_graph.proofs.Selecting.{fronts_done}
 use Rattle.kdg_graph.proofs.source_lane.SourceLane.refresh_fronts.Goals as goal
@@ -30,7 +30,7 @@ loop-pair-preserved c =
     let nodes : List Node = c.args.nodes.now.nodes in
     record {
       ids = λ test selected.
-          fronts_done (is_unblocked nodes) nodes c.items-pair-items.result.now c.args.set.now c.args.key.now c.loop-pair.pair-index (0, Read) test c.refresh_front.new.self.ids c.items-pair-items.ensures.all c.loop-pair-test.true
+          fronts_done (is_unblocked nodes) nodes c.items-pair-items.result.now c.args.set.now c.args.key.now c.loop-pair.pair-index (0, Read) test (listed_in c.args.nodes.now.nodes c.refresh_front.new.self) c.items-pair-items.ensures.all c.loop-pair-test.true
           (c.refresh_front.ensures.ids (refreshed nodes (ids_of (fronts_after (take c.loop-pair.pair-index c.args.set.now) c.args.key.now nodes)) test) (c.loop-pair.invariant.ids test selected));
       some = c.refresh_front.ensures.some;
       room = omega (arith, c.loop-pair.invariant.room, c.refresh_front.ensures.room);
@@ -41,4 +41,4 @@ pub returns-clause-ids : goal.returns-clause-ids
 returns-clause-ids c test selected =
     let nodes : List Node = c.args.nodes.now.nodes in
     let whole = take_all c.loop-pair.pair-index c.args.set.now (omega (arith, c.loop-pair-test.false, ap length c.items-pair-items.ensures.all)) in
-    subst (λ (s : Accesses). AreSelected nodes (refreshed nodes (ids_of (fronts_after s c.args.key.now nodes)) test) c.loop-pair.self.ids) whole (c.loop-pair.invariant.ids test selected)
+    subst (λ (s : Accesses). AreSelected nodes (refreshed nodes (ids_of (fronts_after s c.args.key.now nodes)) test) (listed_in c.args.nodes.now.nodes c.loop-pair.self)) whole (c.loop-pair.invariant.ids test selected)

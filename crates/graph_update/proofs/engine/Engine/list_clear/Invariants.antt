@@ -3,7 +3,7 @@ use Rattle.std.specs.List.{AllByRecursion}
 use Rattle.kdg_graph.specs.Edges.{sources_of}
 use Rattle.kdg_graph.specs.Nodes.{HasNode}
 use Rattle.graph_update.proofs.ClearIds.{safe_ids}
-use Rattle.graph_update.proofs.engine.Engine.find_clear.Given as goal
+use Rattle.graph_update.proofs.engine.Engine.list_clear.Given as goal
 
 -- the safe ones of the sources that were passed, and the sources that are left
 abbrev pub invariant-loop-node : goal.invariant-loop-node

@@ -6,7 +6,7 @@ use Rattle.kdg_graph.specs.Nodes.{HasNode, ids_of}
 use Rattle.graph_update.specs.Events.{clear_nodes}
 use Rattle.graph_update.specs.Progress.{EngineState}
 use Rattle.graph_update.proofs.ClearIds.{clear_are_safe, fit_at, next_passed, safe_at, safe_ids, sources_are_there}
-use Rattle.graph_update.proofs.engine.Engine.find_clear.Goals as goal
+use Rattle.graph_update.proofs.engine.Engine.list_clear.Goals as goal
 
 pub loop-node-init : goal.loop-node-init
 loop-node-init g c =

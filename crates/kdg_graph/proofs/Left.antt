@@ -1,0 +1,267 @@
+-- The nodes that are left behind the one that was looked at last, of those in order and those that came since.
+use Rattle.std.proofs.Common.{◌≡◌, ℕ, zero, suc, ◌+◌, ◌<◌, ◌^◌, ◌==◌, Bool, true, false, not, ◌||◌, ◌&&◌, cond, List, [], ◌∷◌, ◌++◌, drop, get_or, length, take, Option, Some, None, refl, sym, ◌∙◌, ap, subst, arith}
+use Rattle.std.specs.Prelude.{Contains, IfSome, slice_get}
+use Rattle.std.specs.Int.{from_bool}
+use Rattle.std.specs.List.{AllByRecursion, filter}
+use Rattle.std.specs.Option.{option_eq}
+use Rattle.std.specs.Ordering.{is_lt}
+use Rattle.std.proofs.lemmas.Bool.{false_from_ne_true, true≢false}
+use Rattle.std.proofs.lemmas.List.{append_assoc, map-append, take_more}
+use Rattle.std.proofs.lemmas.List.Elements.{Contains-get_or}
+use Rattle.std.proofs.Math.Bool.{and_assoc, and-true}
+use Rattle.std.proofs.lemmas.Option.{get_or_from_slice_get, slice_get_within}
+use Rattle.task_order.specs.Key.{key_cmp_total}
+use Rattle.task_order.specs.TaskList.{IsAscending}
+use Rattle.kdg_graph.specs.declared.arrival.Arrival.{Arrival}
+use Rattle.kdg_graph.specs.declared.node_id.NodeId.{NodeId}
+use Rattle.kdg_graph.specs.Lanes.{is_id, is_id_at}
+use Rattle.kdg_graph.specs.Node.{Node}
+use Rattle.kdg_graph.specs.Nodes.{HasNode, IsGraph, ids_of, is_at, least_of, node_at, tasks_of}
+use Rattle.kdg_graph.specs.Selected.{AreLeft, IsArrival, IsInOrder, IsLeft, MarkedIds, arrived, ids_in, is_among, is_behind, is_later, is_left, left_in, listed_in, not_running, unblocked_of}
+use Rattle.kdg_graph.proofs.Blocking.{any_from}
+use Rattle.kdg_graph.proofs.Filtered.{ascending_filtered, dropped, filter_twice, kept, same_filter}
+use Rattle.kdg_graph.proofs.Fronting.{some_first}
+use Rattle.kdg_graph.proofs.LookUps.{nodes_have_ids}
+use Rattle.kdg_graph.proofs.Members.{all_at, from_filter, here}
+use Rattle.kdg_graph.proofs.Neighbours.{found_some, same_found}
+use Rattle.kdg_graph.proofs.Ordered.{first_unblocked}
+use Rattle.kdg_graph.proofs.Ordering.{Less_from_test, all_later, filter-all, not_itself}
+use Rattle.kdg_graph.proofs.Pasts.{is_past}
+use Rattle.kdg_graph.proofs.Places.{is_at-same, same_id}
+use Rattle.kdg_graph.proofs.Running.{runs_as_found}
+use Rattle.kdg_graph.proofs.Selecting.{among_append}
+use Rattle.kdg_graph.proofs.Sought.{id_at, inside_at}
+
+-- ---- the first that passes a test
+
+-- it is a node of the graph
+pub least_there : (nodes : List Node) (p : Node → Bool) (found : Option NodeId) → IsGraph nodes → found ≡ least_of (filter p nodes) → IfSome found (HasNode nodes)
+least_there nodes p None graph is = tt
+least_there nodes p (Some id) graph is =
+    let first = some_first (filter p nodes) id (sym is) in
+    found_some nodes id first.0 graph (from_filter p nodes first.0 (subst (λ (l : List Node). Contains l first.0) (sym first.2) (here first.0 first.1))).0 first.3
+
+-- a node that passes is the first of those with its id that do
+pub only_at : (nodes : List Node) (id : NodeId) (node : Node) (test : Node → Bool) → node_at nodes id ≡ Some node → test node ≡ true → Some id ≡ least_of (filter (λ n. is_at id n && test n) nodes)
+only_at [] id node test found passes = cc
+only_at (first ∷ nodes) id node test found passes =
+    let by_case : (at : Bool) → is_at id first ≡ at → cond at (Some first) (node_at nodes id) ≡ Some node → Some id ≡ least_of (filter (λ n. is_at id n && test n) (first ∷ nodes)) = elim [
+      | true ↦ λ at is.
+          let same : first ≡ node = cc in
+          sym (ap least_of (kept (λ n. is_at id n && test n) first nodes (ap (λ b. b && test first) at ∙ ap test same ∙ passes)) ∙ ap (λ (i : NodeId). Some i) (same_id id first at))
+      | false ↦ λ at is. only_at nodes id node test is passes ∙ sym (ap least_of (dropped (λ n. is_at id n && test n) first nodes (ap (λ b. b && test first) at)))
+    ] in
+    by_case (is_at id first) refl found
+
+-- ---- one arrival more
+
+-- it is a node of the graph
+pub arrival_there : (nodes : List Node) (recent items : List Arrival) (i : ℕ) (d : Arrival) → IsGraph nodes → AllByRecursion (IsArrival nodes) recent → items ≡ recent → i < length items → HasNode nodes (get_or items i d).id
+arrival_there nodes recent items i d graph all same inside =
+    let arrival : IsArrival nodes (get_or items i d) = all_at (IsArrival nodes) items (get_or items i d) (subst (AllByRecursion (IsArrival nodes)) (sym same) all) (Contains-get_or items i d inside) in
+    found_some nodes (get_or items i d).id arrival.node graph arrival.there arrival.id_is
+
+-- its id stands last
+pub arrived_more : (ids : List NodeId) (recent : List Arrival) (i : ℕ) (d : Arrival) → i < length recent → ids ++ arrived (take (i + 1) recent) ≡ (ids ++ arrived (take i recent)) ++ (get_or recent i d).id ∷ []
+arrived_more ids recent i d inside =
+    ap (λ (l : List Arrival). ids ++ arrived l) (take_more recent i d inside)
+    ∙ ap (λ l. ids ++ l) (map-append (λ (arrival : Arrival). arrival.id) (take i recent) (get_or recent i d ∷ []))
+    ∙ sym (append_assoc ids (arrived (take i recent)) ((get_or recent i d).id ∷ []))
+
+-- where its node is left, that is left besides the others
+pub one_more : (nodes : List Node) (ids : List NodeId) (last : Option NodeId) (id : NodeId) → filter (λ node. is_left nodes ids last node || (is_at id node && is_behind nodes last node)) nodes ≡ filter (is_left nodes (ids ++ id ∷ []) last) nodes
+one_more nodes ids last id =
+    same_filter (λ node. is_left nodes ids last node || (is_at id node && is_behind nodes last node)) (is_left nodes (ids ++ id ∷ []) last) nodes (λ node _.
+    by_tests (is_among ids node) (is_at id node) (is_behind nodes last node) ∙ sym (ap (λ b. b && is_behind nodes last node) (among_append ids (id ∷ []) node)))
+  where
+    by_tests : (among at behind : Bool) → ((among && behind) || (at && behind)) ≡ ((among || (at || false)) && behind)
+    by_tests true at true = refl
+    by_tests true true false = refl
+    by_tests true false false = refl
+    by_tests false true true = refl
+    by_tests false true false = refl
+    by_tests false false behind = refl
+
+-- where it isn't, nothing more is left
+pub none_more : (nodes : List Node) (ids : List NodeId) (last : Option NodeId) (id : NodeId) (node : Node) → IsGraph nodes → node_at nodes id ≡ Some node → is_behind nodes last node ≡ false → filter (is_left nodes ids last) nodes ≡ filter (is_left nodes (ids ++ id ∷ []) last) nodes
+none_more nodes ids last id node graph found passed =
+    same_filter (is_left nodes ids last) (is_left nodes (ids ++ id ∷ []) last) nodes (λ other has.
+    by_tests (is_among ids other) (is_at id other) (is_behind nodes last other) (λ at. ap (is_behind nodes last) (same_found nodes id node other graph has (same_id id other at) found) ∙ passed)
+    ∙ sym (ap (λ b. b && is_behind nodes last other) (among_append ids (id ∷ []) other)))
+  where
+    by_tests : (among at behind : Bool) → (at ≡ true → behind ≡ false) → (among && behind) ≡ ((among || (at || false)) && behind)
+    by_tests true at behind none = refl
+    by_tests false true behind none = sym (none refl)
+    by_tests false false behind none = refl
+
+-- ---- behind the first
+
+-- the others that pass are those that pass and are later
+rest_behind : (p q : Node → Bool) (nodes : List Node) (head : Node) (rest : List Node) → IsAscending (tasks_of nodes) → filter p nodes ≡ head ∷ rest → ((node : Node) → q node ≡ (p node && is_past head.task.key node)) → filter q nodes ≡ rest
+rest_behind p q nodes head rest up is same =
+    let later : Node → Bool = is_past head.task.key in
+    let up_found : IsAscending (tasks_of (head ∷ rest)) = subst (λ (l : List Node). IsAscending (tasks_of l)) is (ascending_filtered p nodes up) in
+    same_filter q (λ node. p node && later node) nodes (λ node _. same node)
+    ∙ sym (filter_twice later p nodes) ∙ ap (filter later) is ∙ dropped later head rest (not_itself head.task.key) ∙ filter-all later rest (all_later head.task.key rest up_found.0)
+
+-- what is later than a node that is behind another is behind it too
+later_still : (nodes : List Node) (last : Option NodeId) (head node : Node) → is_behind nodes last head ≡ true → is_past head.task.key node ≡ true → is_behind nodes last node ≡ true
+later_still nodes None head node behind past = refl
+later_still nodes (Some id) head node behind past = by_found (node_at nodes id) behind
+  where
+    by_found : (found : Option Node) → is_later found head ≡ true → is_later found node ≡ true
+    by_found None behind = refl
+    by_found (Some other) behind = ap is_lt (key_cmp_total.trans other.task.key head.task.key node.task.key (Less_from_test _ behind) (Less_from_test _ past))
+
+-- a test that another implies
+both_tests : (behind past : Bool) → (past ≡ true → behind ≡ true) → past ≡ (behind && past)
+both_tests behind true is = sym (ap (λ b. b && true) (is refl))
+both_tests true false is = refl
+both_tests false false is = refl
+
+-- behind the first that is left are the others that are
+left_behind : (nodes : List Node) (ids : List NodeId) (last : Option NodeId) (id : NodeId) (head : Node) (rest : List Node) → IsGraph nodes → node_at nodes id ≡ Some head → filter (is_left nodes ids last) nodes ≡ head ∷ rest → filter (is_left nodes ids (Some id)) nodes ≡ rest
+left_behind nodes ids last id head rest graph found is =
+    let passes : is_left nodes ids last head ≡ true = (from_filter (is_left nodes ids last) nodes head (subst (λ (l : List Node). Contains l head) (sym is) (here head rest))).1 in
+    let behind : is_behind nodes last head ≡ true = second (is_among ids head) (is_behind nodes last head) passes in
+    rest_behind (is_left nodes ids last) (is_left nodes ids (Some id)) nodes head rest graph.ascending is (λ node.
+    ap (λ (o : Option Node). is_among ids node && is_later o node) found
+    ∙ ap (λ b. is_among ids node && b) (both_tests (is_behind nodes last node) (is_past head.task.key node) (later_still nodes last head node behind))
+    ∙ sym (and_assoc (is_among ids node) (is_behind nodes last node) (is_past head.task.key node)))
+  where
+    second : (a b : Bool) → (a && b) ≡ true → b ≡ true
+    second true b is = is
+    second false b is = absurd (true≢false (sym is))
+
+-- the first that is left, and its node
+first_left : (nodes : List Node) (ids : List NodeId) (last : Option NodeId) (id : NodeId) → IsGraph nodes → Some id ≡ least_of (filter (is_left nodes ids last) nodes)
+    → (head : Node) × (rest : List Node) × (filter (is_left nodes ids last) nodes ≡ head ∷ rest) × (head.id ≡ id) × (filter (is_left nodes ids (Some id)) nodes ≡ rest)
+first_left nodes ids last id graph is =
+    let first = some_first (filter (is_left nodes ids last) nodes) id (sym is) in
+    let has : Contains nodes first.0 = (from_filter (is_left nodes ids last) nodes first.0 (subst (λ (l : List Node). Contains l first.0) (sym first.2) (here first.0 first.1))).0 in
+    let found : node_at nodes id ≡ Some first.0 = ap (node_at nodes) (sym first.3) ∙ nodes_have_ids nodes first.0 graph has in
+    (first.0, first.1, first.2, first.3, left_behind nodes ids last id first.0 first.1 graph found first.2)
+
+-- it stands before those that are left behind it
+pub left_first : (nodes : List Node) (ids : List NodeId) (last : Option NodeId) (id : NodeId) → IsGraph nodes → Some id ≡ least_of (filter (is_left nodes ids last) nodes) → left_in nodes ids last ≡ id ∷ left_in nodes ids (Some id)
+left_first nodes ids last id graph is =
+    let first = first_left nodes ids last id graph is in
+    ap ids_of first.2 ∙ (λ i. first.3 i ∷ ids_of (sym first.4 i))
+
+-- of those that are not running it is left, unless it runs
+pub seen_next : (nodes : List Node) (ids : List NodeId) (last : Option NodeId) (id : NodeId) (node : Node) (running : Bool) → IsGraph nodes → Some id ≡ least_of (filter (is_left nodes ids last) nodes) → node_at nodes id ≡ Some node → node.running ≡ running
+    → not_running nodes (left_in nodes ids last) ≡ cond (not running) (id ∷ not_running nodes (left_in nodes ids (Some id))) (not_running nodes (left_in nodes ids (Some id)))
+seen_next nodes ids last id node running graph is found test =
+    let behind : List NodeId = not_running nodes (left_in nodes ids (Some id)) in
+    ap (not_running nodes) (left_first nodes ids last id graph is) ∙ ap (λ b. cond (not b) (id ∷ behind) behind) (runs_as_found nodes id node found ∙ test)
+
+-- ---- those in order
+
+-- the list from a place on, by the id there
+first_dropped : (ids : List NodeId) (place : ℕ) (first : NodeId) (rest : List NodeId) → drop place ids ≡ first ∷ rest → (slice_get ids place ≡ Some first) × (drop (suc place) ids ≡ rest)
+first_dropped [] zero first rest is = cc
+first_dropped [] (suc place) first rest is = cc
+first_dropped (id ∷ ids) zero first rest is = (cc, cc)
+first_dropped (id ∷ ids) (suc place) first rest is = first_dropped ids place first rest is
+
+none_there : (ids : List NodeId) (place : ℕ) → drop place ids ≡ [] → slice_get ids place ≡ None
+none_there [] zero is = refl
+none_there [] (suc place) is = refl
+none_there (id ∷ ids) zero is = cc
+none_there (id ∷ ids) (suc place) is = none_there ids place is
+
+-- where those from a place on are the ids of some nodes, the one at the place is that of the first
+first_at : (ids : List NodeId) (place : ℕ) (some : List Node) → drop place ids ≡ ids_of some → slice_get ids place ≡ least_of some
+first_at ids place [] is = none_there ids place is
+first_at ids place (node ∷ some) is = (first_dropped ids place node.id (ids_of some) is).0
+
+-- so the id at the place is that of the first that is left
+pub settled_first : (nodes : List Node) (ids : List NodeId) (place : ℕ) (last : Option NodeId) → IsLeft nodes ids place last → slice_get ids place ≡ least_of (filter (is_left nodes ids last) nodes)
+settled_first nodes ids place last left = first_at ids place (filter (is_left nodes ids last) nodes) left
+
+-- of all that are left they are those among the ids
+left_among : (nodes : List Node) (ids more : List NodeId) (last : Option NodeId) → filter (is_left nodes ids last) nodes ≡ filter (is_among ids) (filter (is_left nodes (ids ++ more) last) nodes)
+left_among nodes ids more last =
+    same_filter (is_left nodes ids last) (λ node. is_left nodes (ids ++ more) last node && is_among ids node) nodes (λ node _.
+    by_tests (is_among ids node) (is_among more node) (is_behind nodes last node) ∙ sym (ap (λ b. (b && is_behind nodes last node) && is_among ids node) (among_append ids more node)))
+    ∙ sym (filter_twice (is_among ids) (is_left nodes (ids ++ more) last) nodes)
+  where
+    by_tests : (among came behind : Bool) → (among && behind) ≡ (((among || came) && behind) && among)
+    by_tests true came true = refl
+    by_tests true came false = refl
+    by_tests false true true = refl
+    by_tests false true false = refl
+    by_tests false false behind = refl
+
+-- an id at a place is among the ids
+not_there : (ids : List NodeId) (place : ℕ) (id : NodeId) (node : Node) → node.id ≡ id → is_among ids node ≡ false → is_id_at id ids place ≡ false
+not_there ids place id node same apart = false_from_ne_true _ (λ here.
+    let at : slice_get ids place ≡ Some id = id_at ids place id here in
+    let has : Contains ids id = (place, slice_get_within ids place id at, get_or_from_slice_get ids place id id at) in
+    true≢false (sym (any_from (λ (other : NodeId). is_at other node) ids id has (is_at-same id node same)) ∙ apart))
+
+-- where the first of all that are left is the one at the place, those behind it begin at the next place
+settled_left : (nodes : List Node) (ids more : List NodeId) (place : ℕ) (last : Option NodeId) (id : NodeId) → IsGraph nodes → IsLeft nodes ids place last → Some id ≡ least_of (filter (is_left nodes (ids ++ more) last) nodes)
+    → IsLeft nodes ids (place + from_bool (is_id_at id ids place)) (Some id)
+settled_left nodes ids more place last id graph left is =
+    let first = first_left nodes (ids ++ more) last id graph is in
+    let head : Node = first.0 in
+    let before : drop place ids ≡ ids_of (filter (is_among ids) (head ∷ first.1)) = left ∙ ap ids_of (left_among nodes ids more last ∙ ap (filter (is_among ids)) first.2) in
+    let after : left_in nodes ids (Some id) ≡ ids_of (filter (is_among ids) first.1) = ap ids_of (left_among nodes ids more (Some id) ∙ ap (filter (is_among ids)) first.4) in
+    let by_case : (among : Bool) → is_among ids head ≡ among → IsLeft nodes ids (place + from_bool (is_id_at id ids place)) (Some id) = elim [
+      | true ↦ λ among.
+          let at = first_dropped ids place head.id (ids_of (filter (is_among ids) first.1)) (before ∙ ap ids_of (kept (is_among ids) head first.1 among)) in
+          let goes_on : place + from_bool true ≡ suc place = omega arith in
+          ap (λ b. drop (place + from_bool b) ids) (ap (is_id id) at.0 ∙ is_at-same id head first.3) ∙ ap (λ n. drop n ids) goes_on ∙ at.1 ∙ sym after
+      | false ↦ λ apart.
+          let stays : place + from_bool false ≡ place = omega arith in
+          ap (λ b. drop (place + from_bool b) ids) (not_there ids place id head first.3 apart) ∙ ap (λ n. drop n ids) stays ∙ before ∙ ap ids_of (dropped (is_among ids) head first.1 apart) ∙ sym after
+    ] in
+    by_case (is_among ids head) refl
+
+-- the first of all that are left is looked at
+pub left_next : (nodes : List Node) (some : MarkedIds) (place next : ℕ) (last : Option NodeId) (id : NodeId) → AreLeft nodes some place last → Some id ≡ least_of (filter (is_left nodes (ids_in some) last) nodes) → next ≡ place + from_bool (is_id_at id some.ids place) → AreLeft nodes some next (Some id)
+left_next nodes some place next last id left is at = record {
+  graph = left.graph;
+  some_are = left.some_are;
+  last_there = least_there nodes (is_left nodes (ids_in some) last) (Some id) left.graph is;
+  place_is = subst (λ n. IsLeft nodes some.ids n (Some id)) (sym at) (settled_left nodes some.ids (arrived some.recent) place last id left.graph left.place_is is);
+}
+
+-- ids are one where their numbers are
+same_by : (same : NodeId → NodeId → Bool) → ((a b : NodeId) → same a b ≡ (a.at == b.at)) → (found : Option NodeId) (id : NodeId) → option_eq same found (Some id) ≡ is_id id found
+same_by same is None id = refl
+same_by same is (Some other) id = is other id
+
+-- by the test of numbers, the id that is found at the place is this one
+pub same_at : (same : NodeId → NodeId → Bool) → ((a b : NodeId) → same a b ≡ (a.at == b.at)) → (items ids : List NodeId) (place : ℕ) (found : Option NodeId) (id : NodeId) → found ≡ slice_get items place → items ≡ ids → option_eq same found (Some id) ≡ is_id_at id ids place
+same_at same is items ids place found id at are = same_by same is found id ∙ ap (is_id id) (at ∙ ap (λ (l : List NodeId). slice_get l place) are)
+
+-- the next place is a number of the machine
+pub place_fits : (ids : List NodeId) (place : ℕ) (id : NodeId) → length ids < 2 ^ 63 → place < 2 ^ 64 → place + from_bool (is_id_at id ids place) < 2 ^ 64
+place_fits ids place id small fits =
+    let by_case : (test : Bool) → is_id_at id ids place ≡ test → place + from_bool test < 2 ^ 64 = elim [
+      | true ↦ λ here. omega (arith, inside_at ids place id here, small)
+      | false ↦ λ _. omega (arith, fits)
+    ] in
+    by_case (is_id_at id ids place) refl
+
+-- ---- before the first look
+
+-- then all are left
+pub all_left : (nodes : List Node) (ids : List NodeId) → left_in nodes ids None ≡ ids_of (filter (is_among ids) nodes)
+all_left nodes ids = ap ids_of (same_filter (is_left nodes ids None) (is_among ids) nodes (λ node _. and-true (is_among ids node)))
+
+drop-nothing : (ids : List NodeId) → drop 0 ids ≡ ids
+drop-nothing [] = refl
+drop-nothing (id ∷ ids) = refl
+
+-- and those in order begin at the first place
+pub left_at_start : (nodes : List Node) (ids : List NodeId) → IsInOrder nodes ids → IsLeft nodes ids 0 None
+left_at_start nodes ids is = drop-nothing ids ∙ is ∙ sym (all_left nodes ids)
+
+-- the first unblocked node is the first of all
+pub least_left : (nodes : List Node) (some : MarkedIds) → IsGraph nodes → listed_in nodes some ≡ unblocked_of nodes → least_of (filter (is_left nodes (ids_in some) None) nodes) ≡ least_of nodes
+least_left nodes some graph is =
+    let all : List NodeId = left_in nodes (ids_in some) None in
+    sym (first_at all 0 (filter (is_left nodes (ids_in some) None) nodes) (drop-nothing all)) ∙ first_unblocked nodes all graph (all_left nodes (ids_in some) ∙ is)

@@ -1,0 +1,9 @@
+use Rattle.std.proofs.Common.{◌≡◌, ◌++◌, filter, take}
+use Rattle.kdg_graph.specs.Nodes.{least_of}
+use Rattle.kdg_graph.specs.Selected.{arrived, is_left}
+use Rattle.kdg_graph.proofs.source_lane.SourceLane.earliest.Given as goal
+
+-- the first of those in order and of the arrivals so far
+abbrev pub invariant-loop-arrival : goal.invariant-loop-arrival
+invariant-loop-arrival l =
+    l.first ≡ least_of (filter (is_left l.nodes.nodes (l.self.ids ++ arrived (take l.arrival-index l.arrival-items)) l.last) l.nodes.nodes)

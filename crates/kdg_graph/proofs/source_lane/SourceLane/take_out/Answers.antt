@@ -1,0 +1,54 @@
+use Rattle.std.proofs.Common.{◌∙◌, ◌++◌, ◌<◌, false, List, ap, length, subst, sym, arith}
+use Rattle.std.proofs.lemmas.List.{length-set}
+use Rattle.kdg_graph.specs.declared.arrival.Arrival.{Arrival}
+use Rattle.kdg_graph.specs.declared.node_id.NodeId.{NodeId}
+use Rattle.kdg_graph.specs.declared.source_lane.Standing.{Standing}
+use Rattle.kdg_graph.specs.declared.source_lane.Standing.TheVariants.{Absent}
+use Rattle.kdg_graph.specs.Node.{Node}
+use Rattle.kdg_graph.specs.Selected.{AreSome, HaveMarks, MarkedIds, arrived, has_number, ids_in}
+use Rattle.kdg_graph.proofs.Listing.{has_mark, in_order_taking, selected_set, set_by_taking}
+use Rattle.kdg_graph.proofs.Marking.{IsSetIn, marked_set, set_as_it_is, set_in_either}
+use Rattle.kdg_graph.proofs.source_lane.SourceLane.take_out.Goals as goal
+
+pub index_mut-requires : goal.index_mut-requires
+index_mut-requires c =
+    let nodes : List Node = c.args.nodes.now.nodes in
+    let some = subst (AreSome nodes) (sym c.self.view_is) c.requires.some in
+    omega (arith, c.self.inside.standings.ok.0, has_mark nodes c.args.id (length c.self.inside.standings.items) c.requires.there some.marks)
+
+-- the id goes out of those in order, and isn't among those that came
+sets : (c : goal.After-self-1) → IsSetIn false c.args.id c.self.inside.settled.ids.items c.take_from.new.lane.ids.items × IsSetIn false c.args.id (arrived c.self.inside.arrivals.items) (arrived c.self.inside.arrivals.items)
+sets c =
+    let nodes : List Node = c.args.nodes.now.nodes in
+    let id : NodeId = c.args.id in
+    let some = subst (AreSome nodes) (sym c.self.view_is) c.requires.some in (
+      set_by_taking nodes id c.self.inside.settled.ids.items c.take_from.new.lane.ids.items c.requires.graph some.in_order c.take_from.ensures.ids,
+      set_as_it_is id (arrived c.self.inside.arrivals.items) false (ap (λ (marked : MarkedIds). has_number id.at (arrived marked.recent)) c.self.view_is ∙ c.requires.settled),
+    )
+
+pub invariant_of-self : goal.invariant_of-self
+invariant_of-self c =
+    let nodes : List Node = c.args.nodes.now.nodes in
+    let recent : List Arrival = c.self.inside.arrivals.items in
+    let standings : List Standing = c.self.inside.standings.items in
+    let some = subst (AreSome nodes) (sym c.self.view_is) c.requires.some in
+    let inside : c.args.id.at < length standings = has_mark nodes c.args.id (length standings) c.requires.there some.marks in
+    marked_set standings c.self.inside.settled.ids.items c.take_from.new.lane.ids.items recent recent c.args.id Absent c.self.invariant inside (sets c).0 (sets c).1
+
+pub returns-clause-ids : goal.returns-clause-ids
+returns-clause-ids c test was =
+    let came : List NodeId = arrived c.self.inside.arrivals.items in
+    let ids : List NodeId = c.take_from.new.lane.ids.items in
+    let both = set_in_either false false c.args.id c.self.inside.settled.ids.items ids came came (sets c).0 (sets c).1 in
+    selected_set c.args.nodes.now.nodes test c.args.id false (ids_in c.args.self.now) (ids ++ came) c.requires.graph (subst (λ (marked : MarkedIds). IsSetIn false c.args.id (ids_in marked) (ids ++ came)) c.self.view_is both) was
+
+pub returns-clause-some : goal.returns-clause-some
+returns-clause-some c =
+    let nodes : List Node = c.args.nodes.now.nodes in
+    let some = subst (AreSome nodes) (sym c.self.view_is) c.requires.some in
+    record {
+      in_order = in_order_taking nodes c.args.id c.self.inside.settled.ids.items c.take_from.new.lane.ids.items c.requires.graph some.in_order c.take_from.ensures.ids;
+      recent = some.recent;
+      room = omega (arith, some.room, c.take_from.ensures.room);
+      marks = subst (HaveMarks nodes) (sym (length-set c.self.inside.standings.items c.args.id.at Absent)) some.marks;
+    }
