@@ -75,7 +75,7 @@ fn start_first(rt: &impl Abort, graph: &mut Graph, alloc: Global) -> Result<(), 
 /// Ends the first node, and changes nothing else.
 fn end_first(rt: &impl Abort, graph: &mut Graph, alloc: Global) -> Result<(), Fail> {
     let first = node(graph, alloc, 1, 0)?;
-    let ended = graph.rewrite(first, Vec::new(alloc), Vec::new(alloc));
+    let ended = graph.rewrite(first, Vec::new(alloc), &mut Vec::new(alloc));
     assert!(rt; ended.is_ok());
     Ok(())
 }
@@ -127,8 +127,8 @@ fn rewrite_three(rt: &impl Abort, graph: &mut Graph, alloc: Global) -> Result<()
         set: set(alloc, &[(6, Read)])?,
     };
     let changed = Vec::from_array(alloc, [change])?;
-    let fresh = Vec::from_array(alloc, [fresh])?;
-    assert!(rt; graph.rewrite(first, changed, fresh).is_ok());
+    let mut fresh = Vec::from_array(alloc, [fresh])?;
+    assert!(rt; graph.rewrite(first, changed, &mut fresh).is_ok());
     Ok(())
 }
 
@@ -181,7 +181,7 @@ fn run(rt: &impl Abort, graph: &mut Graph, alloc: Global, call: Call) -> Result<
         }
         Call::End(number) => {
             let node = node(graph, alloc, 1, number)?;
-            let ended = graph.rewrite(node, Vec::new(alloc), Vec::new(alloc));
+            let ended = graph.rewrite(node, Vec::new(alloc), &mut Vec::new(alloc));
             assert!(rt; ended.is_ok());
         }
         Call::Replace(ended, changed, pairs) => {
@@ -204,7 +204,7 @@ fn replace(
     assert!(rt; changed != ended);
     let change = SetChange { node: changed, set };
     let changes = Vec::from_array(alloc, [change])?;
-    assert!(rt; graph.rewrite(ended, changes, Vec::new(alloc)).is_ok());
+    assert!(rt; graph.rewrite(ended, changes, &mut Vec::new(alloc)).is_ok());
     Ok(())
 }
 

@@ -14,7 +14,7 @@ use crate::ready::Ready;
 use crate::{BeginFault, Counts, OverCause};
 use app_laws::{App, Finals, lawful};
 use cell_store::{Store, value_laws};
-use kdg_graph::Graph;
+use kdg_graph::{Fresh, Graph};
 use kdg_text::{NoRoom, Steps, Text};
 use output_log::Log;
 use std::alloc::Global;
@@ -39,6 +39,8 @@ pub struct Engine<'a, A: App> {
     pub(crate) limit: u64,
     pub(crate) over: Option<OverCause>,
     pub(crate) ready: Ready,
+    /// The children of a task that ends, which keeps its memory for those of others.
+    pub(crate) fresh: Vec<Fresh>,
 }
 
 impl<'a, A: App> Model for Engine<'a, A> {
@@ -120,6 +122,7 @@ impl<'a, A: App> Engine<'a, A> {
             limit: budget,
             over: None,
             ready: Ready::new(alloc),
+            fresh: Vec::new(alloc),
         })
     }
 

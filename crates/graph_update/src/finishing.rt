@@ -92,8 +92,9 @@ impl<'a, A: App> Engine<'a, A> {
         let Ok(()) = self.log.reserve_for(&effect.text) else {
             return Err(effect);
         };
-        let parent = &self.graph.task(node).key;
-        let Ok(fresh) = fresh_tasks(self.alloc, parent, effect.children.items()) else {
+        let (graph, fresh) = (&self.graph, &mut self.fresh);
+        let parent = &graph.task(node).key;
+        let Ok(()) = fresh_tasks(fresh, parent, effect.children.items()) else {
             return Err(effect);
         };
         let shell = self.store.give(effect.bundle);
@@ -103,7 +104,7 @@ impl<'a, A: App> Engine<'a, A> {
             &mut self.graph,
             &self.store,
             node,
-            fresh,
+            &mut self.fresh,
             steps,
         ) {
             Ok(task) => {

@@ -31,7 +31,7 @@ pub(crate) fn end_node<A: App, L: Ledger>(
     graph: &mut Graph,
     store: &Store<A::Val>,
     ended: NodeId,
-    fresh: Vec<Fresh>,
+    fresh: &mut Vec<Fresh>,
     steps: &mut Steps<L>,
 ) -> Result<Task, NoRoom>
     requires graph { IsGraph graph.old }
@@ -39,9 +39,9 @@ pub(crate) fn end_node<A: App, L: Ledger>(
     requires tasks { AreFitTasks (A.meaning app.now) (tasks_of graph.old) }
     requires sets { HaveFixedSets (A.meaning app.now) graph.old }
     requires cells { (values : List A.Val) × (A.meaning app.now).is_fit_cells values × AgreesWith store.now values }
-    requires new { HaveNewKeys (tasks_of graph.old) fresh.items }
+    requires new { HaveNewKeys (tasks_of graph.old) fresh.old.items }
     ensures ok { OnOk result ((node : Node) → node_at graph.old ended ≡ Some node →
-        IsRewritten graph.old ended (renewals (A.meaning app.now) store.now graph.old node) fresh.items graph.new) }
+        IsRewritten graph.old ended (renewals (A.meaning app.now) store.now graph.old node) fresh.old.items graph.new) }
     ensures task { IfOk result (λ task. task_at graph.old ended ≡ Some task) }
     ensures graph { IsGraph graph.new }
     ensures unchanged { OnErr result (graph.new ≡ graph.old) }
@@ -56,18 +56,21 @@ pub(crate) fn end_node<A: App, L: Ledger>(
     }
 }
 
-/// The children of a task as fresh tasks, with their keys and copies of their sets.
+/// Makes the list that of the children of a task as fresh tasks, with their keys and copies of their
+/// sets. What was in it is dropped. After `NoRoom` it may lack some.
 #[inline(always)]
 pub(crate) fn fresh_tasks(
-    alloc: Global,
+    fresh: &mut Vec<Fresh>,
     parent: &Key,
     children: &[Child],
-) -> Result<Vec<Fresh>, NoRoom>
+) -> Result<(), NoRoom>
     requires few { length children.now < 2 ^ 32 }
     requires not_earlier { AllByRecursion (λ child. parent.now.prio ≤ child.prio) children.now }
-    ensures { IfOk result (λ fresh. fresh.items ≡ fresh_from parent.now 0 children.now) }
+    ensures { OnOk result (fresh.new.items ≡ fresh_from parent.now 0 children.now) }
 {
-    let mut fresh = Vec::with_capacity(alloc, children.len())?;
+    if !fresh.is_empty() {
+        fresh.clear();
+    }
     for (number, child) in children.iter().enumerate() {
         let task = Task {
             key: parent.child(number as u32, child.prio)?,
@@ -76,7 +79,7 @@ pub(crate) fn fresh_tasks(
         let set = child.set.copy()?;
         fresh.push(Fresh { task, set })?;
     }
-    Ok(fresh)
+    Ok(())
 }
 
 /// What the end of a node changes of the recorded sets: the renewals, and nothing where the sets are

@@ -6,10 +6,11 @@ use task_order::Task;
 /// A node as the list of nodes keeps it.
 #[derive(Drop)]
 pub(crate) struct Entry {
+    // first, so that it stands beside what tells that a node is there
+    pub(crate) running: bool,
     pub(crate) id: NodeId,
     pub(crate) task: Task,
     pub(crate) set: RwSet,
-    pub(crate) running: bool,
 }
 
 impl Model for Entry {

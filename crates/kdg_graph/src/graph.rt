@@ -79,27 +79,30 @@ impl Graph {
     }
 
     /// Takes the node of a task that has ended out and gives its task, replaces the sets that are named,
-    /// and puts the fresh tasks in, each as a node that is not running. Nothing else changes.
+    /// and puts the fresh tasks in, each as a node that is not running. Nothing else changes. The list of
+    /// fresh tasks has none then, and keeps its memory for others.
     ///
-    /// All memory is taken first. Where it runs out, both lists come back and the graph is as it
-    /// was.
+    /// All memory is taken first. Where it runs out, the changes come back, and the fresh tasks and the
+    /// graph are as they were.
     pub fn rewrite(
         &mut self,
         ended: NodeId,
         changed: Vec<SetChange>,
-        fresh: Vec<Fresh>,
-    ) -> Result<Task, (Vec<SetChange>, Vec<Fresh>)>
+        fresh: &mut Vec<Fresh>,
+    ) -> Result<Task, Vec<SetChange>>
         requires there { HasNode self.old ended }
         requires changes { AreChangesOf self.old ended changed.items }
-        requires new { HaveNewKeys (tasks_of self.old) fresh.items }
-        ensures ok { OnOk result (IsRewritten self.old ended changed.items fresh.items self.new) }
+        requires new { HaveNewKeys (tasks_of self.old) fresh.old.items }
+        ensures ok { OnOk result (IsRewritten self.old ended changed.items fresh.old.items self.new) }
         ensures task { IfOk result (λ task. task_at self.old ended ≡ Some task) }
+        ensures none_left { OnOk result (fresh.new.items ≡ []) }
         ensures graph { IsGraph self.new }
-        ensures returned { IfErr result (λ back. back ≡ (changed, fresh)) }
+        ensures returned { IfErr result (λ back. back ≡ changed) }
+        ensures kept { OnErr result (fresh.new ≡ fresh.old) }
         ensures unchanged { OnErr result (self.new ≡ self.old) }
     {
-        if self.nodes.reserve_all(&changed, &fresh).is_err() {
-            return Err((changed, fresh));
+        if self.nodes.reserve_all(&changed, fresh).is_err() {
+            return Err(changed);
         }
         let task = self.nodes.remove(ended);
         self.nodes.set_sets(changed);

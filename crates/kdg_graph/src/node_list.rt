@@ -352,18 +352,20 @@ impl NodeList {
         }
     }
 
-    /// Puts the fresh nodes in, where `reserve_all` made room. It takes no memory.
-    pub(crate) fn put_all(&mut self, fresh: Vec<Fresh>)
-        requires places { length fresh.items ≤ self.old.places }
-        requires numbers { length fresh.items ≤ self.old.numbers }
-        requires marks { length fresh.items ≤ self.old.marks }
-        requires rooms { AllByRecursion (λ item. HasRoom (length fresh.items) item.set self.old.rooms) fresh.items }
-        requires new { HaveNewKeys (tasks_of self.old.nodes) fresh.items }
+    /// Puts the fresh nodes in, where `reserve_all` made room, which leaves their list empty. It
+    /// takes no memory.
+    pub(crate) fn put_all(&mut self, fresh: &mut Vec<Fresh>)
+        requires places { length fresh.old.items ≤ self.old.places }
+        requires numbers { length fresh.old.items ≤ self.old.numbers }
+        requires marks { length fresh.old.items ≤ self.old.marks }
+        requires rooms { AllByRecursion (λ item. HasRoom (length fresh.old.items) item.set self.old.rooms) fresh.old.items }
+        requires new { HaveNewKeys (tasks_of self.old.nodes) fresh.old.items }
         requires graph { IsGraph self.old.nodes }
-        ensures added { AreAdded self.old.nodes fresh.items self.new.nodes }
+        ensures none_left { fresh.new.items ≡ [] }
+        ensures added { AreAdded self.old.nodes fresh.old.items self.new.nodes }
         ensures graph { IsGraph self.new.nodes }
     {
-        for item in fresh {
+        for item in fresh.drain(..) {
             self.put(item.task, item.set);
         }
     }

@@ -80,6 +80,7 @@ impl<T> Tiers<T> {
     }
 
     /// The item at a place, counted from 0.
+    #[inline(always)]
     pub(crate) fn get(&self, place: usize) -> Option<&T>
         ensures { option_map deref result ≡ slice_get (all_items self.now) place }
     {

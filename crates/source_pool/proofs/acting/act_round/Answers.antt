@@ -24,7 +24,7 @@ act_in_turn-requires-send-A-Val g c κs within =
           (
             record { owned = sent.owned; leaving = λ k. sent.leaving (λ _. k (of_param 2)) },
             subst (λ (state : EngineState g.row.A.Denot g.row.A-Val.Denot). IsActing (g.A.App.meaning state.app) g.from.start (values_of g.from.start.cells) (after_round (g.A.App.meaning state.app) g.from.state) g.from.text state.progress c.deref.result.now) (sym c.find_clear.ensures.same)
-            (subst (IsActing app g.from.start (values_of g.from.start.cells) (after_round app g.from.state) g.from.text now) (sym same) acting),
+                (subst (IsActing app g.from.start (values_of g.from.start.cells) (after_round app g.from.state) g.from.text now) (sym same) acting),
           ),
         ),
       ),

@@ -47,7 +47,7 @@ end_node-requires-clause-new g c κs within =
     let done : Done _ = record { node = c.args.node; task = g.task; effect = c.args.effect } in
     let is = inside_done g.A.App.meaning _ _ done c.self.view_is c.requires.1.1.1.1.0 in
     let basis = c.basis.ensures c.self.inside.app.now in
-    let fresh_are = fresh_is basis _ done is c.task.result.now c.task.ensures c.items.result.now c.items.ensures.all c.in-Ok-fresh_tasks.fresh.items c.in-Ok-fresh_tasks.ensures in
+    let fresh_are = fresh_is basis _ done is c.task.result.now c.task.ensures c.items.result.now c.items.ensures.all c.fresh_tasks.new.fresh.items c.in-Ok-fresh_tasks.ensures in
     subst (HaveNewKeys (tasks_of c.self.inside.graph)) (sym fresh_are) (fresh_new basis is.sound is.performed)
 
 pub put-requires-clause-new : goal.put-requires-clause-new
@@ -64,21 +64,21 @@ invariant_of-self-in-Ok-end_node g c =
     let done : Done _ = record { node = c.args.node; task = g.task; effect = c.args.effect } in
     let is = inside_done g.A.App.meaning _ _ done c.self.view_is c.requires.1.1.1.1.0 in
     let basis = c.basis.ensures c.self.inside.app.now in
-    let fresh_are = fresh_is basis _ done is c.task.result.now c.task.ensures c.items.result.now c.items.ensures.all c.in-Ok-fresh_tasks.fresh.items c.in-Ok-fresh_tasks.ensures in
+    let fresh_are = fresh_is basis _ done is c.task.result.now c.task.ensures c.items.result.now c.items.ensures.all c.fresh_tasks.new.fresh.items c.in-Ok-fresh_tasks.ensures in
     let log_are = log_is basis _ done is c.in-Ok-end_node.task c.in-Ok-end_node.ensures.task c.reserve_for.new.self.entries c.reserve_for.ensures.entries c.put.new.self.entries c.put.ensures.entries in
     let created_are = c.requires.1.1.1.1.1.0 ∙ ap (λ (engine : EngineState _ _). engine.progress.created + length c.args.effect.children) (sym c.self.view_is) in
     let within = subst (λ (engine : EngineState _ _). c.args.created ≤ engine.progress.limit) (sym c.self.view_is) c.requires.1.1.1.1.1.1 in (
       stays_kept basis _ done is c.args.node (node_is basis _ done is)
-          c.give-shell.new.self c.in-Ok-fresh_tasks.fresh.items c.end_node.new.graph c.put.new.self.entries c.args.created (c.self.inside.ended + 1)
+          c.give-shell.new.self c.fresh_tasks.new.fresh.items c.end_node.new.graph c.put.new.self.entries c.args.created (c.self.inside.ended + 1)
           c.give-shell.ensures.given fresh_are c.in-Ok-end_node.ensures.graph c.in-Ok-end_node.ensures.ok log_are created_are refl
           (c.sound_finish_laws.ensures c.self.inside.app.now) within c.self.invariant.0.limited,
       some_are_ready (g.A.App.meaning c.self.inside.app.now) c.end_node.new.graph c.expect_more.new.self (ids_in c.self.inside.ready.ids) (ap ids_in c.expect_more.ensures.ids) c.expect_more.ensures.current
           (stays_ready basis _ done is c.args.node (node_is basis _ done is)
-          c.give-shell.new.self c.in-Ok-fresh_tasks.fresh.items c.end_node.new.graph c.put.new.self.entries c.args.created (c.self.inside.ended + 1)
+          c.give-shell.new.self c.fresh_tasks.new.fresh.items c.end_node.new.graph c.put.new.self.entries c.args.created (c.self.inside.ended + 1)
           c.give-shell.ensures.given fresh_are c.in-Ok-end_node.ensures.graph c.in-Ok-end_node.ensures.ok log_are created_are refl
           (c.stay_clear_laws.ensures.stay c.self.inside.app.now) within (ids_in c.self.inside.ready.ids) c.self.invariant.1.clear),
       stays_fixed basis _ done is c.args.node (node_is basis _ done is)
-          c.give-shell.new.self c.in-Ok-fresh_tasks.fresh.items c.end_node.new.graph c.put.new.self.entries c.args.created (c.self.inside.ended + 1)
+          c.give-shell.new.self c.fresh_tasks.new.fresh.items c.end_node.new.graph c.put.new.self.entries c.args.created (c.self.inside.ended + 1)
           c.give-shell.ensures.given fresh_are c.in-Ok-end_node.ensures.graph c.in-Ok-end_node.ensures.ok log_are created_are refl
           within c.self.invariant.2,
     )
@@ -100,11 +100,11 @@ returns-in-Ok-end_node-clause-finished g c =
     let done : Done _ = record { node = c.args.node; task = g.task; effect = c.args.effect } in
     let is = inside_done g.A.App.meaning _ _ done c.self.view_is c.requires.1.1.1.1.0 in
     let basis = c.basis.ensures c.self.inside.app.now in
-    let fresh_are = fresh_is basis _ done is c.task.result.now c.task.ensures c.items.result.now c.items.ensures.all c.in-Ok-fresh_tasks.fresh.items c.in-Ok-fresh_tasks.ensures in
+    let fresh_are = fresh_is basis _ done is c.task.result.now c.task.ensures c.items.result.now c.items.ensures.all c.fresh_tasks.new.fresh.items c.in-Ok-fresh_tasks.ensures in
     let log_are = log_is basis _ done is c.in-Ok-end_node.task c.in-Ok-end_node.ensures.task c.reserve_for.new.self.entries c.reserve_for.ensures.entries c.put.new.self.entries c.put.ensures.entries in
     let created_are = c.requires.1.1.1.1.1.0 ∙ ap (λ (engine : EngineState _ _). engine.progress.created + length c.args.effect.children) (sym c.self.view_is) in
     let finished = is_finished basis _ done is c.args.node (node_is basis _ done is)
-    c.give-shell.new.self c.in-Ok-fresh_tasks.fresh.items c.end_node.new.graph c.put.new.self.entries c.args.created (c.self.inside.ended + 1)
+    c.give-shell.new.self c.fresh_tasks.new.fresh.items c.end_node.new.graph c.put.new.self.entries c.args.created (c.self.inside.ended + 1)
     c.give-shell.ensures.given fresh_are c.in-Ok-end_node.ensures.graph c.in-Ok-end_node.ensures.ok log_are created_are refl in
     engine_finished g.A.App.meaning _ _ done c.self.view_is _ finished
 
@@ -113,12 +113,12 @@ returns-in-Ok-end_node-clause-sound g c =
     let done : Done _ = record { node = c.args.node; task = g.task; effect = c.args.effect } in
     let is = inside_done g.A.App.meaning _ _ done c.self.view_is c.requires.1.1.1.1.0 in
     let basis = c.basis.ensures c.self.inside.app.now in
-    let fresh_are = fresh_is basis _ done is c.task.result.now c.task.ensures c.items.result.now c.items.ensures.all c.in-Ok-fresh_tasks.fresh.items c.in-Ok-fresh_tasks.ensures in
+    let fresh_are = fresh_is basis _ done is c.task.result.now c.task.ensures c.items.result.now c.items.ensures.all c.fresh_tasks.new.fresh.items c.in-Ok-fresh_tasks.ensures in
     let log_are = log_is basis _ done is c.in-Ok-end_node.task c.in-Ok-end_node.ensures.task c.reserve_for.new.self.entries c.reserve_for.ensures.entries c.put.new.self.entries c.put.ensures.entries in
     let created_are = c.requires.1.1.1.1.1.0 ∙ ap (λ (engine : EngineState _ _). engine.progress.created + length c.args.effect.children) (sym c.self.view_is) in
     let within = subst (λ (engine : EngineState _ _). c.args.created ≤ engine.progress.limit) (sym c.self.view_is) c.requires.1.1.1.1.1.1 in
     let sound = stays_sound basis _ done is c.args.node (node_is basis _ done is)
-    c.give-shell.new.self c.in-Ok-fresh_tasks.fresh.items c.end_node.new.graph c.put.new.self.entries c.args.created (c.self.inside.ended + 1)
+    c.give-shell.new.self c.fresh_tasks.new.fresh.items c.end_node.new.graph c.put.new.self.entries c.args.created (c.self.inside.ended + 1)
     c.give-shell.ensures.given fresh_are c.in-Ok-end_node.ensures.graph c.in-Ok-end_node.ensures.ok log_are created_are refl
     (c.sound_finish_laws.ensures c.self.inside.app.now) within in
     engine_sound g.A.App.meaning _ _ done c.self.view_is _ sound

@@ -1,4 +1,4 @@
-use Rattle.std.proofs.Common.{◌≡◌, List, subst, sym}
+use Rattle.std.proofs.Common.{List, subst, sym}
 use Rattle.kdg_graph.specs.Node.{Node}
 use Rattle.graph_update.specs.Engine.{AreReady, HaveFixedSets, IsKept}
 use Rattle.graph_update.proofs.engine.Engine.settle.Goals as goal

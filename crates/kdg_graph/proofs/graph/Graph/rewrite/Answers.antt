@@ -28,12 +28,12 @@ put_all-requires-clause-new c =
     let left : tasks_of c.set_sets.new.self.nodes ≡ tasks_without_key c.remove-task.result.key (tasks_of old) =
     ap tasks_of c.set_sets.ensures.nodes ∙ tasks-with_sets c.args.changed.items c.remove-task.new.self.nodes ∙ ap tasks_of (c.remove-task.ensures.nodes ∙ ap (without c.args.ended) same)
     ∙ tasks-without c.args.ended old c.remove-task.result graph task in
-    subst (λ (l : List Task). HaveNewKeys l c.args.fresh.items) (sym left) (new_without c.remove-task.result.key c.args.fresh.items (tasks_of old) c.requires.new)
+    subst (λ (l : List Task). HaveNewKeys l c.args.fresh.now.items) (sym left) (new_without c.remove-task.result.key c.args.fresh.now.items (tasks_of old) c.requires.new)
 
 pub set_sets-requires-clause-rooms : goal.set_sets-requires-clause-rooms
 set_sets-requires-clause-rooms c =
     let changed : List SetChange = c.args.changed.items in
-    let fresh : List Fresh = c.args.fresh.items in
+    let fresh : List Fresh = c.args.fresh.now.items in
     let rooms : List ℕ = c.reserve_all.new.self.rooms in
     let reserved : AllByRecursion (λ (x : SetChange). HasRoom (length c.deref.result.now + length c.deref-2.result.now) x.set rooms) c.deref.result.now = search rules in
     let all : AllByRecursion (λ (x : SetChange). HasRoom (length changed + length fresh) x.set rooms) changed =
@@ -44,7 +44,7 @@ set_sets-requires-clause-rooms c =
 pub put_all-requires-clause-rooms : goal.put_all-requires-clause-rooms
 put_all-requires-clause-rooms c =
     let changed : List SetChange = c.args.changed.items in
-    let fresh : List Fresh = c.args.fresh.items in
+    let fresh : List Fresh = c.args.fresh.now.items in
     let rooms : List ℕ = c.reserve_all.new.self.rooms in
     let reserved : AllByRecursion (λ (x : Fresh). HasRoom (length c.deref.result.now + length c.deref-2.result.now) x.set rooms) c.deref-2.result.now = search rules in
     let all : AllByRecursion (λ (x : Fresh). HasRoom (length changed + length fresh) x.set rooms) fresh =

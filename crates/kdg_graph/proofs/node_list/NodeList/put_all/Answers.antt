@@ -1,6 +1,6 @@
 use Rattle.std.proofs.Common.{◌≡◌, ◌∷◌, List, ap, subst, sym, length, arith}
 use Rattle.std.specs.List.{AllByRecursion}
-use Rattle.std.specs.Vec.Iter.{into_iter_items}
+use Rattle.std.specs.Vec.Iter.{drain_items}
 use Rattle.kdg_graph.specs.declared.change.Fresh.{Fresh}
 use Rattle.kdg_graph.specs.Node.{Node}
 use Rattle.kdg_graph.specs.Nodes.{tasks_of}
@@ -14,8 +14,8 @@ pub loop-item-preserved : goal.loop-item-preserved
 loop-item-preserved c =
     let at = c.loop-item in
     let item : Fresh = c.in-Some.item in
-    let rest : List Fresh = into_iter_items c.next.new.self in
-    let steps : into_iter_items at.item-iterator ≡ item ∷ rest = c.in-Some.ensures.steps.0 in
+    let rest : List Fresh = drain_items c.next.new.self in
+    let steps : drain_items at.item-iterator ≡ item ∷ rest = c.in-Some.ensures.steps.0 in
     let keys : HaveNewKeys (tasks_of at.self.nodes) (item ∷ rest) = subst (HaveNewKeys (tasks_of at.self.nodes)) steps at.invariant.new in
     let room : AllByRecursion (λ (x : Fresh). HasRoom (length (item ∷ rest)) x.set at.self.rooms) (item ∷ rest) = subst (λ (l : List Fresh). AllByRecursion (λ (x : Fresh). HasRoom (length l) x.set at.self.rooms) l) steps at.invariant.rooms in
     let was = at.invariant.len in
@@ -38,6 +38,6 @@ pub put-requires-clause-rooms : goal.put-requires-clause-rooms
 put-requires-clause-rooms c =
     let at = c.loop-item in
     let item : Fresh = c.in-Some.item in
-    let rest : List Fresh = into_iter_items c.next.new.self in
+    let rest : List Fresh = drain_items c.next.new.self in
     let room : AllByRecursion (λ (x : Fresh). HasRoom (length (item ∷ rest)) x.set at.self.rooms) (item ∷ rest) = subst (λ (l : List Fresh). AllByRecursion (λ (x : Fresh). HasRoom (length l) x.set at.self.rooms) l) c.in-Some.ensures.steps.0 at.invariant.rooms in
     first_room (length rest) item.set at.self.rooms room.0
