@@ -36,7 +36,7 @@ impl Lane {
         ensures { result.ids.items ≡ [] }
     {
         Lane {
-            ids: TieredList::new(alloc),
+            ids: TieredList::new(alloc, NodeId { at: 0 }),
             put_at: 0,
             taken_at: 0,
         }

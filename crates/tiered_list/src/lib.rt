@@ -8,6 +8,7 @@ ghost use Rattle.std.specs.Map.Iter.{deref};
 ghost use Rattle.std.specs.Option.{option_map};
 
 mod form;
+mod in_place;
 mod middle;
 mod ring;
 #[cfg(test)]
@@ -18,17 +19,18 @@ mod tiers;
 use form::Form;
 use kdg_text::NoRoom;
 use std::alloc::Global;
-use std::collections::VecDeque;
 use std::marker::Model;
 
 /// Items in order, each found by its place at once.
 ///
-/// A short list is one ring buffer, and an item that comes or goes moves those up to its nearer end. A
-/// long one is a tiered vector (M. T. Goodrich, J. G. Kloss, "Tiered Vectors", WADS 1999): it moves at
-/// most half of the 128 items of a tier, and one of each tier up to the nearer end.
+/// The first ten items stand in place, and one that comes or goes moves those behind it. A list that
+/// has had more is one ring buffer while it is short, and an item that comes or goes moves those up to
+/// its nearer end. A long one is a tiered vector (M. T. Goodrich, J. G. Kloss, "Tiered Vectors", WADS
+/// 1999): it moves at most half of the 128 items of a tier, and one of each tier up to the nearer end.
 #[derive(Drop)]
 pub struct TieredList<T> {
     form: Form<T>,
+    alloc: Global,
 }
 
 impl<T> Model for TieredList<T> {
@@ -38,18 +40,21 @@ impl<T> Model for TieredList<T> {
 
     ghost coded = { tiered_code T.code };
 
-    ghost use Rattle.tiered_list.specs.Form.{tiered_of};
+    ghost use Rattle.tiered_list.specs.Form.{IsForm, tiered_of};
 
     ghost view = { λ l. tiered_of l.form };
+
+    ghost invariant = { λ l. IsForm l.form };
 }
 
-impl<T> TieredList<T> {
-    /// No items, which take no memory.
-    pub fn new(alloc: Global) -> TieredList<T>
+impl<T: Copy> TieredList<T> {
+    /// No items, which take no memory. `unused` stands in place where no item is.
+    pub fn new(alloc: Global, unused: T) -> TieredList<T>
         ensures { result.items ≡ [] }
     {
         TieredList {
-            form: Form::Ring(VecDeque::new(alloc)),
+            form: Form::new(unused),
+            alloc,
         }
     }
 
@@ -82,7 +87,7 @@ impl<T> TieredList<T> {
         ensures no_less { self.old.capacity ≤ self.new.capacity }
         ensures items { self.new.items ≡ self.old.items }
     {
-        self.form.reserve(additional)
+        self.form.reserve(self.alloc, additional)
     }
 
     /// Puts an item at a place, where `reserve` made room. It takes no memory.

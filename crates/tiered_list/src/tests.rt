@@ -42,7 +42,7 @@ fn put(
 #[test]
 fn calls_are_those_on_a_vector(rt: HostRuntime) -> Result<(), Fail> {
     let alloc = rt.alloc();
-    let mut list: TieredList<u64> = TieredList::new(alloc);
+    let mut list: TieredList<u64> = TieredList::new(alloc, 0);
     let mut items: Vec<u64> = Vec::new(alloc);
     let mut seed = 7;
     for step in 0..6000u64 {
@@ -63,9 +63,36 @@ fn calls_are_those_on_a_vector(rt: HostRuntime) -> Result<(), Fail> {
     Ok(())
 }
 
+/// Lists of few items: each comes and goes in place at first, and then also in a ring.
+#[test]
+fn few_items_come_and_go(rt: HostRuntime) -> Result<(), Fail> {
+    let alloc = rt.alloc();
+    let mut seed = 11;
+    for _round in 0..40u64 {
+        let mut list: TieredList<u64> = TieredList::new(alloc, 0);
+        let mut items: Vec<u64> = Vec::new(alloc);
+        for step in 0..80u64 {
+            seed = next(seed);
+            let len = items.len();
+            let most = if step < 40 { 10 } else { 14 };
+            if len == 0 || (len < most && (seed >> 45) % 2 == 0) {
+                put(&mut list, &mut items, place_below(seed, len + 1), step)?;
+            } else {
+                let place = place_below(seed, len);
+                assert_eq!(rt; list.remove(place), items.remove(place));
+            }
+            assert_eq!(rt; list.len(), items.len());
+            for place in 0..15 {
+                assert_eq!(rt; list.get(place).copied(), items.get(place).copied());
+            }
+        }
+    }
+    Ok(())
+}
+
 #[test]
 fn items_leave_from_both_ends(rt: HostRuntime) -> Result<(), Fail> {
-    let mut list: TieredList<u64> = TieredList::new(rt.alloc());
+    let mut list: TieredList<u64> = TieredList::new(rt.alloc(), 0);
     list.reserve(1000)?;
     for item in 0..1000u64 {
         list.insert(list.len(), item);
@@ -82,7 +109,7 @@ fn items_leave_from_both_ends(rt: HostRuntime) -> Result<(), Fail> {
 
 /// A list of the numbers below one.
 fn numbers(alloc: Global, count: u64) -> Result<TieredList<u64>, NoRoom> {
-    let mut list: TieredList<u64> = TieredList::new(alloc);
+    let mut list: TieredList<u64> = TieredList::new(alloc, 0);
     for number in 0..count {
         list.reserve(1)?;
         list.insert(list.len(), number);
