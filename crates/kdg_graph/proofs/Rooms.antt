@@ -1,9 +1,10 @@
 -- Room for more nodes at the locations of sets.
-use Rattle.std.proofs.Common.{◌≡◌, ℕ, suc, ◌+◌, ◌-◌, ◌<◌, ◌≤◌, ◌==◌, Bool, true, false, cond, refl, eqb-true, List, [], ◌∷◌, ◌++◌, length, take, get_or, sym, subst, arith, ◌∙◌}
+use Rattle.std.proofs.Common.{◌≡◌, ℕ, suc, ◌+◌, ◌-◌, ◌^◌, ◌<◌, ◌≤◌, ◌==◌, Bool, true, false, cond, refl, eqb-true, bit_and, List, [], ◌∷◌, ◌++◌, length, take, get_or, sym, subst, arith, ◌∙◌}
 use Rattle.std.specs.List.{AllByRecursion}
 use Rattle.std.proofs.lemmas.List.{take_more}
+use Rattle.std.proofs.lemmas.Nat.{and_mask}
 use Rattle.rw_sets.specs.Accesses.{Accesses}
-use Rattle.kdg_graph.specs.NodeStock.{numbers_with_marks}
+use Rattle.kdg_graph.specs.NodeStock.{ids_left, numbers_with_marks}
 use Rattle.kdg_graph.specs.Locations.{HasRoom, HaveNoLess, HaveSameLanes, Location, room_at}
 
 -- ---- each of several
@@ -62,5 +63,11 @@ keys_have_marks numbers keys marks = by_case (keys - marks == 0) refl
     by_case false is some = absurd (omega (arith, some))
 
 -- where some are taken, the others are left
+-- where an id is left each key is one
+pub key_is_id : (keys used key : ℕ) → 0 < ids_left keys used → key < keys → bit_and key (2 ^ 32 - 1) ≡ key
+key_is_id keys used key left inside =
+    let few : keys ≤ 2 ^ 32 = keys_have_marks (keys - used) keys (2 ^ 32) left in
+    and_mask key 32 ∙ omega (arith, inside, few)
+
 pub numbers_left : (taken numbers left keys keys_now marks marks_now : ℕ) → numbers ≤ left + taken → keys_now ≡ keys → marks_now ≡ marks → numbers_with_marks numbers keys marks ≤ numbers_with_marks left keys_now marks_now + taken
 numbers_left taken numbers left keys keys_now marks marks_now less same_keys same_marks = grind (arith, less, same_keys, same_marks)

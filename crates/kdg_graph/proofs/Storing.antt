@@ -1,5 +1,5 @@
 -- What the nodes of a slab are after a change.
-use Rattle.std.proofs.Common.{◌≡◌, ◌≢◌, inl, inr, Bool, true, false, not, cond, List, [], ◌∷◌, map, get_or, Some, None, refl, sym, ◌∙◌, ap, subst, eq-eqb}
+use Rattle.std.proofs.Common.{◌≡◌, ◌≢◌, ℕ, inl, inr, Bool, true, false, not, cond, List, [], ◌∷◌, map, get_or, Some, None, refl, sym, ◌∙◌, ap, subst, eq-eqb}
 use Rattle.std.specs.Prelude.{Contains, IsSome}
 use Rattle.std.specs.List.{filter}
 use Rattle.std.proofs.lemmas.Bool.{cases_eq, true≢false}
@@ -39,9 +39,11 @@ room_stored old new same is =
 
 -- ---- a node is put in
 
-pub put_stored : PutsKeepAscending → (old new : Slab Node) (node : Node) → IsStored old → get old node.id.at ≡ None → Updates old new node.id.at (Some node) → IsNewKey node.task.key (tasks_of (nodes_of old)) → IsAscendingSet node.set
+pub put_stored : PutsKeepAscending → (old new : Slab Node) (node : Node) (key : ℕ) → node.id.at ≡ key → IsStored old → get old key ≡ None → Updates old new key (Some node) → IsNewKey node.task.key (tasks_of (nodes_of old)) → IsAscendingSet node.set
     → IsStored new × (nodes_of new ≡ put_node node (nodes_of old))
-put_stored keeps old new node is none updates new_key set =
+put_stored keeps old new node at_key is_id is vacant put new_key set =
+    let none : get old node.id.at ≡ None = ap (get old) is_id ∙ vacant in
+    let updates : Updates old new node.id.at (Some node) = subst (λ k. Updates old new k (Some node)) (sym is_id) put in
     let nodes : List Node = nodes_of old in
     kept_in_order new (put_node node nodes) (record {
       graph = graph_put keeps node nodes new_key set (new_id old node.id nodes none is.stored) is.graph;

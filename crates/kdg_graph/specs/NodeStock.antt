@@ -1,5 +1,5 @@
 -- Nodes, and how many more can be put in without taking memory.
-use Rattle.std.specs.Prelude.{ℕ, zero, ◌-◌, ◌==◌, if◌then◌else◌, List, length, Option, Some, None}
+use Rattle.std.specs.Prelude.{ℕ, zero, ◌-◌, ◌^◌, ◌==◌, if◌then◌else◌, List, length, Option, Some, None}
 use Rattle.kdg_graph.specs.declared.lane.Lane.{Lane}
 use Rattle.kdg_graph.specs.Node.{Node}
 
@@ -16,6 +16,10 @@ pub record NodeStock : Type 0 where
   pub numbers : ℕ
   pub marks : ℕ
   pub rooms : List ℕ
+
+-- the ids that are left of so many keys: an id has 32 bits
+abbrev pub ids_left : ℕ → ℕ → ℕ
+ids_left keys used = if keys - 2 ^ 32 == zero then keys - used else zero
 
 -- the ids that are left, where each key has a mark
 abbrev pub numbers_with_marks : ℕ → ℕ → ℕ → ℕ

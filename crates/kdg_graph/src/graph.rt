@@ -62,8 +62,8 @@ impl Graph {
         }
     }
 
-    /// Puts in a node that is not running. Where memory runs out, its task and its set come back
-    /// and the graph is as it was.
+    /// Puts in a node that is not running. Where memory or the ids run out, its task and its set come
+    /// back and the graph is as it was.
     pub fn insert(&mut self, task: Task, set: RwSet) -> Result<NodeId, (Task, RwSet)>
         requires { IsNewKey task.key (tasks_of self.old) }
         ensures ok { IfOk result (λ id. self.new ≡ put_node (new_node id task set) self.old) }
@@ -82,8 +82,8 @@ impl Graph {
     /// and puts the fresh tasks in, each as a node that is not running. Nothing else changes. The list of
     /// fresh tasks has none then, and keeps its memory for others.
     ///
-    /// All memory is taken first. Where it runs out, the changes come back, and the fresh tasks and the
-    /// graph are as they were.
+    /// All memory is taken first. Where it runs out, or the ids do, the changes come back, and the fresh
+    /// tasks and the graph are as they were.
     pub fn rewrite(
         &mut self,
         ended: NodeId,

@@ -336,7 +336,7 @@ impl Lane {
 fn compare(slots: &Slab<Entry>, id: NodeId, key: &Key) -> Ordering
     ensures { result ≡ cmp_in slots.now key.now id }
 {
-    match slots.get(id.at) {
+    match slots.get(id.at as usize) {
         Some(node) => node.task.key.compare(key),
         None => Ordering::Greater,
     }

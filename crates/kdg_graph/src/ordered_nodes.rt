@@ -22,6 +22,9 @@ use std::marker::Model;
 use std::mem;
 use task_order::{Key, Task, put_in_laws};
 
+/// How many ids there are.
+const IDS: usize = 1 << 32;
+
 /// Nodes under their ids. They are seen in key order, and are kept in none: who needs an order keeps
 /// the ids of some of them in a list of their own.
 #[derive(Drop)]
@@ -33,11 +36,11 @@ impl Model for OrderedNodes {
     ghost use Rattle.std.specs.Prelude.{◌-◌};
     ghost use Rattle.slab.specs.Slab.{slab_len};
     ghost use Rattle.kdg_graph.specs.Stored.{nodes_of, IsStored};
-    ghost use Rattle.kdg_graph.specs.NodeStock.{NodeShelf};
+    ghost use Rattle.kdg_graph.specs.NodeStock.{NodeShelf, ids_left};
 
     ghost Value = { NodeShelf };
 
-    ghost view = { λ o. record { nodes = nodes_of o.slots; numbers = o.slots.capacity - slab_len o.slots; keys = o.slots.capacity } };
+    ghost view = { λ o. record { nodes = nodes_of o.slots; numbers = ids_left o.slots.capacity (slab_len o.slots); keys = o.slots.capacity } };
 
     ghost invariant = { λ o. IsStored o.slots };
 }
@@ -79,7 +82,7 @@ impl OrderedNodes {
         requires { HasNode self.now.nodes id }
         ensures { node_at self.now.nodes id ≡ Some result.now }
     {
-        &self.slots[id.at]
+        &self.slots[id.at as usize]
     }
 
     /// How many of some of the nodes, by their ids in key order, are earlier than the key.
@@ -215,7 +218,10 @@ impl OrderedNodes {
     fn compare_keys(&self, one: NodeId, other: NodeId) -> Ordering
         ensures { result ≡ option_cmp key_cmp (key_at self.now.nodes one) (key_at self.now.nodes other) }
     {
-        match (self.slots.get(one.at), self.slots.get(other.at)) {
+        match (
+            self.slots.get(one.at as usize),
+            self.slots.get(other.at as usize),
+        ) {
             (Some(one), Some(other)) => one.task.key.compare(&other.task.key),
             (Some(_), None) => Ordering::Greater,
             (None, Some(_)) => Ordering::Less,
@@ -300,6 +306,10 @@ impl OrderedNodes {
         ensures nodes { self.new.nodes ≡ self.old.nodes }
     {
         self.slots.reserve(additional)?;
+        // Each key that may come is to be an id.
+        if self.slots.capacity() > IDS {
+            return Err(NoRoom);
+        }
         Ok(())
     }
 
@@ -316,8 +326,9 @@ impl OrderedNodes {
     {
         put_in_laws();
         let _ascending = set.items();
+        // Where an id is left no key has more than 32 bits.
         let id = NodeId {
-            at: self.slots.vacant_key(),
+            at: (self.slots.vacant_key() & (IDS - 1)) as u32,
         };
         let _ = self.slots.insert_reserved(Entry {
             id,
@@ -337,7 +348,7 @@ impl OrderedNodes {
         ensures keys { self.new.keys ≡ self.old.keys }
         ensures graph { IsGraph self.new.nodes }
     {
-        self.slots.remove(id.at)
+        self.slots.remove(id.at as usize)
     }
 
     /// Replaces the set of a node and gives the one that it had.
@@ -350,7 +361,7 @@ impl OrderedNodes {
         ensures graph { IsGraph self.new.nodes }
     {
         let _ascending = set.items();
-        let named = &mut self.slots[id.at];
+        let named = &mut self.slots[id.at as usize];
         mem::replace(&mut named.set, set)
     }
 
@@ -362,7 +373,7 @@ impl OrderedNodes {
         ensures keys { self.new.keys ≡ self.old.keys }
         ensures graph { IsGraph self.new.nodes }
     {
-        let named = &mut self.slots[id.at];
+        let named = &mut self.slots[id.at as usize];
         named.running = true;
     }
 }

@@ -107,7 +107,7 @@ impl SourceLane {
         ensures settled { is_settled result ≡ has_number id.at self.now.ids }
         ensures recent { is_recent result ≡ has_number id.at (arrived self.now.recent) }
     {
-        match self.standings.get(id.at) {
+        match self.standings.get(id.at as usize) {
             Some(standing) => *standing,
             None => Standing::Absent,
         }
@@ -177,7 +177,7 @@ impl SourceLane {
         ensures marks { self.new.marks ≡ self.old.marks }
     {
         nodes.take_from(&mut self.settled, id);
-        self.standings[id.at] = Standing::Absent;
+        self.standings[id.at as usize] = Standing::Absent;
     }
 
     /// Puts the id of a node in, if it is not there: among those to be put in order, or in its place
@@ -196,10 +196,10 @@ impl SourceLane {
             return;
         }
         if self.arrivals.push(nodes.arrival(id)).is_ok() {
-            self.standings[id.at] = Standing::Recent;
+            self.standings[id.at as usize] = Standing::Recent;
         } else {
             let _ = nodes.put_into(&mut self.settled, id);
-            self.standings[id.at] = Standing::Settled;
+            self.standings[id.at as usize] = Standing::Settled;
         }
     }
 
@@ -443,9 +443,9 @@ fn put_in_order(
     for arrival in arrivals {
         let id = arrival.id;
         // None is there twice, but nothing here rests on that.
-        if standings[id.at] == Standing::Recent {
+        if standings[id.at as usize] == Standing::Recent {
             start = nodes.put_behind(settled, id, start) + 1;
-            standings[id.at] = Standing::Settled;
+            standings[id.at as usize] = Standing::Settled;
         }
     }
 }
