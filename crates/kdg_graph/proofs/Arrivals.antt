@@ -1,5 +1,5 @@
 -- Ids that came, and are put in order with the others one after another.
-use Rattle.std.proofs.Common.{◌≡◌, ◌≢◌, inl, inr, ℕ, suc, ◌+◌, ◌<◌, ◌≤◌, ◌||◌, true, false, cond, List, ◌∷◌, length, drop, get_or, set, Option, Some, refl, sym, ◌∙◌, ap, subst, arith, eq-eqb, get_or-drop, length-drop, ◌==◌}
+use Rattle.std.proofs.Common.{◌≡◌, ◌≢◌, inl, inr, ℕ, ◌+◌, ◌<◌, ◌≤◌, ◌||◌, true, false, cond, List, ◌∷◌, length, drop, get_or, set, Option, Some, refl, sym, ◌∙◌, ap, subst, arith, eq-eqb, get_or-drop, length-drop, ◌==◌}
 use Rattle.std.specs.Prelude.{Contains, IfSome, slice_get}
 use Rattle.std.specs.Cmp.Lexicographic.{nat_list_cmp_total, slice_cmp}
 use Rattle.std.specs.List.{AllByRecursion}
@@ -13,23 +13,22 @@ use Rattle.std.proofs.lemmas.Cmp.{ranked}
 use Rattle.std.proofs.lemmas.Grind.{get_or-set_at}
 use Rattle.std.proofs.lemmas.List.{get_or-set_other, get_or_default}
 use Rattle.std.proofs.lemmas.List.Elements.{Contains-get_or}
-use Rattle.std.proofs.lemmas.List.MinMax.{ranks_by}
 use Rattle.std.proofs.lemmas.List.Sorted.{sorted_far}
 use Rattle.std.proofs.lemmas.Option.{get_or_from_slice_get, slice_get_within}
 use Rattle.task_order.specs.declared.key.Key.{Key}
-use Rattle.task_order.specs.Key.{key_cmp, key_cmp_total}
+use Rattle.task_order.specs.Key.{key_cmp}
 use Rattle.task_order.specs.Laws.{LowerBeginningsComeFirst}
 use Rattle.task_order.specs.PathCode.{path_beginning}
 use Rattle.kdg_graph.specs.declared.arrival.Arrival.{Arrival}
 use Rattle.kdg_graph.specs.declared.node_id.NodeId.{NodeId}
 use Rattle.kdg_graph.specs.declared.source_lane.Standing.{Standing}
 use Rattle.kdg_graph.specs.declared.source_lane.Standing.TheVariants.{Absent, Settled, Recent}
-use Rattle.kdg_graph.specs.Lanes.{AreEarlier}
+use Rattle.kdg_graph.specs.Lanes.{AreLater}
 use Rattle.kdg_graph.specs.Node.{Node}
 use Rattle.kdg_graph.specs.Nodes.{HasNode, IsGraph, ids_of, node_at}
 use Rattle.kdg_graph.specs.Selected.{AreInTurn, HaveMarks, IsArrival, IsInOrder, arrival_cmp, arrived, has_number, is_recent, is_settled, key_at}
 use Rattle.kdg_graph.proofs.Blocking.{any_from}
-use Rattle.kdg_graph.proofs.Listing.{IsPutInto, arrivals_total, in_order_putting, room_for_one, set_by_putting}
+use Rattle.kdg_graph.proofs.Listing.{IsPutInto, in_order_putting, latest_first, room_for_one, set_by_putting}
 use Rattle.kdg_graph.proofs.LookUps.{nodes_have_ids}
 use Rattle.kdg_graph.proofs.Marking.{IsSetIn}
 use Rattle.kdg_graph.proofs.Members.{all_at, all_from, in_map}
@@ -52,14 +51,14 @@ has_mark nodes arrival marks have arrives =
 
 -- ---- their order
 
--- none of those behind one comes before it
-pub none_before : (nodes : List Node) (arrivals : List Arrival) (i : ℕ) (d : Arrival) → AreInTurn nodes arrivals → i < length arrivals → AllByRecursion (λ later. is_lt (arrival_cmp nodes later (get_or arrivals i d)) ≡ false) (drop (i + 1) arrivals)
-none_before nodes arrivals i d turns inside =
-    all_from (λ (later : Arrival). is_lt (arrival_cmp nodes later (get_or arrivals i d)) ≡ false) (drop (i + 1) arrivals) (λ later has.
+-- none of those behind one comes after it
+pub none_after : (nodes : List Node) (arrivals : List Arrival) (i : ℕ) (d : Arrival) → AreInTurn nodes arrivals → i < length arrivals → AllByRecursion (λ next. is_lt (arrival_cmp nodes (get_or arrivals i d) next) ≡ false) (drop (i + 1) arrivals)
+none_after nodes arrivals i d turns inside =
+    all_from (λ (next : Arrival). is_lt (arrival_cmp nodes (get_or arrivals i d) next) ≡ false) (drop (i + 1) arrivals) (λ next has.
     let within : i + 1 + has.0 < length arrivals = omega (arith, has.1, length-drop (i + 1) arrivals) in
-    let here : get_or arrivals (i + 1 + has.0) d ≡ later = get_or_default arrivals (i + 1 + has.0) d later within ∙ sym (get_or-drop (i + 1) arrivals has.0 later) ∙ has.2 in
-    subst (λ (a : Arrival). is_lt (arrival_cmp nodes a (get_or arrivals i d)) ≡ false) here
-    (sorted_far (λ (a b : Arrival). is_lt (arrival_cmp nodes a b)) (ranks_by (arrivals_total nodes) (λ a. a)) arrivals turns i (i + 1 + has.0) d (omega arith) within))
+    let here : get_or arrivals (i + 1 + has.0) d ≡ next = get_or_default arrivals (i + 1 + has.0) d next within ∙ sym (get_or-drop (i + 1) arrivals has.0 next) ∙ has.2 in
+    subst (λ (a : Arrival). is_lt (arrival_cmp nodes (get_or arrivals i d) a) ≡ false) here
+    (sorted_far (λ (a b : Arrival). is_lt (arrival_cmp nodes b a)) (latest_first nodes) arrivals turns i (i + 1 + has.0) d (omega arith) within))
 
 -- beginnings that don't turn paths round don't turn keys round
 by_parts : (prios beginnings paths : Ordering) → (beginnings ≡ Greater → paths ≡ Greater) → is_lt (ordering_then prios (ordering_then beginnings (ordering_then prios paths))) ≡ false → is_lt (ordering_then prios paths) ≡ false
@@ -83,48 +82,48 @@ not_earlier lower nodes one other a b graph is =
     nat_list_cmp_total.antisymm mine.path its.path ∙ ap ordering_reverse (lower its.path mine.path b.fits a.fits (ranked (path_beginning mine.path) (path_beginning its.path) Greater (sym later))) in
     by_parts (nat_cmp mine.prio its.prio) (nat_cmp (path_beginning mine.path) (path_beginning its.path)) (slice_cmp nat_cmp mine.path its.path) turns (sym (ap is_lt compared) ∙ is)
 
--- of two nodes the first is earlier where the second isn't
-earlier_unless : (nodes : List Node) (one other : Node) → IsGraph nodes → Contains nodes one → Contains nodes other → one ≢ other → is_before one.task.key other ≡ false → key_cmp one.task.key other.task.key ≡ Less
-earlier_unless nodes one other graph has_one has_other differ is = by_case (key_cmp one.task.key other.task.key) refl
+-- of two nodes the first is later where it isn't earlier
+later_unless : (nodes : List Node) (one other : Node) → IsGraph nodes → Contains nodes one → Contains nodes other → one ≢ other → is_before other.task.key one ≡ false → key_cmp one.task.key other.task.key ≡ Greater
+later_unless nodes one other graph has_one has_other differ is = by_case (key_cmp one.task.key other.task.key) refl
   where
-    by_case : (o : Ordering) → key_cmp one.task.key other.task.key ≡ o → o ≡ Less
-    by_case Less compared = refl
+    by_case : (o : Ordering) → key_cmp one.task.key other.task.key ≡ o → o ≡ Greater
+    by_case Less compared = absurd (true≢false (sym (ap is_lt compared) ∙ is))
     by_case Equal compared = absurd (differ (same_key nodes one other graph.ascending has_one has_other compared))
-    by_case Greater compared = absurd (true≢false (sym (ap is_lt (key_cmp_total.antisymm other.task.key one.task.key ∙ ap ordering_reverse compared)) ∙ is))
+    by_case Greater compared = refl
 
 -- ---- how far they are put in order
 
--- none of those that are left comes before the one whose id stands just before the place
-pub record IsReached (nodes : List Node) (ids : List NodeId) (start : ℕ) (left : List Arrival) : Type 0 where
-  pub inside : start ≤ length ids
-  pub last : (place : ℕ) → suc place ≡ start → (arrival : Arrival) × IsArrival nodes arrival × (slice_get ids place ≡ Some arrival.id) × AllByRecursion (λ later. is_lt (arrival_cmp nodes later arrival) ≡ false) left
+-- none of those that are left comes after the one whose id stands at the place, if one does
+pub record IsReached (nodes : List Node) (ids : List NodeId) (end : ℕ) (left : List Arrival) : Type 0 where
+  pub inside : end ≤ length ids
+  pub last : end < length ids → (arrival : Arrival) × IsArrival nodes arrival × (slice_get ids end ≡ Some arrival.id) × AllByRecursion (λ next. is_lt (arrival_cmp nodes arrival next) ≡ false) left
 
-reached_rest : (nodes : List Node) (ids : List NodeId) (start : ℕ) (arrival : Arrival) (rest : List Arrival) → IsReached nodes ids start (arrival ∷ rest) → IsReached nodes ids start rest
-reached_rest nodes ids start arrival rest reached = record {
+reached_rest : (nodes : List Node) (ids : List NodeId) (end : ℕ) (arrival : Arrival) (rest : List Arrival) → IsReached nodes ids end (arrival ∷ rest) → IsReached nodes ids end rest
+reached_rest nodes ids end arrival rest reached = record {
   inside = reached.inside;
-  last = λ place is. let was = reached.last place is in (was.0, was.1, was.2, was.3.1);
+  last = λ within. let was = reached.last within in (was.0, was.1, was.2, was.3.1);
 }
 
-reached_next : (nodes : List Node) (ids : List NodeId) (place : ℕ) (arrival : Arrival) (rest : List Arrival) → IsArrival nodes arrival → slice_get ids place ≡ Some arrival.id → AllByRecursion (λ later. is_lt (arrival_cmp nodes later arrival) ≡ false) rest → IsReached nodes ids (place + 1) rest
+reached_next : (nodes : List Node) (ids : List NodeId) (place : ℕ) (arrival : Arrival) (rest : List Arrival) → IsArrival nodes arrival → slice_get ids place ≡ Some arrival.id → AllByRecursion (λ next. is_lt (arrival_cmp nodes arrival next) ≡ false) rest → IsReached nodes ids place rest
 reached_next nodes ids place arrival rest arrives at turns =
     let inside : place < length ids = slice_get_within ids place arrival.id at in
     record {
       inside = omega (arith, inside);
-      last = λ before is. (arrival, arrives, subst (λ n. slice_get ids n ≡ Some arrival.id) (omega (arith, is)) at, turns);
+      last = λ within. (arrival, arrives, at, turns);
     }
 
--- then the ids before the place are those of earlier nodes than the next one's, where its own isn't there
-reached_earlier : LowerBeginningsComeFirst → (nodes : List Node) (ids : List NodeId) (start : ℕ) (arrival : Arrival) (rest : List Arrival) (arrives : IsArrival nodes arrival) → IsGraph nodes → IsReached nodes ids start (arrival ∷ rest) → has_number arrival.id.at ids ≡ false → AreEarlier nodes arrives.node.task.key ids start
-reached_earlier lower nodes ids start arrival rest arrives graph reached absent = record {
+-- then the ids from the place on are those of later nodes than the next one's, where its own isn't there
+reached_later : LowerBeginningsComeFirst → (nodes : List Node) (ids : List NodeId) (end : ℕ) (arrival : Arrival) (rest : List Arrival) (arrives : IsArrival nodes arrival) → IsGraph nodes → IsReached nodes ids end (arrival ∷ rest) → has_number arrival.id.at ids ≡ false → AreLater nodes arrives.node.task.key ids end
+reached_later lower nodes ids end arrival rest arrives graph reached absent = record {
   inside = reached.inside;
-  earlier = λ place is.
-      let last = reached.last place is in
+  later = λ within.
+      let last = reached.last within in
       let before : IsArrival nodes last.0 = last.1 in
-      let at : slice_get ids place ≡ Some before.node.id = last.2 ∙ ap (λ (id : NodeId). Some id) (sym before.id_is) in
+      let at : slice_get ids end ≡ Some before.node.id = last.2 ∙ ap (λ (id : NodeId). Some id) (sym before.id_is) in
       let differ : before.node ≢ arrives.node = λ same.
-      let there : Contains ids arrival.id = (place, slice_get_within ids place last.0.id last.2, get_or_from_slice_get ids place arrival.id arrival.id (last.2 ∙ ap (λ (id : NodeId). Some id) (sym before.id_is ∙ ap (λ (n : Node). n.id) same ∙ arrives.id_is))) in
+      let there : Contains ids arrival.id = (end, within, get_or_from_slice_get ids end arrival.id arrival.id (last.2 ∙ ap (λ (id : NodeId). Some id) (sym before.id_is ∙ ap (λ (n : Node). n.id) same ∙ arrives.id_is))) in
       true≢false (sym (any_from (λ (id : NodeId). arrival.id.at == id.at) ids arrival.id there (eq-eqb arrival.id.at arrival.id.at refl)) ∙ absent) in
-      (before.node, before.there, at, earlier_unless nodes before.node arrives.node graph before.there arrives.there differ (not_earlier lower nodes arrival last.0 arrives before graph last.3.0));
+      (before.node, before.there, at, later_unless nodes before.node arrives.node graph before.there arrives.there differ (not_earlier lower nodes last.0 arrival before arrives graph last.3.0));
 }
 
 -- ---- their standings
@@ -191,22 +190,22 @@ absent_recent before arrivals left ids standings at marked is = sym (marked.sett
 -- ---- from one to the next
 
 -- of those that came these are left, and the others are in order with the ids that were there before
-pub record ArePut (nodes : List Node) (before : List NodeId) (arrivals left : List Arrival) (ids : List NodeId) (standings : List Standing) (start : ℕ) : Type 0 where
+pub record ArePut (nodes : List Node) (before : List NodeId) (arrivals left : List Arrival) (ids : List NodeId) (standings : List Standing) (end : ℕ) : Type 0 where
   pub in_order : IsInOrder nodes ids
   pub marked : AreMarkedSoFar before arrivals left ids standings
-  pub reached : IsReached nodes ids start left
+  pub reached : IsReached nodes ids end left
 
-pub put_rest : (nodes : List Node) (before : List NodeId) (arrivals rest : List Arrival) (arrival : Arrival) (ids : List NodeId) (standings : List Standing) (start : ℕ) → ArePut nodes before arrivals (arrival ∷ rest) ids standings start → get_or standings arrival.id.at Absent ≢ Recent → ArePut nodes before arrivals rest ids standings start
-put_rest nodes before arrivals rest arrival ids standings start put other = record {
+pub put_rest : (nodes : List Node) (before : List NodeId) (arrivals rest : List Arrival) (arrival : Arrival) (ids : List NodeId) (standings : List Standing) (end : ℕ) → ArePut nodes before arrivals (arrival ∷ rest) ids standings end → get_or standings arrival.id.at Absent ≢ Recent → ArePut nodes before arrivals rest ids standings end
+put_rest nodes before arrivals rest arrival ids standings end put other = record {
   in_order = put.in_order;
   marked = marked_rest before arrivals rest arrival ids standings put.marked other;
-  reached = reached_rest nodes ids start arrival rest put.reached;
+  reached = reached_rest nodes ids end arrival rest put.reached;
 }
 
-pub put_next : (nodes : List Node) (before : List NodeId) (arrivals rest : List Arrival) (arrival : Arrival) (ids now : List NodeId) (standings : List Standing) (start place : ℕ) → IsGraph nodes → IsArrival nodes arrival → ArePut nodes before arrivals (arrival ∷ rest) ids standings start
-    → AllByRecursion (λ later. is_lt (arrival_cmp nodes later arrival) ≡ false) rest → get_or standings arrival.id.at Absent ≡ Recent → arrival.id.at < length standings → slice_get now place ≡ Some arrival.id
-    → IsPutInto nodes arrival.id ids now → ArePut nodes before arrivals rest now (set standings arrival.id.at Settled) (place + 1)
-put_next nodes before arrivals rest arrival ids now standings start place graph arrives put turns is inside at puts =
+pub put_next : (nodes : List Node) (before : List NodeId) (arrivals rest : List Arrival) (arrival : Arrival) (ids now : List NodeId) (standings : List Standing) (end place : ℕ) → IsGraph nodes → IsArrival nodes arrival → ArePut nodes before arrivals (arrival ∷ rest) ids standings end
+    → AllByRecursion (λ next. is_lt (arrival_cmp nodes arrival next) ≡ false) rest → get_or standings arrival.id.at Absent ≡ Recent → arrival.id.at < length standings → slice_get now place ≡ Some arrival.id
+    → IsPutInto nodes arrival.id ids now → ArePut nodes before arrivals rest now (set standings arrival.id.at Settled) place
+put_next nodes before arrivals rest arrival ids now standings end place graph arrives put turns is inside at puts =
     let absent : has_number arrival.id.at ids ≡ false = absent_recent before arrivals (arrival ∷ rest) ids standings arrival.id.at put.marked is in
     let there : HasNode nodes arrival.id = found_some nodes arrival.id arrives.node graph arrives.there arrives.id_is in
     record {
@@ -216,14 +215,14 @@ put_next nodes before arrivals rest arrival ids now standings start place graph 
     }
 
 -- the next one's id has room
-pub room_next : (nodes : List Node) (before : List NodeId) (arrivals left : List Arrival) (arrival : Arrival) (ids : List NodeId) (standings : List Standing) (start room : ℕ) → IsGraph nodes → IsArrival nodes arrival → ArePut nodes before arrivals left ids standings start
+pub room_next : (nodes : List Node) (before : List NodeId) (arrivals left : List Arrival) (arrival : Arrival) (ids : List NodeId) (standings : List Standing) (end room : ℕ) → IsGraph nodes → IsArrival nodes arrival → ArePut nodes before arrivals left ids standings end
     → get_or standings arrival.id.at Absent ≡ Recent → length nodes ≤ room → length ids < room
-room_next nodes before arrivals left arrival ids standings start room graph arrives put is fits =
+room_next nodes before arrivals left arrival ids standings end room graph arrives put is fits =
     room_for_one nodes arrival.id ids room graph (found_some nodes arrival.id arrives.node graph arrives.there arrives.id_is) put.in_order (absent_recent before arrivals left ids standings arrival.id.at put.marked is) fits
 
--- and is that of a later node than those before the place that was reached
-pub known_next : LowerBeginningsComeFirst → (nodes : List Node) (before : List NodeId) (arrivals rest : List Arrival) (arrival : Arrival) (ids : List NodeId) (standings : List Standing) (start : ℕ) → IsGraph nodes → IsArrival nodes arrival → ArePut nodes before arrivals (arrival ∷ rest) ids standings start
-    → get_or standings arrival.id.at Absent ≡ Recent → IfSome (node_at nodes arrival.id) (λ (node : Node). AreEarlier nodes node.task.key ids start)
-known_next lower nodes before arrivals rest arrival ids standings start graph arrives put is =
-    subst (λ (o : Option Node). IfSome o (λ (node : Node). AreEarlier nodes node.task.key ids start)) (sym (found_arrival nodes arrival arrives graph))
-    (reached_earlier lower nodes ids start arrival rest arrives graph put.reached (absent_recent before arrivals (arrival ∷ rest) ids standings arrival.id.at put.marked is))
+-- and is that of an earlier node than those from the place that was reached on
+pub known_next : LowerBeginningsComeFirst → (nodes : List Node) (before : List NodeId) (arrivals rest : List Arrival) (arrival : Arrival) (ids : List NodeId) (standings : List Standing) (end : ℕ) → IsGraph nodes → IsArrival nodes arrival → ArePut nodes before arrivals (arrival ∷ rest) ids standings end
+    → get_or standings arrival.id.at Absent ≡ Recent → IfSome (node_at nodes arrival.id) (λ (node : Node). AreLater nodes node.task.key ids end)
+known_next lower nodes before arrivals rest arrival ids standings end graph arrives put is =
+    subst (λ (o : Option Node). IfSome o (λ (node : Node). AreLater nodes node.task.key ids end)) (sym (found_arrival nodes arrival arrives graph))
+    (reached_later lower nodes ids end arrival rest arrives graph put.reached (absent_recent before arrivals (arrival ∷ rest) ids standings arrival.id.at put.marked is))

@@ -1,13 +1,15 @@
 -- Ids of nodes, some in key order and others that came since, where one comes in or goes out.
 use Rattle.std.proofs.Common.{◌≡◌, ℕ, ◌<◌, ◌≤◌, ◌==◌, ◌||◌, Bool, true, false, cond, List, [], ◌∷◌, ◌++◌, append-nil, length, Some, refl, sym, ◌∙◌, ap, subst}
 use Rattle.std.specs.Prelude.{Contains, IfSome}
-use Rattle.std.specs.Cmp.{IsTotalOrder}
+use Rattle.std.specs.Cmp.{IsStrictWeakOrder, IsTotalOrder}
 use Rattle.std.specs.Cmp.Lexicographic.{options_total}
 use Rattle.std.specs.List.{AllByRecursion, filter}
 use Rattle.std.specs.List.Sorted.{IsPermutation}
+use Rattle.std.specs.Ordering.{is_lt}
 use Rattle.std.proofs.lemmas.Cmp.{nat_cmp_total, on_total, then_total}
 use Rattle.std.proofs.lemmas.List.Elements.{All-from_recursion, recursion_from_All}
 use Rattle.std.proofs.lemmas.List.Folds.{list_any-append}
+use Rattle.std.proofs.lemmas.List.MinMax.{IsStrictWeakOrder-flip, ranks_by}
 use Rattle.std.proofs.lemmas.List.Sorted.{All-permutation}
 use Rattle.task_order.specs.Key.{key_cmp_total}
 use Rattle.kdg_graph.specs.declared.arrival.Arrival.{Arrival}
@@ -52,9 +54,13 @@ selected_set nodes test id answer before ids graph sets is =
 -- ---- arrivals
 
 -- their order is one by priority, then by the beginning of the path, then by key
-pub arrivals_total : (nodes : List Node) → IsTotalOrder (arrival_cmp nodes)
+arrivals_total : (nodes : List Node) → IsTotalOrder (arrival_cmp nodes)
 arrivals_total nodes =
     then_total (on_total (λ (a : Arrival). a.prio) nat_cmp_total) (then_total (on_total (λ (a : Arrival). a.beginning) nat_cmp_total) (on_total (λ (a : Arrival). key_at nodes a.id) (options_total key_cmp_total)))
+
+-- and so is the one that has the latest first
+pub latest_first : (nodes : List Node) → IsStrictWeakOrder (λ (a b : Arrival). is_lt (arrival_cmp nodes b a))
+latest_first nodes = IsStrictWeakOrder-flip (λ (a b : Arrival). is_lt (arrival_cmp nodes a b)) (ranks_by (arrivals_total nodes) (λ (a : Arrival). a))
 
 pub all_moved : {X : Type 0} (P : X → Type 0) (xs ys : List X) → AllByRecursion P xs → IsPermutation xs ys → AllByRecursion P ys
 all_moved P xs ys all moved = recursion_from_All P ys (All-permutation P xs ys moved (All-from_recursion P xs all))

@@ -13,13 +13,13 @@ use Rattle.task_order.specs.TaskList.{IsAscending}
 use Rattle.kdg_graph.specs.declared.node_id.NodeId.{NodeId}
 use Rattle.kdg_graph.specs.Node.{Node}
 use Rattle.kdg_graph.specs.Nodes.{ids_of, tasks_of}
-use Rattle.kdg_graph.specs.Lanes.{AreStored, IsBetween, IsEnded, IsFound, IsGap, IsLane, IsRank, IsSearched, IsStart, cmp_at, cmp_if, cmp_in_if}
+use Rattle.kdg_graph.specs.Lanes.{AreStored, IsBetween, IsEnded, IsFound, IsGap, IsLane, IsRank, IsSearched, cmp_at, cmp_if, cmp_in_if}
 use Rattle.kdg_graph.proofs.Lanes.{length-ids}
-use Rattle.kdg_graph.proofs.Ordering.{Less_from_test, earlier_at, is_before, is_partitioned}
+use Rattle.kdg_graph.proofs.Ordering.{earlier_at, is_before, is_partitioned}
 
 -- ---- what a look at a place tells
 
-later_past : (slots : Slab Node) (key : Key) (ids : List NodeId) (place : ℕ) → length ids ≤ place → cmp_at slots key ids place ≡ Greater
+pub later_past : (slots : Slab Node) (key : Key) (ids : List NodeId) (place : ℕ) → length ids ≤ place → cmp_at slots key ids place ≡ Greater
 later_past slots key ids place past = ap (cmp_in_if slots key) (slice_get_past ids place past)
 
 -- what isn't later is there
@@ -102,12 +102,11 @@ all_earlier slots key nodes ids len lane is earlier =
     let between : IsBetween slots key ids len len = record { ordered = omega arith; inside = omega (arith, is); earlier = earlier; later = later_past slots key ids len (omega (arith, is)) } in
     (gap_ended slots key nodes ids len lane between).rank
 
--- where so many of the first are earlier, and the one behind them isn't, they are all
-pub rank_started : (slots : Slab Node) (key : Key) (nodes : List Node) (ids : List NodeId) (start : ℕ) → IsLane slots nodes ids → IsStart slots key ids start → (cmp_at slots key ids start ≡ Less → ⊥) → IsRank key nodes start
-rank_started slots key nodes ids start lane known other =
-    rank_around key nodes start lane.ascending (omega (arith, known.inside, as_many slots nodes ids lane))
-    (λ before is d. ap is_lt (compared_in slots key nodes ids before Less lane (omega (arith, is, known.inside, as_many slots nodes ids lane)) (known.earlier before is) d))
-    (λ inside d. false_from_ne_true _ (λ less. other (compared slots key nodes ids start d lane.stored lane.ids_are (omega (arith, inside, as_many slots nodes ids lane)) ∙ Less_from_test _ less)))
+-- where the first is later, or none is there, none is earlier
+pub none_earlier : (slots : Slab Node) (key : Key) (nodes : List Node) (ids : List NodeId) → IsLane slots nodes ids → cmp_at slots key ids 0 ≡ Greater → IsRank key nodes 0
+none_earlier slots key nodes ids lane later =
+    let between : IsBetween slots key ids 0 0 = record { ordered = omega arith; inside = omega arith; earlier = λ place is. absurd (omega (arith, is)); later = later } in
+    (gap_ended slots key nodes ids 0 lane between).rank
 
 -- ---- what a search tells
 

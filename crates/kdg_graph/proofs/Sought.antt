@@ -6,7 +6,7 @@ use Rattle.std.specs.List.{find}
 use Rattle.std.specs.Option.{option_map}
 use Rattle.std.specs.Ordering.{is_eq, ordering_reverse}
 use Rattle.std.specs.declared.cmp.Ordering.TheVariants.{Less, Equal, Greater}
-use Rattle.std.proofs.lemmas.Bool.{false≢true}
+use Rattle.std.proofs.lemmas.Bool.{cases_lt, false≢true}
 use Rattle.std.proofs.lemmas.Option.{get_or_from_slice_get, slice_get-map, slice_get_cases, slice_get_within}
 use Rattle.slab.specs.Slab.{Slab, entries, get}
 use Rattle.slab.proofs.SlabLemmas.{Contains-entries}
@@ -14,7 +14,7 @@ use Rattle.task_order.specs.declared.key.Key.{Key}
 use Rattle.task_order.specs.Key.{key_cmp, key_cmp_total}
 use Rattle.task_order.specs.TaskList.{IsAscending}
 use Rattle.kdg_graph.specs.declared.node_id.NodeId.{NodeId}
-use Rattle.kdg_graph.specs.Lanes.{AreEarlier, IsFound, IsGap, IsRankPast, IsStart, cmp_if, cmp_in_if, is_id_at}
+use Rattle.kdg_graph.specs.Lanes.{AreLater, IsFound, IsGap, IsRankPast, cmp_at, cmp_if, cmp_in_if, is_id_at}
 use Rattle.kdg_graph.specs.Locations.{IsLaneAmong}
 use Rattle.kdg_graph.specs.Node.{Node}
 use Rattle.kdg_graph.specs.Nodes.{IsGraph, ids_of, is_at, node_at, node_with_key, tasks_of}
@@ -27,7 +27,7 @@ use Rattle.kdg_graph.proofs.Members.{all_at, cases, find_none, from_find, none, 
 use Rattle.kdg_graph.proofs.Neighbours.{same_found}
 use Rattle.kdg_graph.proofs.Ordering.{found_at_point, no_key_past_all}
 use Rattle.kdg_graph.proofs.Pasts.{past_nothing, past_tied, past_untied}
-use Rattle.kdg_graph.proofs.Searching.{found_tied, less_tied}
+use Rattle.kdg_graph.proofs.Searching.{found_tied, later_past, less_tied}
 
 -- ---- the node with the key
 
@@ -95,14 +95,15 @@ kept_at slots id is =
 pub key_kept : (slots : Slab Node) (id : NodeId) (found : Option Node) (nodes : List Node) → IsStored slots → nodes_of slots ≡ nodes → found ≡ get slots id.at → option_map (λ node. node.task.key) found ≡ key_at nodes id
 key_kept slots id found nodes is are kept = ap (option_map (λ (node : Node). node.task.key)) (kept ∙ kept_at slots id is ∙ ap (λ (l : List Node). node_at l id) are)
 
--- nodes that are earlier are so where they are kept
-pub earlier_stored : (slots : Slab Node) (key : Key) (ids : List NodeId) (start : ℕ) → IsStored slots → AreEarlier (nodes_of slots) key ids start → IsStart slots key ids start
-earlier_stored slots key ids start is known = record {
-  inside = known.inside;
-  earlier = λ place at.
-      let last = known.earlier place at in
-      ap (cmp_in_if slots key) last.2 ∙ ap (cmp_if key) (all_at (λ (n : Node). get slots n.id.at ≡ Some n) (nodes_of slots) last.0 is.stored last.1) ∙ last.3;
-}
+-- nodes that are later are so where they are kept
+pub later_stored : (slots : Slab Node) (key : Key) (nodes : List Node) (ids : List NodeId) (end : ℕ) → IsStored slots → nodes_of slots ≡ nodes → AreLater nodes key ids end → cmp_at slots key ids end ≡ Greater
+later_stored slots key nodes ids end is are known = elim (cases_lt end (length ids)) [
+  | inl inside ↦
+      let first = known.later inside in
+      let there : Contains (nodes_of slots) first.0 = subst (λ (l : List Node). Contains l first.0) (sym are) first.1 in
+      ap (cmp_in_if slots key) first.2 ∙ ap (cmp_if key) (all_at (λ (n : Node). get slots n.id.at ≡ Some n) (nodes_of slots) first.0 is.stored there) ∙ first.3
+  | inr past ↦ later_past slots key ids end past
+]
 
 -- ---- what is later than the key
 

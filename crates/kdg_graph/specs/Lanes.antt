@@ -83,15 +83,10 @@ pub record IsBetween (slots : Slab Node) (key : Key) (ids : List NodeId) (low hi
   pub earlier : (place : ℕ) → suc place ≡ low → cmp_at slots key ids place ≡ Less
   pub later : cmp_at slots key ids high ≡ Greater
 
--- so many of the first are earlier than the key: the last of these is
-pub record IsStart (slots : Slab Node) (key : Key) (ids : List NodeId) (start : ℕ) : Type 0 where
-  pub inside : start ≤ length ids
-  pub earlier : (place : ℕ) → suc place ≡ start → cmp_at slots key ids place ≡ Less
-
--- the same of nodes in key order
-pub record AreEarlier (nodes : List Node) (key : Key) (ids : List NodeId) (start : ℕ) : Type 0 where
-  pub inside : start ≤ length ids
-  pub earlier : (place : ℕ) → suc place ≡ start → (node : Node) × Contains nodes node × (slice_get ids place ≡ Some node.id) × (key_cmp node.task.key key ≡ Less)
+-- those from a place on are later than the key: the first of these is, if there is one
+pub record AreLater (nodes : List Node) (key : Key) (ids : List NodeId) (end : ℕ) : Type 0 where
+  pub inside : end ≤ length ids
+  pub later : end < length ids → (node : Node) × Contains nodes node × (slice_get ids end ≡ Some node.id) × (key_cmp node.task.key key ≡ Greater)
 
 -- the node at the place has the key, or else the place is between an earlier node and a later one
 abbrev pub IsEnded : Slab Node → Key → List NodeId → Result ℕ ℕ → Type 0

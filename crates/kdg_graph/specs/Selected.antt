@@ -71,9 +71,9 @@ key_at nodes id = option_map (λ node. node.task.key) (node_at nodes id)
 abbrev pub arrival_cmp : List Node → Arrival → Arrival → Ordering
 arrival_cmp nodes a b = ordering_then (nat_cmp a.prio b.prio) (ordering_then (nat_cmp a.beginning b.beginning) (option_cmp key_cmp (key_at nodes a.id) (key_at nodes b.id)))
 
--- none comes before the one in front of it
+-- none comes after the one in front of it
 abbrev pub AreInTurn : List Node → List Arrival → Type 0
-AreInTurn nodes arrivals = IsSortedBy (λ a b. is_lt (arrival_cmp nodes a b)) arrivals
+AreInTurn nodes arrivals = IsSortedBy (λ a b. is_lt (arrival_cmp nodes b a)) arrivals
 
 abbrev pub arrived : List Arrival → List NodeId
 arrived recent = map (λ arrival. arrival.id) recent

@@ -82,8 +82,8 @@ impl Graph {
     /// and puts the fresh tasks in, each as a node that is not running. Nothing else changes. The list of
     /// fresh tasks has none then, and keeps its memory for others.
     ///
-    /// All memory is taken first. Where it runs out, or the ids do, the changes come back, and the fresh
-    /// tasks and the graph are as they were.
+    /// All memory that it needs is taken first. Where it runs out, or the ids do, the changes come back,
+    /// and the fresh tasks and the graph are as they were.
     pub fn rewrite(
         &mut self,
         ended: NodeId,

@@ -1,6 +1,6 @@
 ghost use Rattle.std.specs.Prelude.{◌≡◌, ◌+◌, ◌^◌, ◌≤◌, ◌<◌, [], length, slice_get, slice_index_or, true, IfSome, MatchResult, OnOk};
 ghost use Rattle.std.specs.List.{insert, remove};
-ghost use Rattle.kdg_graph.specs.Lanes.{IsBetween, IsEnded, IsLane, IsRank, IsRankPast, IsSearched, IsStart, cmp_at, cmp_in, is_id_at};
+ghost use Rattle.kdg_graph.specs.Lanes.{IsBetween, IsEnded, IsLane, IsRank, IsRankPast, IsSearched, cmp_at, cmp_in, is_id_at};
 ghost use Rattle.kdg_graph.specs.Locations.{is_first_before};
 ghost use Rattle.std.specs.Prelude.{List};
 ghost use Rattle.kdg_graph.specs.Node.{Node};
@@ -98,18 +98,16 @@ impl Lane {
         }
     }
 
-    /// How many of the nodes are earlier than the key, where it is known that so many of the first are.
+    /// How many of the nodes are earlier than the key, where it is known that those from a place on aren't.
     #[inline(always)]
-    pub(crate) fn rank_from(&self, slots: &Slab<Entry>, key: &Key, start: usize) -> usize
-        requires known { IsStart slots.now key.now self.now.ids.items start }
+    pub(crate) fn rank_until(&self, slots: &Slab<Entry>, key: &Key, end: usize) -> usize
+        requires inside { end ≤ length self.now.ids.items }
+        requires later { cmp_at slots.now key.now self.now.ids.items end ≡ Ordering.Greater }
         ensures rank { (nodes : List Node) → IsLane slots.now nodes self.now.ids.items → IsRank key.now nodes result }
         ensures inside { result ≤ length self.now.ids.items }
     {
-        match self.compare_at(slots, start, key) {
-            Ordering::Less => match self.search_up(slots, key, start) {
-                Ok(place) | Err(place) => place,
-            },
-            _ => start,
+        match self.search_down(slots, key, end) {
+            Ok(place) | Err(place) => place,
         }
     }
 

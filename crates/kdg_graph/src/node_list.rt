@@ -226,7 +226,7 @@ impl NodeList {
         Ok(())
     }
 
-    /// Puts a node at its place, where `reserve` made room. It takes no memory.
+    /// Puts a node at its place, where `reserve` made room. It needs no memory.
     pub(crate) fn put(&mut self, task: Task, set: RwSet) -> NodeId
         requires places { 0 < self.old.places }
         requires numbers { 0 < self.old.numbers }
@@ -251,7 +251,7 @@ impl NodeList {
         id
     }
 
-    /// Takes a node out and gives its task. It takes no memory.
+    /// Takes a node out and gives its task. It needs no memory.
     pub(crate) fn remove(&mut self, id: NodeId) -> Task
         requires { HasNode self.old.nodes id }
         ensures task { task_at self.old.nodes id ≡ Some result }
@@ -279,7 +279,7 @@ impl NodeList {
         node.task
     }
 
-    /// Replaces the set of a node, where `reserve` made room. It takes no memory, and no time where
+    /// Replaces the set of a node, where `reserve` made room. It needs no memory, and no time where
     /// the set is the one that the node has.
     pub(crate) fn set_set(&mut self, id: NodeId, set: RwSet)
         requires there { HasNode self.old.nodes id }
@@ -334,7 +334,7 @@ impl NodeList {
         );
     }
 
-    /// Replaces the sets that are named, where `reserve_all` made room. It takes no memory.
+    /// Replaces the sets that are named, where `reserve_all` made room. It needs no memory.
     pub(crate) fn set_sets(&mut self, changes: Vec<SetChange>)
         requires there { AllByRecursion (λ change. HasNode self.old.nodes change.node) changes.items }
         requires own { AreOfOwnNodes changes.items }
@@ -353,7 +353,7 @@ impl NodeList {
     }
 
     /// Puts the fresh nodes in, where `reserve_all` made room, which leaves their list empty. It
-    /// takes no memory.
+    /// needs no memory.
     pub(crate) fn put_all(&mut self, fresh: &mut Vec<Fresh>)
         requires places { length fresh.old.items ≤ self.old.places }
         requires numbers { length fresh.old.items ≤ self.old.numbers }

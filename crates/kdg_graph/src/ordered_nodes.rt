@@ -4,7 +4,7 @@ ghost use Rattle.task_order.specs.Key.{key_cmp};
 ghost use Rattle.task_order.specs.TaskList.{IsNewKey};
 ghost use Rattle.kdg_graph.specs.Node.{Node, new_node};
 ghost use Rattle.kdg_graph.specs.Nodes.{IsGraph, HasNode, ids_of, least_of, node_at, node_with_key, put_node, set_at, started, tasks_of};
-ghost use Rattle.kdg_graph.specs.Lanes.{AreEarlier, IsRank, IsRankPast, IsSearched};
+ghost use Rattle.kdg_graph.specs.Lanes.{AreLater, IsRank, IsRankPast, IsSearched};
 ghost use Rattle.kdg_graph.specs.Locations.{IsLaneAmong, is_first_before};
 ghost use Rattle.kdg_graph.specs.Rewrite.{with_sets, without};
 ghost use Rattle.kdg_graph.specs.Selected.{IsArrival, arrival_cmp, is_behind, key_at};
@@ -244,22 +244,21 @@ impl OrderedNodes {
         place
     }
 
-    /// The same, where so many of the first are known to be earlier.
+    /// The same, where those from a place on are known to be later.
     #[inline(always)]
-    pub(crate) fn put_behind(&self, lane: &mut Lane, id: NodeId, start: usize) -> usize
+    pub(crate) fn put_before(&self, lane: &mut Lane, id: NodeId, end: usize) -> usize
         requires there { HasNode self.now.nodes id }
         requires room { length lane.old.ids.items < lane.old.ids.capacity }
-        requires known { IfSome (node_at self.now.nodes id) (λ node. AreEarlier self.now.nodes node.task.key lane.old.ids.items start) }
+        requires known { IfSome (node_at self.now.nodes id) (λ node. AreLater self.now.nodes node.task.key lane.old.ids.items end) }
         ensures ids { (some : List Node) → IsLaneAmong self.now.nodes some lane.old.ids.items → IfSome (node_at self.now.nodes id) (λ node. lane.new.ids.items ≡ ids_of (put_node node some)) }
         ensures place { slice_get lane.new.ids.items result ≡ Some id }
-        ensures small { result < 2 ^ 63 }
         ensures room { lane.old.ids.capacity ≤ lane.new.ids.capacity }
         ensures len { length lane.new.ids.items ≡ length lane.old.ids.items + 1 }
     {
-        let place = if start == lane.len() {
-            start
+        let place = if end == 0 {
+            0
         } else {
-            lane.rank_from(&self.slots, &self.entry(id).task.key, start)
+            lane.rank_until(&self.slots, &self.entry(id).task.key, end)
         };
         lane.insert(place, id);
         place

@@ -230,7 +230,7 @@ impl SourceLane {
         ensures marks { self.new.marks ≡ self.old.marks }
     {
         self.arrivals
-            .sort_unstable_by(|one, other| nodes.compare(one, other));
+            .sort_unstable_by(|one, other| nodes.compare(other, one));
         put_in_order(
             &mut self.settled,
             &mut self.standings,
@@ -417,8 +417,8 @@ impl SourceLane {
     }
 }
 
-/// Puts the ids of nodes that came, which are in order, in order with the others, each by a search from
-/// behind the one before it on.
+/// Puts the ids of nodes that came, the latest first, in order with the others, each by a search back from
+/// the one before it. The others mostly are later than all that came, and then none is moved.
 fn put_in_order(
     settled: &mut Lane,
     standings: &mut [Standing],
@@ -439,12 +439,12 @@ fn put_in_order(
     ensures room { settled.old.ids.capacity ≤ settled.new.ids.capacity }
 {
     beginning_laws();
-    let mut start = 0;
+    let mut end = settled.len();
     for arrival in arrivals {
         let id = arrival.id;
         // None is there twice, but nothing here rests on that.
         if standings[id.at as usize] == Standing::Recent {
-            start = nodes.put_behind(settled, id, start) + 1;
+            end = nodes.put_before(settled, id, end);
             standings[id.at as usize] = Standing::Settled;
         }
     }

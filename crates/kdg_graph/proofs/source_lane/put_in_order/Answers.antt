@@ -6,7 +6,7 @@ use Rattle.kdg_graph.specs.declared.node_id.NodeId.{NodeId}
 use Rattle.kdg_graph.specs.declared.source_lane.Standing.TheVariants.{Absent, Recent}
 use Rattle.kdg_graph.specs.Node.{Node}
 use Rattle.kdg_graph.specs.Selected.{IsArrival}
-use Rattle.kdg_graph.proofs.Arrivals.{ArePut, arrives_at, found_arrival, has_mark, known_next, none_before, put_next, put_rest, room_next}
+use Rattle.kdg_graph.proofs.Arrivals.{ArePut, arrives_at, found_arrival, has_mark, known_next, none_after, put_next, put_rest, room_next}
 use Rattle.kdg_graph.proofs.source_lane.put_in_order.Goals as goal
 use Rattle.kdg_graph.proofs.source_lane.put_in_order.Goals.{then-eq, else-eq}
 
@@ -22,27 +22,27 @@ bounds-standings-id c =
     let arrives : IsArrival nodes arrival = arrives_at nodes arrivals c.loop-arrival.arrival-index no_arrival c.requires.arrivals c.loop-arrival-test.true in
     omega (arith, c.loop-arrival.auto.standings, has_mark nodes arrival (length c.args.standings.now) c.requires.marks arrives)
 
-pub put_behind-start-requires-clause-there : goal.put_behind-start-requires-clause-there
-put_behind-start-requires-clause-there c =
+pub put_before-end-requires-clause-there : goal.put_before-end-requires-clause-there
+put_before-end-requires-clause-there c =
     let nodes : List Node = c.args.nodes.now.nodes in
     let arrivals : List Arrival = c.args.arrivals.now in
     let arrival : Arrival = get_or arrivals c.loop-arrival.arrival-index no_arrival in
     let arrives : IsArrival nodes arrival = arrives_at nodes arrivals c.loop-arrival.arrival-index no_arrival c.requires.arrivals c.loop-arrival-test.true in
     subst IsSome (sym (found_arrival nodes arrival arrives c.requires.graph)) refl
 
-pub put_behind-start-requires-clause-room : goal.put_behind-start-requires-clause-room
-put_behind-start-requires-clause-room c =
+pub put_before-end-requires-clause-room : goal.put_before-end-requires-clause-room
+put_before-end-requires-clause-room c =
     let nodes : List Node = c.args.nodes.now.nodes in
     let arrivals : List Arrival = c.args.arrivals.now in
     let i : ℕ = c.loop-arrival.arrival-index in
     let arrival : Arrival = get_or arrivals i no_arrival in
     let arrives : IsArrival nodes arrival = arrives_at nodes arrivals i no_arrival c.requires.arrivals c.loop-arrival-test.true in
     let is : get_or c.loop-arrival.standings arrival.id.at Absent ≡ Recent = search rules in
-    room_next nodes c.args.settled.now.ids.items arrivals (drop i arrivals) arrival c.loop-arrival.settled.ids.items c.loop-arrival.standings c.loop-arrival.start c.loop-arrival.settled.ids.capacity c.requires.graph arrives c.loop-arrival.invariant.put is
+    room_next nodes c.args.settled.now.ids.items arrivals (drop i arrivals) arrival c.loop-arrival.settled.ids.items c.loop-arrival.standings c.loop-arrival.end c.loop-arrival.settled.ids.capacity c.requires.graph arrives c.loop-arrival.invariant.put is
     (omega (arith, c.requires.room, c.loop-arrival.invariant.room))
 
-pub put_behind-start-requires-clause-known : goal.put_behind-start-requires-clause-known
-put_behind-start-requires-clause-known c =
+pub put_before-end-requires-clause-known : goal.put_before-end-requires-clause-known
+put_before-end-requires-clause-known c =
     let nodes : List Node = c.args.nodes.now.nodes in
     let arrivals : List Arrival = c.args.arrivals.now in
     let before : List NodeId = c.args.settled.now.ids.items in
@@ -50,8 +50,8 @@ put_behind-start-requires-clause-known c =
     let arrival : Arrival = get_or arrivals i no_arrival in
     let arrives : IsArrival nodes arrival = arrives_at nodes arrivals i no_arrival c.requires.arrivals c.loop-arrival-test.true in
     let is : get_or c.loop-arrival.standings arrival.id.at Absent ≡ Recent = search rules in
-    let put = subst (λ (left : List Arrival). ArePut nodes before arrivals left c.loop-arrival.settled.ids.items c.loop-arrival.standings c.loop-arrival.start) (drop_more arrivals i no_arrival c.loop-arrival-test.true) c.loop-arrival.invariant.put in
-    known_next c.beginning_laws.ensures nodes before arrivals (drop (i + 1) arrivals) arrival c.loop-arrival.settled.ids.items c.loop-arrival.standings c.loop-arrival.start c.requires.graph arrives put is
+    let put = subst (λ (left : List Arrival). ArePut nodes before arrivals left c.loop-arrival.settled.ids.items c.loop-arrival.standings c.loop-arrival.end) (drop_more arrivals i no_arrival c.loop-arrival-test.true) c.loop-arrival.invariant.put in
+    known_next c.beginning_laws.ensures nodes before arrivals (drop (i + 1) arrivals) arrival c.loop-arrival.settled.ids.items c.loop-arrival.standings c.loop-arrival.end c.requires.graph arrives put is
 
 pub loop-arrival-preserved : goal.loop-arrival-preserved
 loop-arrival-preserved c =
@@ -63,15 +63,15 @@ loop-arrival-preserved c =
     let rest : List Arrival = drop (i + 1) arrivals in
     let arrival : Arrival = get_or arrivals i no_arrival in
     let arrives : IsArrival nodes arrival = arrives_at nodes arrivals i no_arrival c.requires.arrivals c.loop-arrival-test.true in
-    let put = subst (λ (left : List Arrival). ArePut nodes before arrivals left ids c.loop-arrival.standings c.loop-arrival.start) (drop_more arrivals i no_arrival c.loop-arrival-test.true) c.loop-arrival.invariant.put in
+    let put = subst (λ (left : List Arrival). ArePut nodes before arrivals left ids c.loop-arrival.standings c.loop-arrival.end) (drop_more arrivals i no_arrival c.loop-arrival-test.true) c.loop-arrival.invariant.put in
     elim c.if-eq.branch [
       | then-eq w ↦
           let is : get_or c.loop-arrival.standings arrival.id.at Absent ≡ Recent = search rules in
           let inside : arrival.id.at < length c.loop-arrival.standings = omega (arith, c.loop-arrival.auto.standings, has_mark nodes arrival (length c.args.standings.now) c.requires.marks arrives) in
-          let next = put_next nodes before arrivals rest arrival ids w.put_behind-start.new.lane.ids.items c.loop-arrival.standings c.loop-arrival.start w.put_behind-start.result c.requires.graph arrives put
-          (none_before nodes arrivals i no_arrival c.requires.in_turn c.loop-arrival-test.true) is inside w.put_behind-start.ensures.place w.put_behind-start.ensures.ids in
-          rw (w.settled-is, w.standings-is, w.start-is) (record { put = next; room = omega (arith, c.loop-arrival.invariant.room, w.put_behind-start.ensures.room) })
+          let next = put_next nodes before arrivals rest arrival ids w.put_before-end.new.lane.ids.items c.loop-arrival.standings c.loop-arrival.end w.put_before-end.result c.requires.graph arrives put
+          (none_after nodes arrivals i no_arrival c.requires.in_turn c.loop-arrival-test.true) is inside w.put_before-end.ensures.place w.put_before-end.ensures.ids in
+          rw (w.settled-is, w.standings-is, w.end-is) (record { put = next; room = omega (arith, c.loop-arrival.invariant.room, w.put_before-end.ensures.room) })
       | else-eq w ↦
           let other : get_or c.loop-arrival.standings arrival.id.at Absent ≢ Recent = search rules in
-          rw (w.settled-is, w.standings-is, w.start-is) (record { put = put_rest nodes before arrivals rest arrival ids c.loop-arrival.standings c.loop-arrival.start put other; room = c.loop-arrival.invariant.room })
+          rw (w.settled-is, w.standings-is, w.end-is) (record { put = put_rest nodes before arrivals rest arrival ids c.loop-arrival.standings c.loop-arrival.end put other; room = c.loop-arrival.invariant.room })
     ]

@@ -2,12 +2,11 @@ use Rattle.std.proofs.Common.{◌≡◌, ◌∙◌, ◌++◌, ◌||◌, ℕ, Lis
 use Rattle.std.specs.List.{AllByRecursion}
 use Rattle.std.specs.Ordering.{is_lt}
 use Rattle.std.proofs.lemmas.Fn.{always_returns_same}
-use Rattle.std.proofs.lemmas.List.Sorted.{ranks_by}
 use Rattle.kdg_graph.specs.declared.arrival.Arrival.{Arrival}
 use Rattle.kdg_graph.specs.declared.node_id.NodeId.{NodeId}
 use Rattle.kdg_graph.specs.Node.{Node}
 use Rattle.kdg_graph.specs.Selected.{AreInTurn, AreMarked, IsArrival, MarkedIds, arrival_cmp, arrived, has_number}
-use Rattle.kdg_graph.proofs.Listing.{all_moved, all_placed, arrivals_total, in_order_of}
+use Rattle.kdg_graph.proofs.Listing.{all_moved, all_placed, in_order_of, latest_first}
 use Rattle.kdg_graph.proofs.Marking.{marked_moved, same_numbers}
 use Rattle.kdg_graph.proofs.source_lane.SourceLane.settle_arrivals.Goals as goal
 
@@ -20,9 +19,9 @@ put_in_order-requires-clause-arrivals c =
 pub put_in_order-requires-clause-in_turn : goal.put_in_order-requires-clause-in_turn
 put_in_order-requires-clause-in_turn c =
     let nodes : List Node = c.args.nodes.now.nodes in
-    subst (AreInTurn nodes) (sym c.deref.ensures.value) (c.sort_unstable_by.ensures.sorted (λ one other. is_lt (arrival_cmp nodes one other))
-    (ranks_by (arrivals_total nodes) (λ (a : Arrival). a))
-    (always_returns_same _ (λ a r. is_lt r ≡ is_lt (arrival_cmp nodes a.0.now a.1.0.now)) _ (λ a r f k. search rules)))
+    subst (AreInTurn nodes) (sym c.deref.ensures.value) (c.sort_unstable_by.ensures.sorted (λ one other. is_lt (arrival_cmp nodes other one))
+    (latest_first nodes)
+    (always_returns_same _ (λ a r. is_lt r ≡ is_lt (arrival_cmp nodes a.1.0.now a.0.now)) _ (λ a r f k. search rules)))
 
 pub put_in_order-requires-clause-marked : goal.put_in_order-requires-clause-marked
 put_in_order-requires-clause-marked c =

@@ -1,6 +1,6 @@
-use Rattle.std.proofs.Common.{◌∙◌, arith}
-use Rattle.kdg_graph.proofs.Searching.{found_ended, gap_ended, inside_tied, rank_started}
-use Rattle.kdg_graph.proofs.lane.Lane.rank_from.Goals as goal
+use Rattle.std.proofs.Common.{arith}
+use Rattle.kdg_graph.proofs.Searching.{found_ended, gap_ended, inside_tied}
+use Rattle.kdg_graph.proofs.lane.Lane.rank_until.Goals as goal
 
 pub returns-in-Ok-clause-rank : goal.returns-in-Ok-clause-rank
 returns-in-Ok-clause-rank c nodes lane = (found_ended c.args.slots.now c.args.key.now nodes c.args.self.now.ids.items c.in-Ok.place lane c.in-Ok.ensures).rank
@@ -10,9 +10,3 @@ returns-in-Ok-clause-inside c = omega (arith, inside_tied c.args.slots.now c.arg
 
 pub returns-in-Ok-2-clause-rank : goal.returns-in-Ok-2-clause-rank
 returns-in-Ok-2-clause-rank c nodes lane = (gap_ended c.args.slots.now c.args.key.now nodes c.args.self.now.ids.items c.in-Ok.place lane c.in-Ok.ensures).rank
-
-pub returns-in_default : goal.returns-in_default
-returns-in_default c = record {
-  rank = λ nodes lane. rank_started c.args.slots.now c.args.key.now nodes c.args.self.now.ids.items c.args.start lane c.requires.known (λ less. c.in_default.not-Less (c.compare_at.ensures.order ∙ less));
-  inside = c.requires.known.inside;
-}

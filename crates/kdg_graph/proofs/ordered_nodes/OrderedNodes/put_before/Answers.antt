@@ -1,51 +1,56 @@
 use Rattle.std.proofs.Common.{◌≡◌, ◌≤◌, ◌∙◌, ℕ, List, Option, Some, ap, arith, get_or, length, refl, subst, sym}
 use Rattle.std.specs.Prelude.{IfSome}
 use Rattle.std.specs.List.{insert}
+use Rattle.std.specs.declared.cmp.Ordering.TheVariants.{Greater}
 use Rattle.std.proofs.lemmas.List.Edits.{get_or-insert_at}
 use Rattle.std.proofs.lemmas.Option.{slice_get_read}
 use Rattle.kdg_graph.specs.declared.node_id.NodeId.{NodeId}
-use Rattle.kdg_graph.specs.Lanes.{AreEarlier, IsLane, IsRank, IsStart}
+use Rattle.kdg_graph.specs.Lanes.{AreLater, IsLane, IsRank, cmp_at}
 use Rattle.kdg_graph.specs.Locations.{IsLaneAmong}
 use Rattle.kdg_graph.specs.Node.{Node}
 use Rattle.kdg_graph.specs.Nodes.{ids_of, node_at, put_node}
 use Rattle.kdg_graph.specs.NodeStock.{NodeShelf}
 use Rattle.kdg_graph.proofs.Among.{filed, lane_of_among}
 use Rattle.kdg_graph.proofs.LookUps.{ids_find_nodes}
-use Rattle.kdg_graph.proofs.Searching.{all_earlier}
+use Rattle.kdg_graph.proofs.Searching.{none_earlier}
 use Rattle.kdg_graph.proofs.Selecting.{at_some, found_node}
-use Rattle.kdg_graph.proofs.Sought.{earlier_stored}
-use Rattle.kdg_graph.proofs.ordered_nodes.OrderedNodes.put_behind.Goals as goal
-use Rattle.kdg_graph.proofs.ordered_nodes.OrderedNodes.put_behind.Goals.{then-start-len, else-start-len}
+use Rattle.kdg_graph.proofs.Sought.{later_stored}
+use Rattle.kdg_graph.proofs.ordered_nodes.OrderedNodes.put_before.Goals as goal
+use Rattle.kdg_graph.proofs.ordered_nodes.OrderedNodes.put_before.Goals.{then-end-eq0, else-end-eq0}
 
-pub rank_from-place-requires : goal.rank_from-place-requires
-rank_from-place-requires c =
+known : (c : goal.After-behind-self) → AreLater c.args.self.now.nodes c.behind-self.inside.task.key c.args.lane.now.ids.items c.args.end
+known c =
     let nodes : List Node = c.args.self.now.nodes in
-    let ids : List NodeId = c.args.lane.now.ids.items in
     let node : Node = record { id = c.behind-self.inside.id; task = c.behind-self.inside.task; set = c.behind-self.inside.set; running = c.behind-self.inside.running } in
     let found : node_at nodes c.args.id ≡ Some node = c.entry.ensures ∙ ap (λ (n : Node). Some n) (sym c.behind-self.view_is) in
-    let known : AreEarlier nodes node.task.key ids c.args.start = at_some (λ (n : Node). AreEarlier nodes n.task.key ids c.args.start) (node_at nodes c.args.id) node found c.requires.known in
-    record { known = earlier_stored c.self.inside.slots node.task.key ids c.args.start c.self.invariant (subst (λ (shelf : NodeShelf). AreEarlier shelf.nodes node.task.key ids c.args.start) (sym c.self.view_is) known) }
+    at_some (λ (n : Node). AreLater nodes n.task.key c.args.lane.now.ids.items c.args.end) (node_at nodes c.args.id) node found c.requires.known
+
+pub rank_until-place-requires-clause-inside : goal.rank_until-place-requires-clause-inside
+rank_until-place-requires-clause-inside c = (known c).inside
+
+pub rank_until-place-requires-clause-later : goal.rank_until-place-requires-clause-later
+rank_until-place-requires-clause-later c =
+    later_stored c.self.inside.slots c.behind-self.inside.task.key c.args.self.now.nodes c.args.lane.now.ids.items c.args.end c.self.invariant (ap (λ (shelf : NodeShelf). shelf.nodes) c.self.view_is) (known c)
 
 pub returns-clause-ids : goal.returns-clause-ids
 returns-clause-ids c some among =
     let nodes : List Node = c.args.self.now.nodes in
     let ids : List NodeId = c.args.lane.now.ids.items in
     let slots = c.self.inside.slots in
-    let place : ℕ = c.if-start-len.place in
+    let place : ℕ = c.if-end-eq0.place in
     let held = found_node nodes c.args.id c.requires.there in
     let node : Node = held.0 in
     let lane : IsLane slots some ids = lane_of_among slots ids some c.self.invariant (subst (λ (shelf : NodeShelf). IsLaneAmong shelf.nodes some ids) (sym c.self.view_is) among) in
-    let known : AreEarlier nodes node.task.key ids c.args.start = at_some (λ (n : Node). AreEarlier nodes n.task.key ids c.args.start) (node_at nodes c.args.id) node held.1 c.requires.known in
-    let started : IsStart slots node.task.key ids c.args.start = earlier_stored slots node.task.key ids c.args.start c.self.invariant (subst (λ (shelf : NodeShelf). AreEarlier shelf.nodes node.task.key ids c.args.start) (sym c.self.view_is) known) in
-    let rank : IsRank node.task.key some place = elim c.if-start-len.branch [
-      | then-start-len w ↦
-          let end : c.args.start ≡ length ids = omega (arith, w.if-start-len.true, c.len.ensures.len) in
-          subst (λ p. IsRank node.task.key some p) (sym w.place-is) (all_earlier slots node.task.key some ids c.args.start lane end started.earlier)
-      | else-start-len w ↦
+    let rank : IsRank node.task.key some place = elim c.if-end-eq0.branch [
+      | then-end-eq0 w ↦
+          let all : AreLater nodes node.task.key ids c.args.end = at_some (λ (n : Node). AreLater nodes n.task.key ids c.args.end) (node_at nodes c.args.id) node held.1 c.requires.known in
+          let later : cmp_at slots node.task.key ids c.args.end ≡ Greater = later_stored slots node.task.key nodes ids c.args.end c.self.invariant (ap (λ (shelf : NodeShelf). shelf.nodes) c.self.view_is) all in
+          subst (λ p. IsRank node.task.key some p) (sym w.place-is) (none_earlier slots node.task.key some ids lane (subst (λ p. cmp_at slots node.task.key ids p ≡ Greater) w.if-end-eq0.true later))
+      | else-end-eq0 w ↦
           let entry : Node = record { id = w.behind-self.inside.id; task = w.behind-self.inside.task; set = w.behind-self.inside.set; running = w.behind-self.inside.running } in
           let found : Some entry ≡ Some node = sym (w.entry.ensures ∙ ap (λ (n : Node). Some n) (sym w.behind-self.view_is)) ∙ held.1 in
           let same : entry ≡ node = cc in
-          let searched : IsRank entry.task.key some w.rank_from-place.result = w.rank_from-place.ensures.rank some lane in
+          let searched : IsRank entry.task.key some w.rank_until-place.result = w.rank_until-place.ensures.rank some lane in
           subst (λ (n : Node). IsRank n.task.key some place) same (subst (λ p. IsRank entry.task.key some p) (sym w.place-is) searched)
     ] in
     let is : node.id ≡ c.args.id = (ids_find_nodes nodes c.args.id node held.1).1 in
@@ -56,9 +61,9 @@ pub returns-clause-place : goal.returns-clause-place
 returns-clause-place c =
     let ids : List NodeId = c.args.lane.now.ids.items in
     let now : List NodeId = c.insert.new.self.ids.items in
-    let place : ℕ = c.if-start-len.place in
-    let inside : place ≤ length ids = elim c.if-start-len.branch [
-      | then-start-len w ↦ omega (arith, w.place-is, w.if-start-len.true, c.len.ensures.len)
-      | else-start-len w ↦ omega (arith, w.place-is, w.rank_from-place.ensures.inside)
+    let place : ℕ = c.if-end-eq0.place in
+    let inside : place ≤ length ids = elim c.if-end-eq0.branch [
+      | then-end-eq0 w ↦ omega (arith, w.place-is)
+      | else-end-eq0 w ↦ omega (arith, w.place-is, w.rank_until-place.ensures.inside)
     ] in
     slice_get_read now (length now) place c.args.id refl (omega (arith, inside, c.insert.ensures.len)) (sym (ap (λ (l : List NodeId). get_or l place c.args.id) c.insert.ensures.ids ∙ get_or-insert_at ids place c.args.id c.args.id inside))
