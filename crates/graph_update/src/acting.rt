@@ -9,6 +9,7 @@ ghost use Rattle.graph_update.specs.Engine.{AsksForNoFixedSet, IsOfClear};
 ghost use Rattle.graph_update.specs.Events.{clear_nodes};
 
 use crate::laws::basis;
+use crate::pending::Pending;
 use crate::{Engine, OverCause};
 use app_laws::App;
 use cell_store::Bundle;
@@ -35,8 +36,9 @@ impl<'a, A: App> Engine<'a, A> {
         node_laws();
         source_laws();
         ids.clear();
+        let pending = Pending::of(&self.graph);
         for node in self.graph.sources() {
-            if self.app.safe(self.graph.task(node), &self.graph) {
+            if self.app.safe(self.graph.task(node), &pending) {
                 ids.push(node)?;
             }
         }

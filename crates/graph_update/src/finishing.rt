@@ -20,8 +20,8 @@ impl<'a, A: App> Engine<'a, A> {
     /// Ends a task that was performed.
     ///
     /// That its children are more than may be created is found out first, without taking memory.
-    /// Then all memory is taken before anything changes that stays: after `NoRoom` all is as it was,
-    /// and the same task may be finished again. Each later node in conflict with the ended one is
+    /// Then all memory that is needed is taken before anything changes that stays: after `NoRoom` all
+    /// is as it was, and the same task may be finished again. Each later node in conflict with the ended one is
     /// asked for its set at most once, and none is where the sets are fixed.
     #[inline(always)]
     pub fn finish<L: Ledger>(

@@ -11,6 +11,7 @@ mod finishing;
 mod id_list;
 mod job;
 mod laws;
+mod pending;
 mod performing;
 mod ready;
 mod rewriting;

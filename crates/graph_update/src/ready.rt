@@ -11,6 +11,7 @@ ghost use Rattle.graph_update.specs.Events.{clear_nodes};
 ghost use Rattle.graph_update.specs.IdChunks.{IsSpot, ids_in};
 
 use crate::id_list::{IdList, Spot};
+use crate::pending::Pending;
 use app_laws::App;
 use kdg_graph::{Graph, NodeId, node_laws, source_laws};
 use kdg_text::NoRoom;
@@ -115,11 +116,12 @@ fn clear_ids<A: App>(
     let known = known.to_vec()?;
     let mut left: &[NodeId] = &known;
     let mut ids = IdList::new(alloc);
+    let pending = Pending::of(graph);
     for node in graph.sources() {
         if let Some(rest) = behind(left, node) {
             left = rest;
             ids.push(node)?;
-        } else if app.safe(graph.task(node), graph) {
+        } else if app.safe(graph.task(node), &pending) {
             ids.push(node)?;
         }
     }

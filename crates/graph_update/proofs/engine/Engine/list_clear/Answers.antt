@@ -1,6 +1,7 @@
 use Rattle.std.proofs.Common.{◌≡◌, ◌++◌, [], sym, ap, subst, ◌∙◌}
 use Rattle.std.specs.List.{AllByRecursion}
 use Rattle.std.proofs.lemmas.List.{append-nil}
+use Rattle.task_order.specs.TaskList.{tasks_before}
 use Rattle.kdg_graph.specs.Edges.{sources_of}
 use Rattle.kdg_graph.specs.Nodes.{HasNode, ids_of}
 use Rattle.graph_update.specs.Events.{clear_nodes}
@@ -25,7 +26,7 @@ pub loop-node-preserved-in-Continue-1 : goal.loop-node-preserved-in-Continue-1
 loop-node-preserved-in-Continue-1 g c =
     let app = g.A.App.meaning c.self.inside.app.now in
     let steps = c.in-Some.ensures.steps in
-    let safe = safe_at app c.self.inside.graph c.in-Some.node c.task.result.now c.task.ensures ∙ sym c.safe.ensures ∙ c.if-safe.true in
+    let safe = safe_at app c.self.inside.graph c.in-Some.node c.task.result.now c.task.ensures ∙ ap (λ tasks. app.is_safe c.task.result.now (tasks_before c.task.result.now.key tasks)) (sym c.of-pending.ensures) ∙ sym c.safe.ensures ∙ c.if-safe.true in
     record {
       passed = ap (λ ids. ids ++ safe_ids app c.self.inside.graph c.next.new.self) c.in_ok-push.ensures.items
           ∙ (next_passed app c.self.inside.graph c.loop-node.ids.items c.in-Some.node c.next.new.self _ (ap (λ left. c.loop-node.ids.items ++ safe_ids app c.self.inside.graph left) (sym steps) ∙ c.loop-node.invariant.passed)).0 safe;
@@ -36,7 +37,7 @@ pub loop-node-preserved : goal.loop-node-preserved
 loop-node-preserved g c =
     let app = g.A.App.meaning c.self.inside.app.now in
     let steps = c.in-Some.ensures.steps in
-    let unsafe = safe_at app c.self.inside.graph c.in-Some.node c.task.result.now c.task.ensures ∙ sym c.safe.ensures ∙ c.if-safe.false in
+    let unsafe = safe_at app c.self.inside.graph c.in-Some.node c.task.result.now c.task.ensures ∙ ap (λ tasks. app.is_safe c.task.result.now (tasks_before c.task.result.now.key tasks)) (sym c.of-pending.ensures) ∙ sym c.safe.ensures ∙ c.if-safe.false in
     record {
       passed = (next_passed app c.self.inside.graph c.loop-node.ids.items c.in-Some.node c.next.new.self _ (ap (λ left. c.loop-node.ids.items ++ safe_ids app c.self.inside.graph left) (sym steps) ∙ c.loop-node.invariant.passed)).1 unsafe;
       there = (subst (AllByRecursion (HasNode c.self.inside.graph)) steps c.loop-node.invariant.there).1;
