@@ -229,6 +229,8 @@ impl SourceLane {
         ensures room { self.old.room ≤ self.new.room }
         ensures marks { self.new.marks ≡ self.old.marks }
     {
+        // They mostly came the earliest first, and what is in order already is sorted at once.
+        self.arrivals.reverse();
         self.arrivals
             .sort_unstable_by(|one, other| nodes.compare(other, one));
         put_in_order(
