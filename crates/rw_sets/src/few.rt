@@ -5,8 +5,8 @@ use crate::Access;
 /// Up to four pairs in place, which take no memory.
 #[derive(Clone, Copy, Debug, Drop)]
 pub(crate) struct Few {
+    len: u8,
     pairs: [(u32, Access); Few::ROOM],
-    len: usize,
     ghost in_range: { len ≤ 4 },
     ghost room: { length pairs ≡ 4 },
 }
@@ -47,7 +47,7 @@ impl Few {
     {
         let mut few = Few::new();
         for pair in pairs {
-            let len = few.len;
+            let len = usize::from(few.len);
             few.insert(len, *pair);
         }
         few
@@ -57,7 +57,7 @@ impl Few {
     pub(crate) fn items(&self) -> &[(u32, Access)]
         ensures { result.now ≡ items_of self.now }
     {
-        &self.pairs[..self.len]
+        &self.pairs[..usize::from(self.len)]
     }
 
     /// Where a location is. Each place is looked at in turn and without a loop, so that nothing is
@@ -84,13 +84,13 @@ impl Few {
     fn is_at(&self, place: usize, loc: u32) -> bool
         ensures { IsTrue result ↔ IsAt (items_of self.now) loc place }
     {
-        place < self.len && self.pairs[place].0 == loc
+        place < usize::from(self.len) && self.pairs[place].0 == loc
     }
 
     pub(crate) fn is_full(&self) -> bool
         ensures { IsTrue result ↔ (self.now.len ≡ 4) }
     {
-        self.len == Few::ROOM
+        usize::from(self.len) == Few::ROOM
     }
 
     pub(crate) fn replace(&mut self, at: usize, pair: (u32, Access))
@@ -106,7 +106,7 @@ impl Few {
         requires has_room { self.old.len < 4 }
         ensures { items_of self.new ≡ insert (items_of self.old) at pair }
     {
-        let mut i = self.len;
+        let mut i = usize::from(self.len);
         while at < i {
             self.pairs[i] = self.pairs[i - 1];
             i -= 1;

@@ -3,7 +3,7 @@ use Rattle.rw_sets.proofs.InPlace.{moved_none, moved_up, moved_all}
 use Rattle.rw_sets.proofs.few.Few.insert.Goals as goal
 
 pub loop-i-init : goal.loop-i-init
-loop-i-init c = record { above = c.requires.in_range; same_len = refl; moved = moved_none _ _ (omega (arith, c.args.self.now.room)) }
+loop-i-init c = rw c.from-i.ensures (record { above = c.requires.in_range; same_len = refl; moved = moved_none _ _ (omega (arith, c.args.self.now.room)) })
 
 pub loop-i-preserved : goal.loop-i-preserved
 loop-i-preserved c = record {
