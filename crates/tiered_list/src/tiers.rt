@@ -139,8 +139,23 @@ impl<T> Tiers<T> {
     }
 
     /// Puts an item at a place, where `reserve` made room.
-    #[inline(never)]
+    #[inline(always)]
     pub(crate) fn insert(&mut self, place: usize, item: T)
+        requires inside { place ≤ length (all_items self.old) }
+        requires room { length (all_items self.old) < room_for self.old }
+        ensures items { all_items self.new ≡ insert (all_items self.old) place item }
+        ensures room { room_for self.new ≡ room_for self.old }
+    {
+        if place == 0 && self.front.len() < FULL {
+            self.front.push_front(item);
+        } else {
+            self.insert_anywhere(place, item);
+        }
+    }
+
+    /// The same, which is a call.
+    #[inline(never)]
+    fn insert_anywhere(&mut self, place: usize, item: T)
         requires inside { place ≤ length (all_items self.old) }
         requires room { length (all_items self.old) < room_for self.old }
         ensures items { all_items self.new ≡ insert (all_items self.old) place item }
@@ -229,8 +244,23 @@ impl<T> Tiers<T> {
     }
 
     /// Takes the item at a place out.
-    #[inline(never)]
+    #[inline(always)]
     pub(crate) fn remove(&mut self, place: usize) -> T
+        requires { place < length (all_items self.old) }
+        ensures item { slice_get (all_items self.old) place ≡ Some result }
+        ensures items { all_items self.new ≡ remove (all_items self.old) place }
+        ensures room { room_for self.new ≡ room_for self.old }
+    {
+        if place == 0 && self.front.len() > 0 {
+            self.front.pop_front()
+        } else {
+            self.remove_anywhere(place)
+        }
+    }
+
+    /// The same, which is a call.
+    #[inline(never)]
+    fn remove_anywhere(&mut self, place: usize) -> T
         requires { place < length (all_items self.old) }
         ensures item { slice_get (all_items self.old) place ≡ Some result }
         ensures items { all_items self.new ≡ remove (all_items self.old) place }

@@ -2,7 +2,7 @@ use Rattle.std.proofs.Common.{◌<◌, ◌++◌, ◌∙◌, length, arith, ap, s
 use Rattle.std.proofs.lemmas.List.Edits.{remove-append_left}
 use Rattle.std.specs.List.{remove}
 use Rattle.tiered_list.specs.Tiers.{all_items, items_in}
-use Rattle.tiered_list.proofs.tiers.Tiers.remove.Goals as goal
+use Rattle.tiered_list.proofs.tiers.Tiers.remove_anywhere.Goals as goal
 
 pub returns-then-place-first-clause-items : goal.returns-then-place-first-clause-items
 returns-then-place-first-clause-items g c =
