@@ -97,6 +97,7 @@ impl Path {
 }
 
 /// The path that is kept as these bytes and zeros, with one more number.
+#[inline(always)]
 fn grown(mut bytes: SharedBytes, zeros: u64, number: u32) -> Result<Path, NoRoom>
     requires { IsCode bytes zeros }
     ensures { IfOk result (λ path. path ≡ numbers_of bytes zeros ++ number ∷ []) }
