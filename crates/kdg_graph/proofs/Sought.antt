@@ -2,7 +2,7 @@
 use Rattle.std.proofs.Common.{◌≡◌, ◌≢◌, inl, inr, eqb-true, eq-eqb, ℕ, zero, suc, ◌<◌, Bool, true, false, cond, List, [], ◌∷◌, length, get_or, Option, Some, None, refl, sym, ◌∙◌, ap, subst, arith}
 use Rattle.std.specs.Prelude.{Contains, slice_get}
 use Rattle.std.specs.Cmp.{tied_itself}
-use Rattle.std.specs.List.{find}
+use Rattle.std.specs.List.{find, remove}
 use Rattle.std.specs.Option.{option_map}
 use Rattle.std.specs.Ordering.{is_eq, ordering_reverse}
 use Rattle.std.specs.declared.cmp.Ordering.TheVariants.{Less, Equal, Greater}
@@ -18,9 +18,10 @@ use Rattle.kdg_graph.specs.Lanes.{AreLater, IsFound, IsGap, IsRankPast, cmp_at, 
 use Rattle.kdg_graph.specs.Locations.{IsLaneAmong}
 use Rattle.kdg_graph.specs.Node.{Node}
 use Rattle.kdg_graph.specs.Nodes.{IsGraph, ids_of, is_at, node_at, node_with_key, tasks_of}
+use Rattle.kdg_graph.specs.Rewrite.{without}
 use Rattle.kdg_graph.specs.Selected.{key_at}
 use Rattle.kdg_graph.specs.Stored.{IsStored, nodes_of}
-use Rattle.kdg_graph.proofs.Among.{among_at, contains_at, same_by_number}
+use Rattle.kdg_graph.proofs.Among.{among_at, contains_at, same_by_number, unfiled}
 use Rattle.kdg_graph.proofs.Lanes.{id_there, length-ids, some_node}
 use Rattle.kdg_graph.proofs.LookUps.{Equal_from_test, ids_find_nodes, key_later}
 use Rattle.kdg_graph.proofs.Members.{all_at, cases, find_none, from_find, none, none_found}
@@ -149,15 +150,20 @@ same_key (node ∷ nodes) a b up has_a has_b tied = elim (cases node a nodes has
 contains_among : (nodes some : List Node) (ids : List NodeId) (place : ℕ) (d : Node) → IsLaneAmong nodes some ids → place < length some → Contains nodes (get_or some place d)
 contains_among nodes some ids place d among inside = all_at (λ (n : Node). Contains nodes n) some (get_or some place d) among.there (contains_at some place d inside)
 
-pub inside_among : (nodes some : List Node) (ids : List NodeId) (place : ℕ) → IsLaneAmong nodes some ids → place < length some → place < length ids
+inside_among : (nodes some : List Node) (ids : List NodeId) (place : ℕ) → IsLaneAmong nodes some ids → place < length some → place < length ids
 inside_among nodes some ids place among inside = omega (arith, inside, ap length among.ids_are, length-ids some)
 
 -- where the key of a node is found its id is
-pub id_found : (nodes some : List Node) (ids : List NodeId) (id : NodeId) (node : Node) (place : ℕ) → IsGraph nodes → IsLaneAmong nodes some ids → node_at nodes id ≡ Some node → IsFound node.task.key some place → id ≡ get_or ids place id
+id_found : (nodes some : List Node) (ids : List NodeId) (id : NodeId) (node : Node) (place : ℕ) → IsGraph nodes → IsLaneAmong nodes some ids → node_at nodes id ≡ Some node → IsFound node.task.key some place → id ≡ get_or ids place id
 id_found nodes some ids id node place graph among is found =
     let has : Contains nodes node × (node.id ≡ id) = ids_find_nodes nodes id node is in
     let same : get_or some place node ≡ node = same_key nodes (get_or some place node) node graph.ascending (contains_among nodes some ids place node among found.inside) has.0 (found.tied node) in
     sym (id_there some ids place id node among.ids_are (inside_among nodes some ids place among found.inside) ∙ ap (λ (n : Node). n.id) same ∙ has.1)
+
+-- and taking that one out takes the node out
+pub unfiled_found : (nodes some : List Node) (ids : List NodeId) (id : NodeId) (node : Node) (place : ℕ) → IsGraph nodes → IsLaneAmong nodes some ids → node_at nodes id ≡ Some node → IsFound node.task.key some place → remove ids place ≡ ids_of (without id some)
+unfiled_found nodes some ids id node place graph among is found =
+    unfiled nodes some ids id node place graph among is found.rank (inside_among nodes some ids place among found.inside) (id_found nodes some ids id node place graph among is found)
 
 -- where its id stands its key is found
 pub found_at_id : (nodes some : List Node) (ids : List NodeId) (id : NodeId) (node : Node) (place : ℕ) → IsGraph nodes → IsLaneAmong nodes some ids → node_at nodes id ≡ Some node → is_id_at id ids place ≡ true → IsFound node.task.key some place

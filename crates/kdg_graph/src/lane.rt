@@ -121,15 +121,11 @@ impl Lane {
         self.search_near(slots, key, self.taken_at)
     }
 
-    /// The place of an id that mostly is the first one or stands where one was last taken out, or close
-    /// behind it.
+    /// The place of an id that mostly stands where one was last taken out, or close behind it.
     #[inline(always)]
     pub(crate) fn likely_place(&self, id: NodeId) -> Option<usize>
         ensures { IfSome result (λ place. is_id_at id self.now.ids.items place ≡ true) }
     {
-        if self.has_at(0, id) {
-            return Some(0);
-        }
         self.find_near(self.taken_at, id)
     }
 

@@ -227,6 +227,7 @@ impl NodeList {
     }
 
     /// Puts a node at its place, where `reserve` made room. It needs no memory.
+    #[inline(always)]
     pub(crate) fn put(&mut self, task: Task, set: RwSet) -> NodeId
         requires places { 0 < self.old.places }
         requires numbers { 0 < self.old.numbers }

@@ -230,7 +230,25 @@ impl OrderedNodes {
     }
 
     /// Puts a node into a list of ids in key order, which has room for it, and tells its place there.
+    #[inline(never)]
     pub(crate) fn put_into(&self, lane: &mut Lane, id: NodeId) -> usize
+        requires there { HasNode self.now.nodes id }
+        requires room { length lane.old.ids.items < lane.old.ids.capacity }
+        ensures ids { (some : List Node) → IsLaneAmong self.now.nodes some lane.old.ids.items → IfSome (node_at self.now.nodes id) (λ node. lane.new.ids.items ≡ ids_of (put_node node some)) }
+        ensures place { (some : List Node) → IsLaneAmong self.now.nodes some lane.old.ids.items → IfSome (node_at self.now.nodes id) (λ node. IsRank node.task.key some result) }
+        ensures room { lane.old.ids.capacity ≤ lane.new.ids.capacity }
+        ensures len { length lane.new.ids.items ≡ length lane.old.ids.items + 1 }
+    {
+        if lane.len() == 0 {
+            lane.insert(0, id);
+            return 0;
+        }
+        self.put_among(lane, id)
+    }
+
+    /// The same, where some are there. It stays a call.
+    #[inline(never)]
+    fn put_among(&self, lane: &mut Lane, id: NodeId) -> usize
         requires there { HasNode self.now.nodes id }
         requires room { length lane.old.ids.items < lane.old.ids.capacity }
         ensures ids { (some : List Node) → IsLaneAmong self.now.nodes some lane.old.ids.items → IfSome (node_at self.now.nodes id) (λ node. lane.new.ids.items ≡ ids_of (put_node node some)) }
@@ -264,8 +282,26 @@ impl OrderedNodes {
         place
     }
 
-    /// Takes a node out of a list of ids in key order, if it is there.
+    /// Takes a node out of a list of ids in key order, if it is there: mostly it is the first.
+    #[inline(never)]
     pub(crate) fn take_from(&self, lane: &mut Lane, id: NodeId)
+        requires { HasNode self.now.nodes id }
+        ensures ids { (some : List Node) → IsLaneAmong self.now.nodes some lane.old.ids.items → lane.new.ids.items ≡ ids_of (without id some) }
+        ensures room { lane.old.ids.capacity ≤ lane.new.ids.capacity }
+        ensures len { length lane.new.ids.items ≤ length lane.old.ids.items }
+    {
+        // It is known of the nodes that no two have one id.
+        let _ = &self.slots;
+        if lane.starts_with(id) {
+            let _ = lane.remove(0);
+        } else {
+            self.take_within(lane, id);
+        }
+    }
+
+    /// The same, wherever it is. It stays a call.
+    #[inline(never)]
+    fn take_within(&self, lane: &mut Lane, id: NodeId)
         requires { HasNode self.now.nodes id }
         ensures ids { (some : List Node) → IsLaneAmong self.now.nodes some lane.old.ids.items → lane.new.ids.items ≡ ids_of (without id some) }
         ensures room { lane.old.ids.capacity ≤ lane.new.ids.capacity }

@@ -1,24 +1,23 @@
-use Rattle.std.proofs.Common.{◌≡◌, ◌∙◌, Option, Some, ap, subst, sym}
+use Rattle.std.proofs.Common.{◌≡◌, ◌∙◌, List, [], ◌∷◌, Option, ap, arith, subst, sym}
 use Rattle.std.specs.Prelude.{IfSome}
 use Rattle.std.specs.List.{insert}
-use Rattle.kdg_graph.specs.Lanes.{IsRank}
+use Rattle.std.proofs.lemmas.List.{nil_from_length}
+use Rattle.kdg_graph.specs.declared.node_id.NodeId.{NodeId}
 use Rattle.kdg_graph.specs.Node.{Node}
-use Rattle.kdg_graph.specs.Nodes.{ids_of, node_at, put_node}
-use Rattle.kdg_graph.proofs.Among.{filed}
+use Rattle.kdg_graph.specs.Nodes.{ids_of, put_node}
+use Rattle.kdg_graph.proofs.Filing.{no_ids}
 use Rattle.kdg_graph.proofs.LookUps.{ids_find_nodes}
+use Rattle.kdg_graph.proofs.Selecting.{found_node}
 use Rattle.kdg_graph.proofs.ordered_nodes.OrderedNodes.put_into.Goals as goal
 
-pub returns-clause-ids : goal.returns-clause-ids
-returns-clause-ids c some among =
-    let node : Node = record { id = c.node.inside.id; task = c.node.inside.task; set = c.node.inside.set; running = c.node.inside.running } in
-    let found : node_at c.args.self.now.nodes c.args.id ≡ Some node = c.entry-node.ensures ∙ ap (λ (n : Node). Some n) (sym c.node.view_is) in
-    let is : node.id ≡ c.args.id = (ids_find_nodes c.args.self.now.nodes c.args.id node found).1 in
-    let placed = filed c.args.lane.now.ids.items some node c.rank_among-place.result among.ids_are (c.rank_among-place.ensures.rank some among) in
-    subst (λ (o : Option Node). IfSome o (λ (n : Node). c.insert.new.self.ids.items ≡ ids_of (put_node n some))) (sym found)
-    (c.insert.ensures.ids ∙ ap (λ id. insert c.args.lane.now.ids.items c.rank_among-place.result id) (sym is) ∙ placed)
-
-pub returns-clause-place : goal.returns-clause-place
-returns-clause-place c some among =
-    let node : Node = record { id = c.node.inside.id; task = c.node.inside.task; set = c.node.inside.set; running = c.node.inside.running } in
-    let found : node_at c.args.self.now.nodes c.args.id ≡ Some node = c.entry-node.ensures ∙ ap (λ (n : Node). Some n) (sym c.node.view_is) in
-    subst (λ (o : Option Node). IfSome o (λ (n : Node). IsRank n.task.key some c.rank_among-place.result)) (sym found) (c.rank_among-place.ensures.rank some among)
+pub returns-then-len-eq0-clause-ids : goal.returns-then-len-eq0-clause-ids
+returns-then-len-eq0-clause-ids c some among =
+    let nodes : List Node = c.args.self.now.nodes in
+    let ids : List NodeId = c.args.lane.now.ids.items in
+    let held = found_node nodes c.args.id c.requires.there in
+    let node : Node = held.0 in
+    let no_id : ids ≡ [] = nil_from_length ids (omega (arith, c.len.ensures.len, c.if-len-eq0.true)) in
+    let none : some ≡ [] = no_ids some (sym among.ids_are ∙ no_id) in
+    let is : node.id ≡ c.args.id = (ids_find_nodes nodes c.args.id node held.1).1 in
+    subst (λ (o : Option Node). IfSome o (λ (n : Node). c.insert.new.self.ids.items ≡ ids_of (put_node n some))) (sym held.1)
+    (c.insert.ensures.ids ∙ ap (λ l. insert l 0 c.args.id) no_id ∙ ap (λ (id : NodeId). id ∷ []) (sym is) ∙ ap (λ l. ids_of (put_node node l)) (sym none))

@@ -1,31 +1,18 @@
-use Rattle.std.proofs.Common.{◌∙◌, List, Option, subst}
-use Rattle.std.specs.Prelude.{IfSome}
+use Rattle.std.proofs.Common.{◌∙◌, List, subst, sym}
 use Rattle.kdg_graph.specs.declared.node_id.NodeId.{NodeId}
-use Rattle.kdg_graph.specs.Lanes.{IsFound, IsGap}
 use Rattle.kdg_graph.specs.Node.{Node}
-use Rattle.kdg_graph.proofs.Among.{not_filed, unfiled}
+use Rattle.kdg_graph.specs.Nodes.{IsGraph}
+use Rattle.kdg_graph.specs.NodeStock.{NodeShelf}
 use Rattle.kdg_graph.proofs.Selecting.{found_node}
-use Rattle.kdg_graph.proofs.Sought.{id_apart, id_found, inside_among}
+use Rattle.kdg_graph.proofs.Sought.{found_at_id, unfiled_found}
 use Rattle.kdg_graph.proofs.ordered_nodes.OrderedNodes.take_from.Goals as goal
 
-pub returns-in-Ok-clause-ids : goal.returns-in-Ok-clause-ids
-returns-in-Ok-clause-ids c some among =
+pub returns-then-starts_with-clause-ids : goal.returns-then-starts_with-clause-ids
+returns-then-starts_with-clause-ids c some among =
     let nodes : List Node = c.args.self.now.nodes in
     let ids : List NodeId = c.args.lane.now.ids.items in
     let held = found_node nodes c.args.id c.requires in
     let node : Node = held.0 in
-    let place = c.in-Ok.place in
-    let graph = c.in-Ok.ensures.graph in
-    let found : IsFound node.task.key some place = subst (λ (o : Option Node). IfSome o (λ (n : Node). IsFound n.task.key some place)) held.1 (c.in-Ok.ensures.found some among) in
-    c.remove.ensures.ids ∙ unfiled nodes some ids c.args.id node place graph among held.1 found.rank (inside_among nodes some ids place among found.inside) (id_found nodes some ids c.args.id node place graph among held.1 found)
-
-pub returns-in_default-clause-ids : goal.returns-in_default-clause-ids
-returns-in_default-clause-ids c some among =
-    let nodes : List Node = c.args.self.now.nodes in
-    let ids : List NodeId = c.args.lane.now.ids.items in
-    let held = found_node nodes c.args.id c.requires in
-    let node : Node = held.0 in
-    let place = c.in_default.field-0 in
-    let graph = c.in_default.ensures.graph in
-    let gap : IsGap node.task.key some place = subst (λ (o : Option Node). IfSome o (λ (n : Node). IsGap n.task.key some place)) held.1 (c.in_default.ensures.found some among) in
-    not_filed nodes some ids c.args.id node place c.args.id graph among held.1 gap.rank (id_apart nodes some ids c.args.id node place c.args.id graph among held.1 gap)
+    let graph : IsGraph nodes = subst (λ (shelf : NodeShelf). IsGraph shelf.nodes) c.self.view_is c.self.invariant.graph in
+    let found = found_at_id nodes some ids c.args.id node 0 graph among held.1 (sym c.starts_with.ensures ∙ c.if-starts_with.true) in
+    c.remove.ensures.ids ∙ unfiled_found nodes some ids c.args.id node 0 graph among held.1 found
