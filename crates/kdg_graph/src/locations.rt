@@ -168,6 +168,7 @@ impl Locations {
     /// The places, among the nodes that an access to a location clashes with, of those later than the
     /// key up to the first that writes the location, and this one. `first` tells whether it is known
     /// that all are later.
+    #[inline(always)]
     pub(crate) fn front(
         &self,
         nodes: &OrderedNodes,

@@ -318,6 +318,7 @@ impl SourceLane {
 
     /// Refreshes the nodes of the front behind a key at one location. `first` tells whether it is known
     /// that all nodes that the access clashes with are later.
+    #[inline(always)]
     pub(crate) fn refresh_front(
         &mut self,
         nodes: &OrderedNodes,
