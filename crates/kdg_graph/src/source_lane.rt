@@ -243,6 +243,7 @@ impl SourceLane {
     }
 
     /// Puts the id of a node in or takes it out, by whether an earlier node is in conflict with it.
+    #[inline(always)]
     pub(crate) fn refresh(&mut self, nodes: &OrderedNodes, locations: &Locations, id: NodeId)
         requires graph { IsGraph nodes.now.nodes }
         requires there { HasNode nodes.now.nodes id }

@@ -33,6 +33,7 @@ fn count_high(signals: &[u32], bundle: &Bundle<u8>) -> usize
 }
 
 /// What a gate computes from the values of its fan-ins; an input computes nothing.
+#[inline(always)]
 pub(crate) fn computed_value(form: &Form, bundle: &Bundle<u8>) -> u8
     requires { All (IsHeld bundle.now) (fan_in_of form.now) }
     ensures { result ≡ computed_from form.now bundle.now }

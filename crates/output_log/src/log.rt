@@ -76,6 +76,7 @@ impl Log {
 
     /// Puts an entry at its place, where `reserve` made one. It takes no memory, and where the text is
     /// empty it needs neither a place nor any time.
+    #[inline(always)]
     pub fn put(&mut self, key: Key, text: Text)
         requires room { text ≢ [] → 0 < self.old.spare }
         requires new { IsNewEntry key self.old.entries }
