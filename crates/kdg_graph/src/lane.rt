@@ -327,6 +327,7 @@ impl Lane {
 }
 
 /// How the node with an id compares with the key; one that isn't kept counts as later.
+#[inline(always)]
 fn compare(slots: &Slab<Entry>, id: NodeId, key: &Key) -> Ordering
     ensures { result ≡ cmp_in slots.now key.now id }
 {
