@@ -11,7 +11,7 @@ use Rattle.task_order.specs.Blocks.{starts_by, IsFirstPriority, IsFirstBeginning
 use Rattle.std.specs.List.{insert}
 use Rattle.std.proofs.lemmas.List.Edits.{length-insert}
 use Rattle.task_order.proofs.Beginnings.{lower_beginnings_come_first}
-use Rattle.task_order.proofs.Comparing.{nat_cmp-same}
+use Rattle.task_order.specs.Comparing.{nat_cmp-same}
 
 -- a first task at the key's priority is earlier than the key where its path begins with a lower number
 pub starts_by-lower : (key : Key) (beginning : ℕ) (tasks : List Task) → IsFirstPriority key.prio tasks → IsFirstBeginning beginning tasks → CanCode 0 key.path → beginning < path_beginning key.path

@@ -5,7 +5,6 @@ pub mod Distinct
 pub mod Without
 pub mod Beginnings
 pub mod FirstTasks
-pub mod Comparing
 pub mod Words
 pub mod PathCode
 pub mod SharedBytes

@@ -8,7 +8,7 @@ use Rattle.task_order.specs.SharedBytes.{IsNode}
 use Rattle.task_order.specs.declared.path.node.TheConstants.{IN_PLACE, FULL_NODE}
 use Rattle.task_order.specs.PathCode.{first_word}
 use Rattle.task_order.proofs.Beginnings.{first_word-longer}
-use Rattle.task_order.proofs.Comparing.{slice_cmp-append, slice_cmp-ends, slice_cmp-upto, then_assoc}
+use Rattle.task_order.specs.Comparing.{slice_cmp-append, slice_cmp-ends, slice_cmp-upto, then_assoc}
 
 -- what decides below a level decides against all bytes that go on behind it
 pub order-below : (before own below other upper all : List ℕ) → length before ≡ length below → length own ≤ length other → below ++ other ≡ upper → upper ≡ take (length upper) all

@@ -10,7 +10,7 @@ use Rattle.std.proofs.lemmas.List.{drop-drop, drop_all}
 use Rattle.std.proofs.lemmas.Bool.Decides.{nat_tests}
 use Rattle.task_order.specs.PathCode.{number_of}
 use Rattle.task_order.specs.SharedBytes.{IsPadded}
-use Rattle.task_order.proofs.Comparing.{nat_cmp-same, nat_cmp-below, then_assoc, then-Equal, then-decided}
+use Rattle.task_order.specs.Comparing.{nat_cmp-same, nat_cmp-below, then_assoc, then-Equal, then-decided}
 
 -- each is below 256
 abbrev pub AreBytes : List ℕ → Type 0

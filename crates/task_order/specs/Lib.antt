@@ -4,4 +4,5 @@ pub mod Laws
 pub mod SharedBytes
 pub mod PathCode
 pub mod Blocks
+pub mod Comparing
 pub mod Left

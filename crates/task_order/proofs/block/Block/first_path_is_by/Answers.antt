@@ -2,7 +2,7 @@ use Rattle.std.proofs.Common.{◌<◌, ◌∙◌, ℕ, List, nat_lt, sym, ap, su
 use Rattle.task_order.specs.declared.task.Task.{Task}
 use Rattle.task_order.specs.PathCode.{path_beginning}
 use Rattle.task_order.specs.Blocks.{IsFirstBeginning}
-use Rattle.task_order.proofs.Comparing.{from_Less, from_Greater}
+use Rattle.task_order.specs.Comparing.{from_Less, from_Greater}
 use Rattle.task_order.proofs.FirstTasks.{starts_by-lower, starts_by-higher}
 use Rattle.task_order.proofs.block.Block.first_path_is_by.Goals as goal
 

@@ -1,7 +1,7 @@
 use Rattle.std.proofs.Common.{List, ℕ, sym, ◌∙◌, ap, length, ◌++◌, arith}
 use Rattle.std.specs.Cmp.Lexicographic.{slice_cmp}
 use Rattle.std.specs.Ordering.{nat_cmp}
-use Rattle.task_order.proofs.Comparing.{slice_cmp-shorter, split-joined, append-tied, append-decided}
+use Rattle.task_order.specs.Comparing.{slice_cmp-shorter, split-joined, append-tied, append-decided}
 use Rattle.task_order.proofs.path.joined.order_behind.Goals as goal
 
 pub returns-then-a-b : goal.returns-then-a-b

@@ -1,7 +1,7 @@
 use Rattle.std.proofs.Common.{List, ℕ, sym, ◌∙◌, ap, length, ◌++◌, append_assoc, arith}
 use Rattle.std.specs.Cmp.Lexicographic.{slice_cmp}
 use Rattle.std.specs.Ordering.{nat_cmp}
-use Rattle.task_order.proofs.Comparing.{split-joined, append-tied, append-decided}
+use Rattle.task_order.specs.Comparing.{split-joined, append-tied, append-decided}
 use Rattle.task_order.proofs.path.joined.order_from_shorter.Goals as goal
 
 pub returns-in-Equal : goal.returns-in-Equal

@@ -1,7 +1,7 @@
 use Rattle.std.proofs.Common.{◌≡◌, sym, ◌∙◌, ap}
 use Rattle.std.specs.Cmp.Lexicographic.{slice_cmp, bytes_decides}
 use Rattle.std.specs.Ordering.{nat_cmp}
-use Rattle.task_order.proofs.Comparing.{slice_cmp-same}
+use Rattle.task_order.specs.Comparing.{slice_cmp-same}
 use Rattle.task_order.proofs.path.joined.order_of_alike.Goals as goal
 
 pub returns-then-eq : goal.returns-then-eq

@@ -4,7 +4,7 @@ use Rattle.std.specs.declared.cmp.Ordering.{Ordering}
 use Rattle.std.specs.declared.cmp.Ordering.TheVariants.{Less, Equal}
 use Rattle.std.specs.Ordering.{nat_cmp, ordering_then}
 use Rattle.task_order.specs.SharedBytes.{chain}
-use Rattle.task_order.proofs.Comparing.{then-decided}
+use Rattle.task_order.specs.Comparing.{then-decided}
 use Rattle.task_order.proofs.SharedBytes.{order-below, levels_below}
 use Rattle.task_order.proofs.path.node.order_below.Goals as goal
 

@@ -2,7 +2,7 @@ use Rattle.std.proofs.Common.{◌≡◌, ◌≤◌, ◌<◌, ◌+◌, ◌++◌, 
 use Rattle.std.specs.Cmp.Lexicographic.{nat_list_cmp_total}
 use Rattle.std.specs.Ordering.{ordering_reverse}
 use Rattle.task_order.specs.SharedBytes.{chain}
-use Rattle.task_order.proofs.Comparing.{append-tied, append-decided, from_Less, from_Equal, from_Greater}
+use Rattle.task_order.specs.Comparing.{append-tied, append-decided, from_Less, from_Equal, from_Greater}
 use Rattle.task_order.proofs.SharedBytes.{order-deeper, some_behind}
 use Rattle.task_order.proofs.path.node.order_of.Goals as goal
 

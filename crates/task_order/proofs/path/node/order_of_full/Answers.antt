@@ -3,7 +3,7 @@ use Rattle.std.specs.Cmp.Lexicographic.{slice_cmp}
 use Rattle.std.specs.declared.cmp.Ordering.{Ordering}
 use Rattle.std.specs.Ordering.{nat_cmp, ordering_then}
 use Rattle.task_order.specs.SharedBytes.{chain}
-use Rattle.task_order.proofs.Comparing.{then-decided}
+use Rattle.task_order.specs.Comparing.{then-decided}
 use Rattle.task_order.proofs.SharedBytes.{same_level, order-found}
 use Rattle.task_order.proofs.path.node.order_of_full.Goals.{in-Equal, in_default-order_of_alike}
 use Rattle.task_order.proofs.path.node.order_of_full.Goals as goal

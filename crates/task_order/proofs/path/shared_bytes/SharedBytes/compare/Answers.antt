@@ -1,6 +1,6 @@
 use Rattle.std.proofs.Common.{sym, ◌∙◌, take, arith}
 use Rattle.task_order.specs.SharedBytes.{chain}
-use Rattle.task_order.proofs.Comparing.{append-tied, append-decided}
+use Rattle.task_order.specs.Comparing.{append-tied, append-decided}
 use Rattle.task_order.proofs.path.shared_bytes.SharedBytes.compare.Goals as goal
 
 pub returns-in-Equal : goal.returns-in-Equal

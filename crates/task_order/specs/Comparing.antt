@@ -1,4 +1,4 @@
--- How lists compare that begin alike or are joined of parts.
+-- How lists compare that begin alike or are joined of parts: laws with their proofs.
 use Rattle.std.specs.Cmp.{nat_cmp_total, tied_itself}
 use Rattle.std.specs.Cmp.Lexicographic.{slice_cmp, nat_list_cmp_total}
 use Rattle.std.specs.declared.cmp.Ordering.{Ordering}
