@@ -1,5 +1,5 @@
 -- The entries of a log that is cut into blocks.
-use Rattle.std.proofs.Common.{◌≡◌, ℕ, zero, suc, ◌+◌, ◌*◌, ◌<◌, ◌≤◌, inl, inr, List, [], ◌∷◌, ◌++◌, length, take, drop, set, get_or, refl, sym, ◌∙◌, ap, subst, arith, append_assoc, length-append, add-one}
+use Rattle.std.proofs.Common.{◌≡◌, ℕ, zero, suc, ◌+◌, ◌*◌, ◌<◌, ◌≤◌, ◌↔◌, inl, inr, List, [], ◌∷◌, ◌++◌, length, take, drop, set, get_or, refl, sym, ◌∙◌, ap, subst, arith, append_assoc, length-append, add-one}
 use Rattle.std.proofs.Math.Seq.{take-length, drop-length}
 use Rattle.std.proofs.lemmas.Grind.{flat_map-append}
 use Rattle.std.proofs.lemmas.List.{append-nil, get_or_default, take-append-drop}
@@ -12,6 +12,14 @@ use Rattle.output_log.proofs.LogEntries.{AllByRecursion-first, AllByRecursion-la
 pub entries_in-append : (blocks more : List (List Entry)) → entries_in (blocks ++ more) ≡ entries_in blocks ++ entries_in more
 entries_in-append [] more = refl
 entries_in-append (block ∷ blocks) more = ap (λ l. block ++ l) (entries_in-append blocks more) ∙ sym (append_assoc block (entries_in blocks) (entries_in more))
+
+-- only where there is no block, there is no entry
+pub no_entry : (blocks : List (List Entry)) → AllByRecursion IsFilled blocks → (blocks ≡ []) ↔ (entries_in blocks ≡ [])
+no_entry [] filled = (λ none. refl, λ none. refl)
+no_entry (block ∷ blocks) filled = (
+  λ none. absurd (omega (arith, ap length none)),
+  λ none. absurd (omega (arith, length-append block (entries_in blocks), ap length none, filled.0.0)),
+)
 
 -- one block more
 pub entries_in-take : (blocks : List (List Entry)) (at : ℕ) → at < length blocks → entries_in (take (suc at) blocks) ≡ entries_in (take at blocks) ++ block_at blocks at

@@ -1,11 +1,12 @@
 -- The entries of the tasks that wrote something.
-use Rattle.std.proofs.Common.{◌≡◌, ℕ, true, not, List, [], ◌∷◌, ◌++◌, refl, sym, ◌∙◌, ap}
+use Rattle.std.proofs.Common.{◌≡◌, ℕ, true, not, List, [], ◌∷◌, ◌++◌, length, refl, sym, ◌∙◌, ap, arith}
 use Rattle.std.proofs.lemmas.List.Elements.{filter-append}
 use Rattle.std.proofs.lemmas.List.Kept.{IsStrictlySortedBy-filter}
 use Rattle.task_order.specs.declared.key.Key.{Key}
-use Rattle.task_order.specs.Key.{Bound, at_key}
-use Rattle.output_log.specs.Entries.{Entry, IsInKeyOrder, entries_before, entries_from, entry_cmp, is_entry_before, is_written, joined_texts, with_entry, with_texts}
+use Rattle.task_order.specs.Key.{Bound, at_key, IsExactOrder}
+use Rattle.output_log.specs.Entries.{Entry, IsInKeyOrder, ShareNoKey, entries_before, entries_from, entry_cmp, is_entry_before, is_written, joined_by_key, joined_texts, with_entry, with_texts}
 use Rattle.output_log.proofs.Filters.{filter-cons, filter_swap}
+use Rattle.output_log.proofs.Joins.{joins_keep_order, order_of_rest}
 use Rattle.output_log.proofs.Parts.{earlier_come_first}
 
 pub written_before : (bound : Bound) (entries : List Entry) → with_texts (entries_before bound entries) ≡ entries_before bound (with_texts entries)
@@ -40,3 +41,16 @@ pub all_texts_are_written : (entries : List Entry) → joined_texts (with_texts 
 all_texts_are_written [] = refl
 all_texts_are_written ((key, []) ∷ entries) = all_texts_are_written entries
 all_texts_are_written ((key, byte ∷ text) ∷ entries) = ap (λ l. (byte ∷ text) ++ l) (all_texts_are_written entries)
+
+-- nor do they lack one where others without a text are joined
+pub silent_joins_add_no_text : IsExactOrder → (entries silent : List Entry) → IsInKeyOrder entries → IsInKeyOrder silent → ShareNoKey entries silent →
+    with_texts silent ≡ [] → joined_texts (joined_by_key entries silent) ≡ joined_texts entries
+silent_joins_add_no_text exact entries [] ordered rest apart none = refl
+silent_joins_add_no_text exact entries ((key, byte ∷ text) ∷ silent) ordered rest apart none = absurd (omega (arith, ap length none))
+silent_joins_add_no_text exact entries ((key, []) ∷ silent) ordered rest apart none =
+    let rest_ordered = order_of_rest (key, []) silent rest in
+    let joined = joined_by_key entries silent in
+    sym (all_texts_are_written (with_entry key [] joined))
+    ∙ ap joined_texts (silent_put key joined (joins_keep_order exact entries silent ordered rest_ordered apart.1))
+    ∙ all_texts_are_written joined
+    ∙ silent_joins_add_no_text exact entries silent ordered rest_ordered apart.1 none

@@ -5,7 +5,7 @@ use Rattle.std.specs.List.Sorted.{IsPermutation}
 use Rattle.std.specs.declared.cmp.Ordering.TheVariants.{Less}
 use Rattle.task_order.specs.declared.key.Key.{Key}
 use Rattle.task_order.specs.Key.{Bound, end, key_cmp, is_before}
-use Rattle.output_log.specs.Entries.{Entry, IsInKeyOrder, IsNewEntry, ShareNoKey, entries_before, entries_from, with_entry, joined_by_key, joined_texts}
+use Rattle.output_log.specs.Entries.{Entry, IsInKeyOrder, IsNewEntry, ShareNoKey, entries_before, entries_from, with_entry, with_texts, joined_by_key, joined_texts}
 
 -- ---- one more entry
 
@@ -99,3 +99,8 @@ PartsJoin = (bound : Bound) (entries others : List Entry) →
 abbrev pub LaterJoinsFollow : Type 0
 LaterJoinsFollow = (entries others : List Entry) → IsInKeyOrder others →
     AllByRecursion (λ other. AllByRecursion (λ entry. key_cmp entry.0 other.0 ≡ Less) entries) others → joined_by_key entries others ≡ entries ++ others
+
+-- entries without a text add none
+abbrev pub SilentJoinsAddNoText : Type 0
+SilentJoinsAddNoText = (entries silent : List Entry) → IsInKeyOrder entries → IsInKeyOrder silent → ShareNoKey entries silent →
+    with_texts silent ≡ [] → joined_texts (joined_by_key entries silent) ≡ joined_texts entries

@@ -112,6 +112,13 @@ impl Blocks {
         self.blocks.len()
     }
 
+    /// Whether there is no entry.
+    pub(crate) fn is_empty(&self) -> bool
+        ensures { IsTrue result ↔ (entries_in self.now.blocks ≡ []) }
+    {
+        self.blocks.is_empty()
+    }
+
     /// Where a key belongs, which often is before all entries: in which block, and behind how many of its
     /// entries.
     pub(crate) fn front_of(&self, key: &Key) -> (usize, usize)

@@ -1,4 +1,4 @@
-ghost use Rattle.output_log.specs.Laws.{PutsKeepOrder, PutsCommute, LastPutsAppend, PutsMeetOnePart, PutsTakeOneKey, EarlierEntriesComeFirst, PartsKeepOrder, AllAreBeforeEnd, TextsFollow, JoinsWithNone, JoinsWithOne, JoinsTakePuts, JoinsCommute, JoinsAssociate, JoinsKeepOrder, JoinsHaveAll, JoinsAddLengths, JoinsHaveTheKeysOfBoth, PartsJoin, LaterJoinsFollow};
+ghost use Rattle.output_log.specs.Laws.{PutsKeepOrder, PutsCommute, LastPutsAppend, PutsMeetOnePart, PutsTakeOneKey, EarlierEntriesComeFirst, PartsKeepOrder, AllAreBeforeEnd, TextsFollow, JoinsWithNone, JoinsWithOne, JoinsTakePuts, JoinsCommute, JoinsAssociate, JoinsKeepOrder, JoinsHaveAll, JoinsAddLengths, JoinsHaveTheKeysOfBoth, PartsJoin, LaterJoinsFollow, SilentJoinsAddNoText};
 
 use task_order::key_order;
 
@@ -34,6 +34,7 @@ pub fn join_laws()
     ensures keys { JoinsHaveTheKeysOfBoth }
     ensures parts { PartsJoin }
     ensures later { LaterJoinsFollow }
+    ensures silent { SilentJoinsAddNoText }
 {
     key_order();
 }

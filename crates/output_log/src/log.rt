@@ -1,6 +1,6 @@
-ghost use Rattle.std.specs.Prelude.{◌≡◌, ◌≢◌, ◌+◌, ◌<◌, ◌≤◌, [], IfOk, OnOk, OnErr};
+ghost use Rattle.std.specs.Prelude.{◌≡◌, ◌≢◌, ◌↔◌, ◌+◌, ◌<◌, ◌≤◌, [], IsTrue, IfOk, OnOk, OnErr};
 ghost use Rattle.task_order.specs.Key.{at_key};
-ghost use Rattle.output_log.specs.Entries.{IsInKeyOrder, IsNewEntry, entries_before, entries_from, with_entry, joined_texts};
+ghost use Rattle.output_log.specs.Entries.{IsInKeyOrder, IsNewEntry, entries_before, entries_from, with_entry, with_texts, joined_texts};
 
 use crate::blocks::Blocks;
 use crate::laws::{part_laws, put_laws};
@@ -91,6 +91,13 @@ impl Log {
             let (at, place) = self.blocks.place_of(&key);
             self.blocks.insert(at, place, (key, text));
         }
+    }
+
+    /// Whether no entry has a text.
+    pub fn is_silent(&self) -> bool
+        ensures { IsTrue result ↔ (with_texts self.now.entries ≡ []) }
+    {
+        self.blocks.is_empty()
     }
 
     /// Takes the entries that are earlier than the key out, and joins their texts. After `NoRoom`

@@ -57,7 +57,9 @@ fn texts_are_joined_in_key_order(rt: HostRuntime) -> Result<(), Fail> {
     assert_eq!(rt; log.all()?.bytes(), b"ab".as_slice());
     assert_eq!(rt; log.take_below(&bound)?.bytes(), b"a".as_slice());
     assert_eq!(rt; log.all()?.bytes(), b"b".as_slice());
+    assert!(rt; !log.is_silent());
     assert_eq!(rt; log.take_all()?.bytes(), b"b".as_slice());
+    assert!(rt; log.is_silent());
     assert!(rt; log.take_all()?.is_empty());
     Ok(())
 }

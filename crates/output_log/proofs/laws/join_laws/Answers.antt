@@ -1,4 +1,5 @@
 use Rattle.output_log.proofs.Joins.{joins_with_none, joins_with_one, put_first, put_second, joins_commute, joins_associate, joins_keep_order, joins_have_all, joins_add_lengths, joins_have_the_keys_of_both, parts_join, later_joins_follow}
+use Rattle.output_log.proofs.Written.{silent_joins_add_no_text}
 use Rattle.output_log.proofs.laws.join_laws.Goals as goal
 
 pub returns-clause-none : goal.returns-clause-none
@@ -33,3 +34,6 @@ returns-clause-later c = later_joins_follow
 
 pub returns-clause-puts : goal.returns-clause-puts
 returns-clause-puts c key text entries others = (put_first c.key_order.ensures.exact key text entries others, put_second c.key_order.ensures.exact key text entries others)
+
+pub returns-clause-silent : goal.returns-clause-silent
+returns-clause-silent c = silent_joins_add_no_text c.key_order.ensures.exact
