@@ -1,9 +1,16 @@
 pub mod Acting
 pub mod Apart
+pub mod ByPath
+pub mod Listed
 pub mod Lists
+pub mod Naming
 pub mod Ordered
+pub mod Prefixes
 pub mod Putting
 pub mod Reached
+pub mod Renamed
 pub mod Running
 pub mod Runs
+pub mod Stepping
 pub mod Steps
+pub mod UnderNames

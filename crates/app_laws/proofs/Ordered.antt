@@ -17,14 +17,14 @@ use Rattle.app_laws.proofs.Lists.{All-weaker, All-joined, All-push, All-put_in, 
 use Rattle.app_laws.proofs.Steps.{after_none, after_one_more}
 
 -- tasks that are apart have other keys
-new_key_from_apart : (task : Task) (tasks : List Task) → AllByRecursion (TasksApart task) tasks → IsNewKey task.key tasks
+pub new_key_from_apart : (task : Task) (tasks : List Task) → AllByRecursion (TasksApart task) tasks → IsNewKey task.key tasks
 new_key_from_apart task =
     All-weaker (TasksApart task) (λ other. other.key ≢ task.key) (λ other apart same. differ_from_no_prefix other.key.path task.key.path apart.not_after (ap (λ (key : Key). key.path) same))
 
 -- in ascending order, and apart
-record IsSpread (tasks : List Task) : Type 0 where
-  ascending : IsAscending tasks
-  apart : Pairwise TasksApart tasks
+pub record IsSpread (tasks : List Task) : Type 0 where
+  pub ascending : IsAscending tasks
+  pub apart : Pairwise TasksApart tasks
 
 spread-put_in : LowerLaws → (task : Task) (tasks : List Task) → AllByRecursion (TasksApart task) tasks → IsSpread tasks → IsSpread (put_in task tasks)
 spread-put_in lower task tasks apart spread = record {
@@ -41,6 +41,23 @@ spread-put_all lower (task ∷ new) tasks pairs apart spread =
     new pairs.0 apart.1)
     (spread-put_in lower task tasks apart.0 spread)
 
+-- a task's children are apart from the others
+pub children_apart_from_others : (task : Task) (others : List Task) (children : List Start) → NoneEarlier task.key.prio children → AllByRecursion (TasksApart task) others
+    → AllByRecursion (λ child. AllByRecursion (TasksApart child) others) (children_from task.key 0 children)
+children_apart_from_others task others children not_earlier apart =
+    let child_of = λ (number : ℕ) (child : Start). let t : Task = record { key = child_key task.key number child.prio; body = child.body } in t in
+    All-children (λ t. AllByRecursion (TasksApart t) others) (λ child. task.key.prio ≤ child.prio) task.key
+    (λ number child up_to. All-weaker (TasksApart task) (TasksApart (child_of number child)) (λ other. apart_longer task.key.path other.key.path number) others apart)
+    0 children not_earlier
+
+-- where the first task gives way to its children, they stay in ascending order, and apart
+pub spread_next : LowerLaws → (task : Task) (others : List Task) (children : List Start) → NoneEarlier task.key.prio children → IsSpread (task ∷ others)
+    → IsSpread (put_all (children_from task.key 0 children) others)
+spread_next lower task others children not_earlier spread =
+    spread-put_all lower (children_from task.key 0 children) others (children_apart task.key 0 children)
+    (children_apart_from_others task others children not_earlier spread.apart.0)
+    (record { ascending = spread.ascending.1; apart = spread.apart.1 })
+
 -- a start is orderly
 all_apart_from_none : (new : List Task) → AllByRecursion (λ task. AllByRecursion (TasksApart task) []) new
 all_apart_from_none [] = tt
@@ -50,10 +67,14 @@ none_logged : (P : Task → Key × List ℕ → Type 0) (tasks : List Task) → 
 none_logged P [] = tt
 none_logged P (task ∷ tasks) = (tt, none_logged P tasks)
 
+pub spread_at_start : LowerLaws → (first : List Start) → IsSpread (put_all (first_from 0 first) [])
+spread_at_start lower first =
+    spread-put_all lower (first_from 0 first) [] (first_apart 0 first) (all_apart_from_none (first_from 0 first)) (record { ascending = tt; apart = tt })
+
 pub start_orderly : LowerLaws → {V : Type 0} (cells : List V) (first : List Start) → IsOrderly (start_of cells first)
 start_orderly lower cells first =
     let tasks = first_from 0 first in
-    let spread = spread-put_all lower tasks [] (first_apart 0 first) (all_apart_from_none tasks) (record { ascending = tt; apart = tt }) in
+    let spread = spread_at_start lower first in
     record {
       ascending = spread.ascending;
       apart = spread.apart;
@@ -88,12 +109,7 @@ acts_orderly lower act e task others pending not_earlier orderly =
     let apart = subst (λ ts. Pairwise TasksApart ts) pending orderly.apart in
     let unlogged = subst (λ ts. AllByRecursion (λ t. AllByRecursion (Logged t) e.log) ts) pending orderly.unlogged in
     let after_log = subst (λ ts. AllByRecursion (λ t. AllByRecursion (After t) e.log) ts) pending orderly.after_log in
-    let spread =
-    spread-put_all lower new others (children_apart task.key 0 children)
-    (All-children (λ t. AllByRecursion (TasksApart t) others) UpTo task.key
-    (λ number child up_to. All-weaker (TasksApart task) (TasksApart (child_of number child)) (λ other. apart_longer path other.key.path number) others apart.0)
-    0 children not_earlier)
-    (record { ascending = ascending.1; apart = apart.1 }) in
+    let spread = spread_next lower task others children not_earlier (record { ascending = ascending; apart = apart }) in
     record {
       ascending = spread.ascending;
       apart = spread.apart;

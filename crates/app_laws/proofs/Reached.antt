@@ -18,22 +18,20 @@ use Rattle.app_laws.proofs.Lists.{length-put_all}
 use Rattle.app_laws.proofs.Steps.{after_none, after_one_more, stops_when_clear, none_before_end, created_by_task, logs_while_pending, created_never_falls, ends_within_limit}
 
 -- the execution after count steps, each of which had a task to run
-pub record IsReached {V : Type 0} (act : Operator V) (budget : ℕ) (start : Execution V) (cells : List V) (pending : List Task) (count created : ℕ) : Type 0 where
+pub record IsReached {V : Type 0} (act : Operator V) (budget : ℕ) (start : Execution V) (cells : List V) (count created : ℕ) : Type 0 where
   pub cells-are : cells ≡ (after_steps act count start).cells
-  pub pending-are : pending ≡ (after_steps act count start).pending
   pub created-are : created ≡ created_after act count start
   pub within : created ≤ budget
   pub busy : (fewer : ℕ) → fewer < count → (after_steps act fewer start).pending ≢ []
 
-pub reached_at_start : {V : Type 0} (act : Operator V) (budget : ℕ) (cells : List V) (first : List Start) (pending : List Task) (created : ℕ)
-    → pending ≡ put_all (first_from 0 first) [] → created ≡ length first → created ≤ budget
-    → IsReached act budget (start_of cells first) cells pending 0 created
-reached_at_start act budget cells first pending created puts many within =
+pub reached_at_start : {V : Type 0} (act : Operator V) (budget : ℕ) (cells : List V) (first : List Start) (created : ℕ)
+    → created ≡ length first → created ≤ budget
+    → IsReached act budget (start_of cells first) cells 0 created
+reached_at_start act budget cells first created many within =
     let start = start_of cells first in
     let same = after_none act start in
     record {
       cells-are = sym (ap (λ e. e.cells) same);
-      pending-are = puts ∙ sym (ap (λ e. e.pending) same);
       created-are = rw after_none (omega (arith, length-put_all (first_from 0 first) [], length-first_from 0 first));
       within = within;
       busy = λ fewer below. absurd (omega arith);
@@ -42,12 +40,12 @@ reached_at_start act budget cells first pending created puts many within =
 not_empty : (task : Task) (tasks : List Task) → task ∷ tasks ≢ []
 not_empty task tasks same = absurd (cc)
 
-module _ {V : Type 0} {act : Operator V} {budget : ℕ} {start : Execution V} {cells : List V} {pending : List Task} {count created : ℕ} (reached : IsReached act budget start cells pending count created) where
+module _ {V : Type 0} {act : Operator V} {budget : ℕ} {start : Execution V} {cells : List V} {count created : ℕ} (reached : IsReached act budget start cells count created) where
   -- the task that acts next
-  step_is : (task : Task) (others : List Task) → pending ≡ task ∷ others → after_steps act (suc count) start ≡ acts act (after_steps act count start) (task ∷ others)
-  step_is task others is = after_one_more act count start ∙ ap (acts act (after_steps act count start)) (sym reached.pending-are ∙ is)
+  step_is : (task : Task) (others : List Task) → (after_steps act count start).pending ≡ task ∷ others → after_steps act (suc count) start ≡ acts act (after_steps act count start) (task ∷ others)
+  step_is task others is = after_one_more act count start ∙ ap (acts act (after_steps act count start)) is
 
-  created_next : (task : Task) (others : List Task) → pending ≡ task ∷ others → created_after act (suc count) start ≡ created + length (act task cells).children
+  created_next : (task : Task) (others : List Task) → (after_steps act count start).pending ≡ task ∷ others → created_after act (suc count) start ≡ created + length (act task cells).children
   created_next task others is =
       let e = after_steps act count start in
       omega (
@@ -55,20 +53,18 @@ module _ {V : Type 0} {act : Operator V} {budget : ℕ} {start : Execution V} {c
         ap created_by (step_is task others is),
         created_by_task act e task others,
         reached.created-are,
-        ap length (sym reached.pending-are ∙ is),
+        ap length is,
         ap (λ cs. length (act task cs).children) reached.cells-are,
       )
 
-  pub reached_next : (task : Task) (others : List Task) (cells' : List V) (pending' : List Task) (created' : ℕ) → pending ≡ task ∷ others
+  pub reached_next : (task : Task) (others : List Task) (cells' : List V) (created' : ℕ) → (after_steps act count start).pending ≡ task ∷ others
       → cells' ≡ (act task cells).cells
-      → pending' ≡ put_all (children_from task.key 0 (act task cells).children) others
       → created' ≡ created + length (act task cells).children → created' ≤ budget
-      → IsReached act budget start cells' pending' (count + 1) created'
-  reached_next task others cells' pending' created' is cells-are pending-are created-are within =
+      → IsReached act budget start cells' (count + 1) created'
+  reached_next task others cells' created' is cells-are created-are within =
       let next = step_is task others is in
       rw add-one (record {
         cells-are = cells-are ∙ ap (λ cs. (act task cs).cells) reached.cells-are ∙ sym (ap (λ x. x.cells) next);
-        pending-are = pending-are ∙ ap (λ cs. put_all (children_from task.key 0 (act task cs).children) others) reached.cells-are ∙ sym (ap (λ x. x.pending) next);
         created-are = created-are ∙ sym (created_next task others is);
         within = within;
         busy = λ fewer below.
@@ -76,34 +72,39 @@ module _ {V : Type 0} {act : Operator V} {budget : ℕ} {start : Execution V} {c
             (λ before. reached.busy fewer before)
             (λ above none.
             let last : fewer ≡ count = omega arith in
-            not_empty task others (sym is ∙ reached.pending-are ∙ sym (ap (λ n. (after_steps act n start).pending) last) ∙ none))
+            not_empty task others (sym is ∙ sym (ap (λ n. (after_steps act n start).pending) last) ∙ none))
             (cases_lt fewer count);
       })
 
+  pub pending_next : (task : Task) (others : List Task) → (after_steps act count start).pending ≡ task ∷ others
+      → (after_steps act (count + 1) start).pending ≡ put_all (children_from task.key 0 (act task cells).children) others
+  pending_next task others is =
+      rw add-one (ap (λ x. x.pending) (step_is task others is) ∙ ap (λ cs. put_all (children_from task.key 0 (act task cs).children) others) (sym reached.cells-are))
+
   -- what the task logs
-  log_next : (task : Task) (others : List Task) → pending ≡ task ∷ others
+  log_next : (task : Task) (others : List Task) → (after_steps act count start).pending ≡ task ∷ others
       → (after_steps act (count + 1) start).log ≡ (after_steps act count start).log ++ (task.key, (act task cells).text) ∷ []
   log_next task others is =
       rw add-one
       (ap (λ x. x.log) (step_is task others is) ∙ ap (λ cs. (after_steps act count start).log ++ (task.key, (act task cs).text) ∷ []) (sym reached.cells-are))
 
   -- its text comes behind all texts so far
-  pub text_next : (task : Task) (others : List Task) → pending ≡ task ∷ others
+  pub text_next : (task : Task) (others : List Task) → (after_steps act count start).pending ≡ task ∷ others
       → joined_texts (after_steps act (count + 1) start).log ≡ joined_texts (after_steps act count start).log ++ (act task cells).text
   text_next task others is =
       ap joined_texts (log_next task others is)
       ∙ sym (flat_map_more (λ (entry : Entry). entry.1) [] (after_steps act count start).log (task.key, (act task cells).text))
 
   module _ (fresh : length start.log ≡ 0) where
-    count_within : count + length pending ≤ budget
-    count_within = omega (arith, logs_while_pending act start count reached.busy, ap length reached.pending-are, reached.created-are, reached.within)
+    pub count_within : count + length (after_steps act count start).pending ≤ budget
+    count_within = omega (arith, logs_while_pending act start count reached.busy, reached.created-are, reached.within)
 
     -- a task that is pending can still run
-    pub count_below : (task : Task) (others : List Task) → pending ≡ task ∷ others → count < budget
+    pub count_below : (task : Task) (others : List Task) → (after_steps act count start).pending ≡ task ∷ others → count < budget
     count_below task others is = omega (arith, count_within, ap length is)
 
     -- the first time that there are too many
-    pub over_budget : (task : Task) (others : List Task) (created' : ℕ) → pending ≡ task ∷ others
+    pub over_budget : (task : Task) (others : List Task) (created' : ℕ) → (after_steps act count start).pending ≡ task ∷ others
         → created' ≡ created + length (act task cells).children → budget < created'
         → IsOverBudget act budget start created' budget
     over_budget task others created' is many over =
@@ -133,9 +134,9 @@ module _ {V : Type 0} {act : Operator V} {budget : ℕ} {start : Execution V} {c
         (cases_order steps count)
 
     -- nothing is pending: the end
-    pub ends_here : pending ≡ [] → run_to_end act budget start ≡ Some (after_steps act count start)
+    pub ends_here : (after_steps act count start).pending ≡ [] → run_to_end act budget start ≡ Some (after_steps act count start)
     ends_here none =
-        let clear = ap (λ tasks. not (list_any (λ (task : Task). is_before task.key end) tasks)) (sym reached.pending-are ∙ none) in
+        let clear = ap (λ tasks. not (list_any (λ (task : Task). is_before task.key end) tasks)) none in
         ap (option_map (λ steps. after_steps act steps start)) (ends_answered (steps_until act budget end start) (stops_when_clear act start budget end) clear)
 
     pub counted : count ≡ length (after_steps act count start).log

@@ -169,10 +169,10 @@ part_of_joined bound first rest all none =
     ∙ ap (λ entries. entries ++ filter (is_entry_before bound) rest) (kept_all (is_entry_before bound) first all)
     ∙ ap (λ entries. first ++ entries) (dropped_all (is_entry_before bound) rest none) ∙ append-nil first
 
-busy_before_end : {V : Type 0} (e : Execution V) (task : Task) (others : List Task) → e.pending ≡ task ∷ others → is_clear_before end e ≡ false
+pub busy_before_end : {V : Type 0} (e : Execution V) (task : Task) (others : List Task) → e.pending ≡ task ∷ others → is_clear_before end e ≡ false
 busy_before_end e task others is = ap (λ tasks. not (list_any (λ (t : Task). is_before t.key end) tasks)) is
 
-clear_before_end : {V : Type 0} (e : Execution V) → e.pending ≡ [] → (bound : Bound) → is_clear_before bound e ≡ true
+pub clear_before_end : {V : Type 0} (e : Execution V) → e.pending ≡ [] → (bound : Bound) → is_clear_before bound e ≡ true
 clear_before_end e is bound = ap (λ tasks. not (list_any (λ (t : Task). is_before t.key bound) tasks)) is
 
 -- what a run logs after entries

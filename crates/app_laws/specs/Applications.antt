@@ -20,6 +20,7 @@ use Rattle.app_laws.specs.declared.app.Effect.{Effect}
 use Rattle.app_laws.specs.declared.app.SetAnswer.{SetAnswer}
 use Rattle.app_laws.specs.declared.app.SetAnswer.TheVariants as answer
 use Rattle.app_laws.specs.Execution.{Operator, Outcome, children_from}
+use Rattle.app_laws.specs.Names.{renamed, with_path}
 
 -- an application: how many cells it works on, which lists of values are its cells, which pairs of a priority and a body
 -- are its tasks, the set that a body declares in the cells, what finding that set out needs of cells that may be out,
@@ -127,6 +128,10 @@ module _ {V : Type 0} (app : Application V) where
     pub determined : (task : Task) (cells others : List V) → app.is_fit_cells cells → app.is_fit_cells others → IsFitTask task →
         AgreeOn (set_in cells task) cells others → IsSameOutcome (set_in cells task) (app.act task cells) (app.act task others)
 
+  -- whatever a task's path is, it does the same
+  abbrev pub ActsIgnorePaths : Type 0
+  ActsIgnorePaths = (task : Task) (path : List ℕ) (cells : List V) → app.is_fit_cells cells → IsFitTask task → app.act (with_path path task) cells ≡ app.act task cells
+
   -- no child is earlier than its parent
   abbrev pub ChildrenComeNoEarlier : Type 0
   ChildrenComeNoEarlier = (task : Task) (cells : List V) → app.is_fit_cells cells → IsFitTask task →
@@ -156,6 +161,11 @@ module _ {V : Type 0} (app : Application V) where
   abbrev pub IsSafeAlone : Type 0
   IsSafeAlone = (task : Task) → IsFitTask task → app.is_safe task [] ≡ true
 
+  -- whatever the paths of a task and of those before it are, it is as safe
+  abbrev pub SafetyIgnoresPaths : Type 0
+  SafetyIgnoresPaths = (task : Task) (earlier : List Task) (name : List ℕ → List ℕ) → IsFitTask task → AreFitTasks earlier →
+      app.is_safe (renamed name task) (map (renamed name) earlier) ≡ app.is_safe task earlier
+
   -- none of the children conflicts with the task, and it is safe against them and the other earlier tasks
   pub record StaysSafe (task : Task) (children others : List Task) (cells : List V) : Type 0 where
     pub apart : AllByRecursion (λ child. ¬ Conflicts (set_in cells child) (set_in cells task)) children
@@ -176,9 +186,11 @@ module _ {V : Type 0} (app : Application V) where
     pub acts_are_fit : ActsAreFit
     pub sets_are_local : SetsAreLocal
     pub acts_are_local : ActsAreLocal
+    pub acts_ignore_paths : ActsIgnorePaths
     pub children_come_no_earlier : ChildrenComeNoEarlier
     pub sets_stay_within : SetsStayWithin
     pub walks_are_true : WalksAreTrue
     pub fixed_sets_are_known : FixedSetsAreKnown
     pub safe_alone : IsSafeAlone
     pub safe_tasks_stay_safe : SafeTasksStaySafe
+    pub safety_ignores_paths : SafetyIgnoresPaths

@@ -3,6 +3,10 @@ pub mod Execution
 pub mod Family
 pub mod Laws
 pub mod Lower
+pub mod Names
 pub mod Order
+pub mod Renaming
+pub mod RenamingLaws
+pub mod Renumbering
 pub mod Serial
 pub mod Storage

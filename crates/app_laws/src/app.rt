@@ -29,7 +29,7 @@ pub enum SetAnswer {
 pub trait App {
     ghost use Rattle.task_order.specs.declared.task.Body.{Body};
     ghost use Rattle.task_order.specs.declared.task.Task.{Task};
-    ghost use Rattle.app_laws.specs.Applications.{Application, AgreesWith, AreFitTasks, IsFitTask, IsTaken, IsEffect, tasks_before, CellsAreCounted, SetsAreInRange, ActsAreFit, SetsAreLocal, ActsAreLocal, ChildrenComeNoEarlier, SetsStayWithin, WalksAreTrue, FixedSetsAreKnown, IsSafeAlone, SafeTasksStaySafe};
+    ghost use Rattle.app_laws.specs.Applications.{Application, AgreesWith, AreFitTasks, IsFitTask, IsTaken, IsEffect, tasks_before, CellsAreCounted, SetsAreInRange, ActsAreFit, SetsAreLocal, ActsAreLocal, ActsIgnorePaths, ChildrenComeNoEarlier, SetsStayWithin, WalksAreTrue, FixedSetsAreKnown, IsSafeAlone, SafeTasksStaySafe, SafetyIgnoresPaths};
 
     /// What a cell holds.
     type Val: Held;
@@ -99,6 +99,9 @@ pub trait App {
     /// A task changes only what its set writes, and depends on nothing but the cells of its set.
     ghost acts_are_local: { (app : Self) → ActsAreLocal (meaning app) };
 
+    /// What a task does is not told by its path.
+    ghost acts_ignore_paths: { (app : Self) → ActsIgnorePaths (meaning app) };
+
     /// No child is earlier than its parent.
     ghost children_come_no_earlier: { (app : Self) → ChildrenComeNoEarlier (meaning app) };
 
@@ -117,4 +120,7 @@ pub trait App {
 
     /// A safe task stays safe where an earlier one acts that it doesn't conflict with.
     ghost safe_tasks_stay_safe: { (app : Self) → SafeTasksStaySafe (meaning app) };
+
+    /// Nor is it told by paths whether a task is safe.
+    ghost safety_ignores_paths: { (app : Self) → SafetyIgnoresPaths (meaning app) };
 }

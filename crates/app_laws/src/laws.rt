@@ -4,9 +4,11 @@ ghost use Rattle.app_laws.specs.Execution.{Operator, Execution, start_of, after_
 ghost use Rattle.app_laws.specs.Applications.{IsLawful, AreFitStarts};
 ghost use Rattle.app_laws.specs.Laws.{IsFitExecution, StopsWhenClear, LogsEachStep, CreatedNeverFalls, EndsWithinLimit, StepsAdd, RunsBeginWithAStep, GreaterLimitsAgree, LogsGrowAtTheEnd, BoundedRunsLogAPart};
 ghost use Rattle.app_laws.specs.Order.{IsOrderly};
+ghost use Rattle.app_laws.specs.Renaming.{ListedTasksAreNamed, NamesChangeNoRun};
 
 use crate::App;
 use crate::serial_run::lower_laws;
+use task_order::{ascending_laws, put_all_laws};
 
 /// What holds of every execution of every operator, from any moment of it on.
 pub fn execution_laws<V>()
@@ -42,4 +44,21 @@ pub fn orderly_laws<A: App>()
 {
     lower_laws();
     lawful::<A>();
+}
+
+/// Paths give tasks their order and tell nothing else: under other paths in the same order an execution
+/// comes to the same.
+pub fn renaming_laws<A: App>()
+    ensures { (app : A) → NamesChangeNoRun (A.meaning app) }
+{
+    lawful::<A>();
+}
+
+/// Pending tasks, none of whose paths goes on from another's, may be numbered in the order of their
+/// paths: their descendants then stay in order too.
+pub fn naming_laws()
+    ensures { ListedTasksAreNamed }
+{
+    ascending_laws();
+    put_all_laws();
 }

@@ -5,12 +5,14 @@ mod app;
 mod child;
 mod family;
 mod laws;
+mod listing;
 mod serial_run;
 
 pub use app::{App, Effect, SetAnswer};
 pub use child::{Child, ChildList};
 pub use family::family_laws;
-pub use laws::{execution_laws, lawful, orderly_laws};
+pub use laws::{execution_laws, lawful, naming_laws, orderly_laws, renaming_laws};
+pub use listing::starts_by_path;
 pub use serial_run::{Finals, SerialFault, serial};
 
 #[cfg(test)]

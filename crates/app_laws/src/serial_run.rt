@@ -5,13 +5,16 @@ ghost use Rattle.cell_store.specs.Values.{homes, values_of};
 ghost use Rattle.app_laws.specs.Applications.{AreFitStarts, IsFitTask, handed, starts_of};
 ghost use Rattle.app_laws.specs.Execution.{start_of, children_from, first_from};
 ghost use Rattle.app_laws.specs.Lower.{LowerLaws};
+ghost use Rattle.app_laws.specs.Order.{AreApart, Pairwise};
+ghost use Rattle.app_laws.specs.Renumbering.{AreRenumbered, MayBeRenumbered};
 ghost use Rattle.app_laws.specs.Serial.{IsRun, IsFault};
 
-use crate::{App, Child, ChildList, Effect, SetAnswer, lawful};
+use crate::{App, Child, ChildList, Effect, SetAnswer, lawful, naming_laws, starts_by_path};
 use cell_store::{Held, Store, value_laws};
 use kdg_text::{NoRoom, Steps, Text};
 use std::alloc::Global;
 use std::marker::Brand;
+use std::mem;
 use std::sync::ledger::{Blank, Ledger};
 use task_order::{Body, Key, Path, Start, StartList, Task, TaskList, key_order, put_in_laws};
 
@@ -71,7 +74,8 @@ pub fn serial<A: App>(
     counted_run::<A, Brand>(alloc, app, cells, first, budget, Blank::new(1))
 }
 
-/// The run, with a count of the sets that it asks for.
+/// The run, with a count of the sets that it asks for. Now and then the pending tasks get short paths,
+/// since long ones take time to compare.
 fn counted_run<A: App, L: Ledger>(
     alloc: Global,
     app: &A,
@@ -101,6 +105,7 @@ fn counted_run<A: App, L: Ledger>(
     let mut store = store_of(alloc, app, cells)?;
     let mut text = Text::new(alloc);
     let mut count = 0u64;
+    let mut since = 0u64;
     while let Some(task) = pending.take_first() {
         let (children, written) = act(app, &task, &mut store, &mut steps)?;
         let made = children.items();
@@ -108,8 +113,61 @@ fn counted_run<A: App, L: Ledger>(
         put_children(&mut pending, &task.key, made)?;
         append(&mut text, &written)?;
         count += 1;
+        since = shortened(alloc, &mut pending, since + 1)?;
     }
     Ok(Finals { store, text, count })
+}
+
+/// Gives the pending tasks short paths where that is due, when so many tasks ran since it was last asked
+/// for the earliest one's path. Answers how many that are then.
+#[inline(always)]
+fn shortened(alloc: Global, pending: &mut TaskList, since: u64) -> Result<u64, NoRoom>
+    requires few { length pending.old < 2 ^ 32 }
+    requires apart { Pairwise (λ task other. AreApart task.key.path other.key.path) pending.old }
+    ensures pending { OnOk result (MayBeRenumbered pending.old pending.new) }
+    ensures since { IfOk result (λ left. left ≤ since) }
+{
+    if !are_enough(since, pending) {
+        return Ok(since);
+    }
+    if !begins_long(pending) {
+        return Ok(0);
+    }
+    let tasks = mem::replace(pending, TaskList::new(alloc));
+    *pending = renamed(alloc, tasks)?;
+    Ok(0)
+}
+
+/// Whether so many tasks are enough that new paths for the pending ones take little beside them.
+#[inline(always)]
+fn are_enough(tasks: u64, pending: &TaskList) -> bool {
+    tasks / 32 >= 4 + pending.len() as u64
+}
+
+/// Whether the earliest task's path is kept as eight bytes or more.
+#[inline(never)]
+fn begins_long(pending: &TaskList) -> bool {
+    match pending.first() {
+        Some(task) => task.key.path.beginning() % 256 != 0,
+        None => false,
+    }
+}
+
+/// The same tasks with paths of one number: they are numbered in the order of their paths, as first
+/// tasks are. So they keep their order, and their children theirs among them.
+#[inline(never)]
+fn renamed(alloc: Global, mut pending: TaskList) -> Result<TaskList, NoRoom>
+    requires few { length pending < 2 ^ 32 }
+    requires apart { Pairwise (λ task other. AreApart task.key.path other.key.path) pending }
+    ensures { IfOk result (AreRenumbered pending) }
+{
+    naming_laws();
+    let mut tasks = Vec::with_capacity(alloc, pending.len())?;
+    while let Some(task) = pending.take_first() {
+        tasks.push(task)?;
+    }
+    let first = starts_by_path(tasks)?;
+    first_tasks(alloc, &first)
 }
 
 /// Appends what a task wrote, which mostly is nothing.

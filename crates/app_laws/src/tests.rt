@@ -2,7 +2,7 @@ use super::*;
 use rw_sets::Access::{Read, Write};
 use rw_sets::RwSet;
 use std::test::Fail;
-use task_order::Body;
+use task_order::{Body, Key, Path, Start, Task};
 
 #[test]
 fn children_are_listed_in_order(rt: HostRuntime) -> Result<(), Fail> {
@@ -31,4 +31,30 @@ fn children_are_listed_in_order(rt: HostRuntime) -> Result<(), Fail> {
 fn laws_hold_of_executions() {
     execution_laws::<u8>();
     family_laws();
+}
+
+#[test]
+fn starts_come_by_their_paths(rt: HostRuntime) -> Result<(), Fail> {
+    let body = Body {
+        kind: 2,
+        at: 6,
+        arg: 3,
+    };
+    let early = Key {
+        prio: 4,
+        path: Path::root(rt.alloc(), 1)?,
+    };
+    let late = Key {
+        prio: 9,
+        path: Path::root(rt.alloc(), 0)?.child(3)?,
+    };
+    let mut tasks = Vec::new(rt.alloc());
+    tasks.push(Task { key: early, body })?;
+    tasks.push(Task { key: late, body })?;
+    let first = starts_by_path(tasks)?;
+    assert_eq!(rt;
+        first.as_slice(),
+        [Start { prio: 9, body }, Start { prio: 4, body }].as_slice()
+    );
+    Ok(())
 }

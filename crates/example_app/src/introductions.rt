@@ -122,6 +122,8 @@ impl App for Introductions {
 
     ghost acts_are_local = { lawful.acts_are_local };
 
+    ghost acts_ignore_paths = { lawful.acts_ignore_paths };
+
     ghost children_come_no_earlier = { lawful.children_come_no_earlier };
 
     ghost sets_stay_within = { lawful.sets_stay_within };
@@ -133,6 +135,8 @@ impl App for Introductions {
     ghost safe_alone = { lawful.safe_alone };
 
     ghost safe_tasks_stay_safe = { lawful.safe_tasks_stay_safe };
+
+    ghost safety_ignores_paths = { lawful.safety_ignores_paths };
 }
 
 /// The set of a meeting of these hosts, whose contacts are these guests.

@@ -17,7 +17,7 @@ use Rattle.cell_store.specs.declared.cell.Cell.TheVariants.{Home, Out}
 use Rattle.cell_store.specs.Home.{IsHome}
 use Rattle.cell_store.specs.Cells.{cell_at}
 use Rattle.cell_store.specs.Values.{AgreesWith}
-use Rattle.app_laws.specs.Applications.{AgreeOn, CellsAreCounted, SetsAreInRange, IsFitOutcome, ActsAreFit, SetsAreLocal, IsSameOutcome, ActsAreLocal, ChildrenComeNoEarlier, SetsStayWithin, IsTrueAnswer, WalksAreTrue, FixedSetsAreKnown, IsSafeAlone, SafeTasksStaySafe, IsLawful, tasks_before}
+use Rattle.app_laws.specs.Applications.{AgreeOn, CellsAreCounted, SetsAreInRange, IsFitOutcome, ActsAreFit, SetsAreLocal, IsSameOutcome, ActsAreLocal, ActsIgnorePaths, ChildrenComeNoEarlier, SetsStayWithin, IsTrueAnswer, WalksAreTrue, FixedSetsAreKnown, IsSafeAlone, SafeTasksStaySafe, SafetyIgnoresPaths, IsLawful, tasks_before}
 use Rattle.app_laws.specs.Execution.{children_from}
 use Rattle.mtx_reader.specs.Ascending.{IsIn, numbers_from, all_in, in_map, from_map, in_filter, from_filter, ascending_filter, in_numbers, from_numbers, ascending_numbers}
 use Rattle.gf2_eliminate.specs.declared.line.Line2.{Line2}
@@ -370,6 +370,9 @@ module _ (rows columns : ℕ) where
     determined = λ task cells others fit also right agree. determined task.body.at cells others fit also right.at agree;
   }
 
+  pub acts_ignore_paths : ActsIgnorePaths (elimination rows columns)
+  acts_ignore_paths task path cells fit right = refl
+
   pub children_come_no_earlier : ChildrenComeNoEarlier (elimination rows columns)
   children_come_no_earlier task cells fit right =
       subst (AllByRecursion (λ child. task.key.prio ≤ child.prio)) (sym (outcome_childless task.body.at cells fit right.at (pivot_of rows columns task.body.at cells))) tt
@@ -489,6 +492,9 @@ module _ (rows columns : ℕ) where
       childless None = tt
       childless (Some pivot) = tt
 
+  pub safety_ignores_paths : SafetyIgnoresPaths (elimination rows columns)
+  safety_ignores_paths task earlier name right fit-others = refl
+
   pub is_lawful : IsLawful (elimination rows columns)
   is_lawful = record {
     cells_are_counted = cells_are_counted;
@@ -496,10 +502,12 @@ module _ (rows columns : ℕ) where
     acts_are_fit = acts_are_fit;
     sets_are_local = sets_are_local;
     acts_are_local = acts_are_local;
+    acts_ignore_paths = acts_ignore_paths;
     children_come_no_earlier = children_come_no_earlier;
     sets_stay_within = sets_stay_within;
     walks_are_true = walks_are_true;
     fixed_sets_are_known = fixed_sets_are_known;
     safe_alone = safe_alone;
     safe_tasks_stay_safe = safe_tasks_stay_safe;
+    safety_ignores_paths = safety_ignores_paths;
   }

@@ -156,6 +156,8 @@ impl App for Matrix {
 
     ghost acts_are_local = { λ pattern. lawful.acts_are_local pattern.rows pattern.cols };
 
+    ghost acts_ignore_paths = { λ pattern. lawful.acts_ignore_paths pattern.rows pattern.cols };
+
     ghost children_come_no_earlier = { λ pattern. lawful.children_come_no_earlier pattern.rows pattern.cols };
 
     ghost sets_stay_within = { λ pattern. lawful.sets_stay_within pattern.rows pattern.cols };
@@ -167,4 +169,6 @@ impl App for Matrix {
     ghost safe_alone = { λ pattern. lawful.safe_alone pattern.rows pattern.cols };
 
     ghost safe_tasks_stay_safe = { λ pattern. lawful.safe_tasks_stay_safe pattern.rows pattern.cols };
+
+    ghost safety_ignores_paths = { λ pattern. lawful.safety_ignores_paths pattern.rows pattern.cols };
 }

@@ -8,7 +8,7 @@ use Rattle.std.proofs.Common.{arith, inl, inr, sym, ap, ◌∙◌, subst}
 use Rattle.std.proofs.lemmas.Bool.{cases_eq, eqb-true, false≢true, and_parts, and_from}
 use Rattle.std.proofs.lemmas.Bool.Decides.{nat_tests}
 use Rattle.std.proofs.lemmas.List.Elements.{All-get_or, recursion_from_All}
-use Rattle.std.proofs.lemmas.List.Folds.{list_all-append}
+use Rattle.std.proofs.lemmas.List.Folds.{list_all-append, list_all-map}
 use Rattle.std.proofs.lemmas.Option.{slice_get-get_or, same_Some}
 use Rattle.bench_reader.specs.Decks.{IsSoundlyWired, IsWired}
 use Rattle.bench_reader.specs.declared.deck.Form.{Form}
@@ -23,8 +23,9 @@ use Rattle.rw_sets.specs.AccessLaws.{access_first, access_other, ascending_cons,
 use Rattle.rw_sets.specs.LookupLaws.{merges_hold_both}
 use Rattle.rw_sets.specs.MergeLaws.{ascending_merged}
 use Rattle.rw_sets.specs.PairLaws.{pairs_are_named, pairs_are_written}
-use Rattle.app_laws.specs.Applications.{AgreeOn, IsFitTask as IsTaskOf, IsInRange, IsWholeLines, set_in, tasks_before, CellsAreCounted, SetsAreInRange, ActsAreFit, SetsAreLocal, IsSameOutcome, ActsAreLocal, ChildrenComeNoEarlier, SetsStayWithin, WalksAreTrue, FixedSetsAreKnown, IsSafeAlone, SafeTasksStaySafe}
+use Rattle.app_laws.specs.Applications.{AgreeOn, IsFitTask as IsTaskOf, IsInRange, IsWholeLines, set_in, tasks_before, CellsAreCounted, SetsAreInRange, ActsAreFit, SetsAreLocal, IsSameOutcome, ActsAreLocal, ActsIgnorePaths, ChildrenComeNoEarlier, SetsStayWithin, WalksAreTrue, FixedSetsAreKnown, IsSafeAlone, SafeTasksStaySafe, SafetyIgnoresPaths}
 use Rattle.app_laws.specs.Execution.{Outcome, children_from}
+use Rattle.app_laws.specs.Names.{renamed}
 use Rattle.logic_sim.specs.Circuit.{IsFitCells, IsFitTask}
 use Rattle.logic_sim.specs.Event.{Simulation, change_at, change_line, change_of, computed_by, eval_at, eval_of, event_of, nothing_done, plan_in, plan_of, plan_place, time_of, value_in, value_place}
 use Rattle.logic_sim.specs.Gate.{gate_value}
@@ -274,6 +275,9 @@ module _ (c : Simulation) where
     determined = λ task cells others fit fit-others fit-task agree. act_of-alike task cells others fit fit-others fit-task agree;
   }
 
+  pub acts_ignore_paths : ActsIgnorePaths (simulation c)
+  acts_ignore_paths task path cells fit fit-task = refl
+
   pub children_come_no_earlier : ChildrenComeNoEarlier (simulation c)
   children_come_no_earlier task cells fit fit-task = act_of-not_earlier c task cells fit fit-task
 
@@ -328,3 +332,6 @@ module _ (c : Simulation) where
 
       later : AllLater task.key.prio ((simulation c).act acted cells).children
       later = subst (λ prio. AllLater prio ((simulation c).act acted cells).children) (eqb-true acted.key.prio task.key.prio acted-parts.0) (act_of-later acted cells acted-fit)
+
+  pub safety_ignores_paths : SafetyIgnoresPaths (simulation c)
+  safety_ignores_paths task earlier name fit-task fit-others = list_all-map (λ other. other.key.prio == task.key.prio) (renamed name) earlier

@@ -12,7 +12,7 @@ use Rattle.task_order.specs.declared.task.Body.{Body}
 use Rattle.task_order.specs.declared.task.Task.{Task}
 use Rattle.rw_sets.specs.Accesses.{Conflicts}
 use Rattle.rw_sets.specs.LookupLaws.{merges_hold_both}
-use Rattle.app_laws.specs.Applications.{AgreeOn, set_in, CellsAreCounted, SetsAreInRange, ActsAreFit, SetsAreLocal, IsSameOutcome, ActsAreLocal, ChildrenComeNoEarlier, SetsStayWithin, WalksAreTrue, FixedSetsAreKnown, IsSafeAlone, SafeTasksStaySafe}
+use Rattle.app_laws.specs.Applications.{AgreeOn, set_in, CellsAreCounted, SetsAreInRange, ActsAreFit, SetsAreLocal, IsSameOutcome, ActsAreLocal, ActsIgnorePaths, ChildrenComeNoEarlier, SetsStayWithin, WalksAreTrue, FixedSetsAreKnown, IsSafeAlone, SafeTasksStaySafe, SafetyIgnoresPaths}
 use Rattle.app_laws.specs.Execution.{children_from}
 use Rattle.spring_mesh.specs.declared.file.MeshFile.{MeshFile}
 use Rattle.spring_mesh.specs.declared.file.MeshNode.{MeshNode}
@@ -166,6 +166,9 @@ module _ (file : MeshFile) where
         (same_node cells others spring.b (omega (arith, fit.count, is.b)) (omega (arith, fit-others.count, is.b)) (agree spring.b (second-named spring)));
   }
 
+  pub acts_ignore_paths : ActsIgnorePaths (mesh_steps file)
+  acts_ignore_paths task path cells fit step = refl
+
   pub children_come_no_earlier : ChildrenComeNoEarlier (mesh_steps file)
   children_come_no_earlier task cells fit step =
       let spring = spring_at file task.body.at in
@@ -199,3 +202,6 @@ module _ (file : MeshFile) where
     apart = all_kept _ _ _ (next_apart acted task ((mesh_steps file).act acted cells).cells apart);
     safe = refl;
   }
+
+  pub safety_ignores_paths : SafetyIgnoresPaths (mesh_steps file)
+  safety_ignores_paths task earlier name step fit-others = refl

@@ -237,6 +237,8 @@ impl App for Mesh {
 
     ghost acts_are_local = { lawful.acts_are_local };
 
+    ghost acts_ignore_paths = { lawful.acts_ignore_paths };
+
     ghost children_come_no_earlier = { lawful.children_come_no_earlier };
 
     ghost sets_stay_within = { lawful.sets_stay_within };
@@ -248,6 +250,8 @@ impl App for Mesh {
     ghost safe_alone = { lawful.safe_alone };
 
     ghost safe_tasks_stay_safe = { lawful.safe_tasks_stay_safe };
+
+    ghost safety_ignores_paths = { lawful.safety_ignores_paths };
 }
 
 /// Both ends of a spring, written. The set stands in place.

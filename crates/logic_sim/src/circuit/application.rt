@@ -84,6 +84,8 @@ impl App for Circuit {
 
     ghost acts_are_local = { lawful.acts_are_local };
 
+    ghost acts_ignore_paths = { lawful.acts_ignore_paths };
+
     ghost children_come_no_earlier = { lawful.children_come_no_earlier };
 
     ghost sets_stay_within = { lawful.sets_stay_within };
@@ -95,6 +97,8 @@ impl App for Circuit {
     ghost safe_alone = { lawful.safe_alone };
 
     ghost safe_tasks_stay_safe = { lawful.safe_tasks_stay_safe };
+
+    ghost safety_ignores_paths = { lawful.safety_ignores_paths };
 }
 
 impl Circuit {

@@ -1,8 +1,6 @@
-use Rattle.std.proofs.Common.{◌≡◌, ◌≤◌, ℕ, List, [], ◌++◌, ◌+◌, Option, Some, None, length, refl, sym, ap, ◌∙◌, subst, arith}
-use Rattle.std.specs.Prelude.{IfNone}
+use Rattle.std.proofs.Common.{◌≡◌, ◌≤◌, ℕ, List, [], ◌++◌, ◌+◌, length, refl, sym, ap, ◌∙◌, subst, arith}
 use Rattle.std.specs.List.{AllByRecursion}
 use Rattle.std.proofs.lemmas.Result.{err_from_is_err_and}
-use Rattle.task_order.specs.declared.task.Task.{Task}
 use Rattle.task_order.specs.declared.start.Start.{Start}
 use Rattle.task_order.specs.TaskList.{IsNewKey, put_all}
 use Rattle.output_log.specs.Entries.{joined_texts}
@@ -10,8 +8,10 @@ use Rattle.cell_store.specs.Values.{homes, values_of}
 use Rattle.app_laws.specs.Applications.{AreFitStarts, IsLawful, starts_of}
 use Rattle.app_laws.specs.Execution.{children_from, first_from, start_of}
 use Rattle.app_laws.specs.Lower.{LowerLaws}
-use Rattle.app_laws.proofs.Reached.{IsReached, reached_at_start, reached_next, text_next, count_below, over_budget, over_at_start, ends_here, counted}
-use Rattle.app_laws.proofs.Running.{IsRunning, keeps_fit, not_earlier, cells_fit, task_fit, none_earlier, children_new, starts_of_handed, length-handed, handed_not_earlier}
+use Rattle.app_laws.proofs.Reached.{IsReached, reached_at_start, over_at_start, counted}
+use Rattle.app_laws.proofs.Running.{keeps_fit, not_earlier, starts_of_handed, length-handed, handed_not_earlier}
+use Rattle.app_laws.proofs.Stepping.{at_none, IsRunning, cells_fit, task_fit, none_earlier, children_new, ends_under, few_pending, over_next, stepped, still_below, text_written, under_at_start}
+use Rattle.app_laws.proofs.UnderNames.{still_under_names}
 use Rattle.app_laws.proofs.Steps.{after_none}
 use Rattle.app_laws.proofs.serial_run.counted_run.Given.{Over}
 use Rattle.app_laws.proofs.serial_run.counted_run.Goals as goal
@@ -22,13 +22,10 @@ running g lower app lawful cells first fit-cells fit-first = record {
   lower = lower;
   keeps = keeps_fit (g.A.App.meaning app) lawful;
   not_earlier = not_earlier (g.A.App.meaning app) lawful;
+  ignores_paths = lawful.acts_ignore_paths;
   fit_cells = fit-cells;
   fit_first = fit-first;
 }
-
-at_none : (o : Option Task) (P : Type 0) → ((x : Task) → o ≡ Some x → ⊥) → IfNone o P → P
-at_none None P never here = here
-at_none (Some x) P never here = absurd (never x refl)
 
 pub returns-in_err-created-clause-fault : goal.returns-in_err-created-clause-fault
 returns-in_err-created-clause-fault g c =
@@ -40,16 +37,18 @@ pub loop-task-init : goal.loop-task-init
 loop-task-init g c =
     let values : values_of c.in_ok-store.store ≡ c.args.cells.items = ap values_of c.in_ok-store.ensures ∙ c.value_laws.ensures.values.values_of_homes c.args.cells.items in
     record {
-      reached = subst (λ cells. IsReached (g.A.App.meaning c.args.app.now).act c.args.budget (start_of c.args.cells.items c.args.first) cells c.in_ok-pending.pending 0 c.in_ok-created.created) (sym values)
-          (reached_at_start _ _ _ _ _ _ (c.in_ok-pending.ensures.tasks ∙ ap (λ first. put_all (first_from 0 first) []) c.items-starts.ensures)
-          (c.in_ok-created.ensures.ok.0 ∙ ap length c.items-starts.ensures) (rw c.in_ok-created.ensures.ok.0 c.in_ok-created.ensures.ok.1));
+      reached = subst (λ cells. IsReached (g.A.App.meaning c.args.app.now).act c.args.budget (start_of c.args.cells.items c.args.first) cells 0 c.in_ok-created.created) (sym values)
+          (reached_at_start _ _ _ _ _ (c.in_ok-created.ensures.ok.0 ∙ ap length c.items-starts.ensures) (rw c.in_ok-created.ensures.ok.0 c.in_ok-created.ensures.ok.1));
+      under = under_at_start c.lower_laws.ensures (g.A.App.meaning c.args.app.now).act c.args.cells.items c.args.first c.in_ok-pending.pending
+          (c.in_ok-pending.ensures.tasks ∙ ap (λ first. put_all (first_from 0 first) []) c.items-starts.ensures);
       home = c.in_ok-store.ensures ∙ ap homes (sym values);
       text = c.new-text.ensures ∙ sym (ap (λ e. joined_texts e.log) (after_none _ _));
+      since = omega arith;
     }
 
 pub act-requires-clause-fit : goal.act-requires-clause-fit
 act-requires-clause-fit g c κs within =
-    task_fit (running g c.lower_laws.ensures c.args.app.now (c.lawful.ensures c.args.app.now) c.args.cells.items c.args.first c.requires.fit_cells c.requires.fit_first) c.loop-task.invariant.reached c.in-Some.ensures.first
+    task_fit (running g c.lower_laws.ensures c.args.app.now (c.lawful.ensures c.args.app.now) c.args.cells.items c.args.first c.requires.fit_cells c.requires.fit_first) c.loop-task.invariant.reached c.loop-task.invariant.under c.in-Some.ensures.first
 
 pub act-requires-clause-cells : goal.act-requires-clause-cells
 act-requires-clause-cells g c κs within =
@@ -66,7 +65,7 @@ returns-in_err-created-2-clause-fault g c =
     let app = g.A.App.meaning c.args.app.now in
     let outcome = app.act c.in-Some.task (values_of c.loop-task.store) in
     rw (e.1, e.2, over.0)
-    (over_budget c.loop-task.invariant.reached refl c.in-Some.task c.take_first.new.self _ c.in-Some.ensures.first
+    (over_next (running g c.lower_laws.ensures c.args.app.now (c.lawful.ensures c.args.app.now) c.args.cells.items c.args.first c.requires.fit_cells c.requires.fit_first) c.loop-task.invariant.reached c.loop-task.invariant.under c.in-Some.ensures.first _
     (ap (λ (n : ℕ). c.loop-task.created + n) (ap length (c.items-made.ensures.all ∙ c.in_ok-children.ensures.children) ∙ length-handed app outcome.cells outcome.children)) over.1)
 
 pub put_children-requires-clause-not_earlier : goal.put_children-requires-clause-not_earlier
@@ -75,7 +74,7 @@ put_children-requires-clause-not_earlier g c =
     let outcome = app.act c.in-Some.task (values_of c.loop-task.store) in
     subst (λ made. AllByRecursion (λ child. c.in-Some.task.key.prio ≤ child.prio) made) (sym (c.items-made.ensures.all ∙ c.in_ok-children.ensures.children))
     (handed_not_earlier app outcome.cells c.in-Some.task.key.prio outcome.children
-    (none_earlier (running g c.lower_laws.ensures c.args.app.now (c.lawful.ensures c.args.app.now) c.args.cells.items c.args.first c.requires.fit_cells c.requires.fit_first) c.loop-task.invariant.reached c.in-Some.ensures.first))
+    (none_earlier (running g c.lower_laws.ensures c.args.app.now (c.lawful.ensures c.args.app.now) c.args.cells.items c.args.first c.requires.fit_cells c.requires.fit_first) c.loop-task.invariant.reached c.loop-task.invariant.under c.in-Some.ensures.first))
 
 pub put_children-requires-clause-new : goal.put_children-requires-clause-new
 put_children-requires-clause-new g c =
@@ -83,15 +82,47 @@ put_children-requires-clause-new g c =
     let outcome = app.act c.in-Some.task (values_of c.loop-task.store) in
     subst (λ starts. AllByRecursion (λ task. IsNewKey task.key c.take_first.new.self) (children_from c.in-Some.task.key 0 starts))
     (sym (ap starts_of (c.items-made.ensures.all ∙ c.in_ok-children.ensures.children) ∙ starts_of_handed app outcome.cells outcome.children))
-    (children_new (running g c.lower_laws.ensures c.args.app.now (c.lawful.ensures c.args.app.now) c.args.cells.items c.args.first c.requires.fit_cells c.requires.fit_first) c.loop-task.invariant.reached c.in-Some.ensures.first)
+    (children_new (running g c.lower_laws.ensures c.args.app.now (c.lawful.ensures c.args.app.now) c.args.cells.items c.args.first c.requires.fit_cells c.requires.fit_first) c.loop-task.invariant.reached c.loop-task.invariant.under c.in-Some.ensures.first)
 
 pub overflow_add-count : goal.overflow_add-count
 overflow_add-count g c =
-    omega (arith, count_below c.loop-task.invariant.reached refl c.in-Some.task c.take_first.new.self c.in-Some.ensures.first, c.requires.budget)
+    omega (arith, still_below (running g c.lower_laws.ensures c.args.app.now (c.lawful.ensures c.args.app.now) c.args.cells.items c.args.first c.requires.fit_cells c.requires.fit_first) c.loop-task.invariant.reached c.loop-task.invariant.under c.in-Some.ensures.first, c.requires.budget)
 
 pub loop-task-smaller : goal.loop-task-smaller
 loop-task-smaller g c =
-    omega (arith, count_below c.loop-task.invariant.reached refl c.in-Some.task c.take_first.new.self c.in-Some.ensures.first)
+    omega (arith, still_below (running g c.lower_laws.ensures c.args.app.now (c.lawful.ensures c.args.app.now) c.args.cells.items c.args.first c.requires.fit_cells c.requires.fit_first) c.loop-task.invariant.reached c.loop-task.invariant.under c.in-Some.ensures.first)
+
+pub overflow_add-since : goal.overflow_add-since
+overflow_add-since g c =
+    omega (arith, c.loop-task.invariant.since, still_below (running g c.lower_laws.ensures c.args.app.now (c.lawful.ensures c.args.app.now) c.args.cells.items c.args.first c.requires.fit_cells c.requires.fit_first) c.loop-task.invariant.reached c.loop-task.invariant.under c.in-Some.ensures.first, c.requires.budget)
+
+pub shortened-requires-clause-few : goal.shortened-requires-clause-few
+shortened-requires-clause-few g c =
+    let app = g.A.App.meaning c.args.app.now in
+    let outcome = app.act c.in-Some.task (values_of c.loop-task.store) in
+    let values : values_of c.act.new.store ≡ outcome.cells = ap values_of c.in_ok-children.ensures.store ∙ c.value_laws.ensures.values.values_of_homes outcome.cells in
+    let children = c.items-made.ensures.all ∙ c.in_ok-children.ensures.children in
+    let next =
+    stepped (running g c.lower_laws.ensures c.args.app.now (c.lawful.ensures c.args.app.now) c.args.cells.items c.args.first c.requires.fit_cells c.requires.fit_first) c.loop-task.invariant.reached c.loop-task.invariant.under c.in-Some.ensures.first
+    (values_of c.act.new.store) c.put_children.new.pending c.in_ok-created-2.created values
+    (c.in_ok-put_children.ensures.put ∙ ap (λ starts. put_all (children_from c.in-Some.task.key 0 starts) c.take_first.new.self) (ap starts_of children ∙ starts_of_handed app outcome.cells outcome.children))
+    (c.in_ok-created-2.ensures.ok.0 ∙ ap (λ (n : ℕ). c.loop-task.created + n) (ap length children ∙ length-handed app outcome.cells outcome.children))
+    (rw c.in_ok-created-2.ensures.ok.0 c.in_ok-created-2.ensures.ok.1) in
+    omega (arith, few_pending (running g c.lower_laws.ensures c.args.app.now (c.lawful.ensures c.args.app.now) c.args.cells.items c.args.first c.requires.fit_cells c.requires.fit_first) next.0 next.1, c.requires.budget)
+
+pub shortened-requires-clause-apart : goal.shortened-requires-clause-apart
+shortened-requires-clause-apart g c =
+    let app = g.A.App.meaning c.args.app.now in
+    let outcome = app.act c.in-Some.task (values_of c.loop-task.store) in
+    let values : values_of c.act.new.store ≡ outcome.cells = ap values_of c.in_ok-children.ensures.store ∙ c.value_laws.ensures.values.values_of_homes outcome.cells in
+    let children = c.items-made.ensures.all ∙ c.in_ok-children.ensures.children in
+    let next =
+    stepped (running g c.lower_laws.ensures c.args.app.now (c.lawful.ensures c.args.app.now) c.args.cells.items c.args.first c.requires.fit_cells c.requires.fit_first) c.loop-task.invariant.reached c.loop-task.invariant.under c.in-Some.ensures.first
+    (values_of c.act.new.store) c.put_children.new.pending c.in_ok-created-2.created values
+    (c.in_ok-put_children.ensures.put ∙ ap (λ starts. put_all (children_from c.in-Some.task.key 0 starts) c.take_first.new.self) (ap starts_of children ∙ starts_of_handed app outcome.cells outcome.children))
+    (c.in_ok-created-2.ensures.ok.0 ∙ ap (λ (n : ℕ). c.loop-task.created + n) (ap length children ∙ length-handed app outcome.cells outcome.children))
+    (rw c.in_ok-created-2.ensures.ok.0 c.in_ok-created-2.ensures.ok.1) in
+    next.1.spread.apart
 
 pub loop-task-preserved : goal.loop-task-preserved
 loop-task-preserved g c =
@@ -99,24 +130,28 @@ loop-task-preserved g c =
     let outcome = app.act c.in-Some.task (values_of c.loop-task.store) in
     let values : values_of c.act.new.store ≡ outcome.cells = ap values_of c.in_ok-children.ensures.store ∙ c.value_laws.ensures.values.values_of_homes outcome.cells in
     let children = c.items-made.ensures.all ∙ c.in_ok-children.ensures.children in
+    let next =
+    stepped (running g c.lower_laws.ensures c.args.app.now (c.lawful.ensures c.args.app.now) c.args.cells.items c.args.first c.requires.fit_cells c.requires.fit_first) c.loop-task.invariant.reached c.loop-task.invariant.under c.in-Some.ensures.first
+    (values_of c.act.new.store) c.put_children.new.pending c.in_ok-created-2.created values
+    (c.in_ok-put_children.ensures.put ∙ ap (λ starts. put_all (children_from c.in-Some.task.key 0 starts) c.take_first.new.self) (ap starts_of children ∙ starts_of_handed app outcome.cells outcome.children))
+    (c.in_ok-created-2.ensures.ok.0 ∙ ap (λ (n : ℕ). c.loop-task.created + n) (ap length children ∙ length-handed app outcome.cells outcome.children))
+    (rw c.in_ok-created-2.ensures.ok.0 c.in_ok-created-2.ensures.ok.1) in
     record {
-      reached = reached_next c.loop-task.invariant.reached c.in-Some.task c.take_first.new.self _ _ _ c.in-Some.ensures.first
-          values
-          (c.in_ok-put_children.ensures.put ∙ ap (λ starts. put_all (children_from c.in-Some.task.key 0 starts) c.take_first.new.self) (ap starts_of children ∙ starts_of_handed app outcome.cells outcome.children))
-          (c.in_ok-created-2.ensures.ok.0 ∙ ap (λ (n : ℕ). c.loop-task.created + n) (ap length children ∙ length-handed app outcome.cells outcome.children))
-          (rw c.in_ok-created-2.ensures.ok.0 c.in_ok-created-2.ensures.ok.1);
+      reached = next.0;
+      under = still_under_names c.lower_laws.ensures _ c.put_children.new.pending c.shortened.new.pending next.1 c.in_ok-since.ensures.pending;
       home = c.in_ok-children.ensures.store ∙ ap homes (sym values);
       text =
           c.in_ok-append.ensures
           ∙ (λ i. c.loop-task.invariant.text i ++ c.in_ok-children.ensures.text i)
-          ∙ sym (text_next c.loop-task.invariant.reached c.in-Some.task c.take_first.new.self c.in-Some.ensures.first);
+          ∙ sym (text_written (running g c.lower_laws.ensures c.args.app.now (c.lawful.ensures c.args.app.now) c.args.cells.items c.args.first c.requires.fit_cells c.requires.fit_first) c.loop-task.invariant.reached c.loop-task.invariant.under c.in-Some.ensures.first);
+      since = omega (arith, c.in_ok-since.ensures.since, c.loop-task.invariant.since);
     }
 
 pub returns-clause-run : goal.returns-clause-run
 returns-clause-run g c =
     record {
       end = _;
-      ends = ends_here c.loop-task.invariant.reached refl (at_none c.take_first.result (c.loop-task.pending ≡ []) c.in_default.not-Some c.take_first.ensures.empty);
+      ends = ends_under (running g c.lower_laws.ensures c.args.app.now (c.lawful.ensures c.args.app.now) c.args.cells.items c.args.first c.requires.fit_cells c.requires.fit_first) c.loop-task.invariant.reached c.loop-task.invariant.under (at_none c.take_first.result (c.loop-task.pending ≡ []) c.in_default.not-Some c.take_first.ensures.empty);
       store = c.loop-task.invariant.home ∙ ap homes c.loop-task.invariant.reached.cells-are;
       text = c.loop-task.invariant.text;
       count = counted c.loop-task.invariant.reached refl;
