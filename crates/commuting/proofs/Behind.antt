@@ -15,11 +15,11 @@ use Rattle.commuting.specs.Clear.{IsUnblocked}
 use Rattle.commuting.specs.Commuting.{IsSameButLogsMore}
 use Rattle.commuting.specs.Basis.{Basis}
 use Rattle.commuting.proofs.Cells.{same_entry, aside_turned}
-use Rattle.commuting.proofs.Ends.{entry_behind, beside_rest}
+use Rattle.commuting.proofs.Ends.{entry_behind}
 use Rattle.commuting.proofs.Pending.{TasksApart, apart_turned, all-weaker, put_all-behind}
 use Rattle.commuting.proofs.Runs.{with_front, turn}
 use Rattle.commuting.proofs.StaysClear.{stays_unblocked}
-use Rattle.commuting.proofs.Turns.{IsBeside, AreIndependentBeside, aside_here, children_of, children_later, children_new, beside_turn}
+use Rattle.commuting.proofs.Turns.{IsBeside, AreIndependentBeside, aside_here, beside_rest, children_of, children_later, children_new, beside_turn}
 
 module _ {V : Type 0} (app : Application V) where
   -- a task, clear beside these others

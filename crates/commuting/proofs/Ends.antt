@@ -1,5 +1,5 @@
 -- What runs come to: their logs, and two ends beside one another.
-use Rattle.std.proofs.Common.{◌≡◌, ℕ, zero, suc, Bool, true, false, not, cond, List, [], ◌∷◌, ◌++◌, Option, Some, None, refl, sym, ap, subst, ◌∙◌}
+use Rattle.std.proofs.Common.{◌≡◌, ℕ, suc, Bool, true, false, not, cond, List, [], ◌∷◌, ◌++◌, Option, Some, None, refl, sym, ap, subst, ◌∙◌}
 use Rattle.std.specs.Prelude.{IfSome, ◌||◌}
 use Rattle.std.specs.List.{AllByRecursion, list_any}
 use Rattle.std.specs.Option.{option_map}
@@ -13,12 +13,12 @@ use Rattle.task_order.specs.TaskList.{put_in}
 use Rattle.output_log.specs.Entries.{Entry, entries_before, entries_from, with_entry}
 use Rattle.app_laws.specs.Applications.{Application}
 use Rattle.app_laws.specs.Execution.{Execution}
-use Rattle.commuting.specs.States.{State, state_of, execution_from, run_from, entry_of}
-use Rattle.commuting.specs.Clear.{IsReady}
+use Rattle.commuting.specs.States.{State, state_of, run_from, entry_of}
 use Rattle.commuting.specs.Commuting.{BothEnd, IsSameButLogsMore}
 use Rattle.commuting.specs.Basis.{Basis}
-use Rattle.commuting.proofs.Pending.{all-weaker, all-put_all, less_from_test}
-use Rattle.commuting.proofs.Runs.{none_before, with_front, turn, run_clear, run_refused, run_task}
+use Rattle.commuting.proofs.Pending.{all-put_all, less_from_test}
+use Rattle.commuting.proofs.Logs.{IsLogOf, later_handed, logs_of}
+use Rattle.commuting.proofs.Runs.{none_before, with_front, turn, run_task}
 use Rattle.commuting.proofs.Turns.{IsBeside, children_of, children_later, ready_turn}
 
 -- ---- bounds
@@ -87,65 +87,13 @@ both_mapped R S f g each (Some e) None both = absurd both
 both_mapped R S f g each (Some e) (Some other) both = each e other both
 
 module _ {V : Type 0} {app : Application V} (basis : Basis app) where
-  abbrev LogsLater : Key → Execution V → Type 0
-  LogsLater key e = AllByRecursion (λ entry. key_cmp key entry.0 ≡ Less) e.log
-
-  -- the first of the pending tasks, beside the others
-  pub beside_rest : (cells : List V) (task : Task) (others : List Task) → IsReady app (state_of cells (task ∷ others))
-      → IsBeside app task (state_of cells others)
-  beside_rest cells task others ready = record {
-    ready = record { cells = ready.cells; tasks = ready.tasks.1; ascending = ready.ascending.1; apart = ready.apart.1 };
-    fit = ready.tasks.0;
-    apart = ready.apart.0;
-  }
-
-  later_mapped : (key : Key) (entry : Entry) → key_cmp key entry.0 ≡ Less → (run : Option (Execution V)) → IfSome run (LogsLater key) → IfSome (option_map (with_front (entry ∷ [])) run) (LogsLater key)
-  later_mapped key entry later None logs = tt
-  later_mapped key entry later (Some e) logs = (later, logs)
-
-  -- a run logs tasks that are later than what all its pending tasks are later than
-  logs_later : (limit : ℕ) (bound : Bound) (cells : List V) (pending : List Task) (key : Key) → IsReady app (state_of cells pending)
-      → AllByRecursion (λ task. key_cmp key task.key ≡ Less) pending
-      → IfSome (run_from app.act limit bound (state_of cells pending)) (LogsLater key)
-  logs_later zero bound cells pending key ready later = by_case (none_before bound pending) refl
-    where
-      by_case : (clear : Bool) → none_before bound pending ≡ clear → IfSome (run_from app.act zero bound (state_of cells pending)) (LogsLater key)
-      by_case true clear = subst (λ run. IfSome run (LogsLater key)) (sym (run_clear basis.runs zero bound (execution_from (state_of cells pending)) clear)) tt
-      by_case false busy = subst (λ run. IfSome run (LogsLater key)) (sym (run_refused basis.runs bound (execution_from (state_of cells pending)) busy)) tt
-  logs_later (suc limit) bound cells [] key ready later =
-      subst (λ run. IfSome run (LogsLater key)) (sym (run_clear basis.runs (suc limit) bound (execution_from (state_of cells [])) refl)) tt
-  logs_later (suc limit) bound cells (task ∷ others) key ready later =
-      by_case (none_before bound (task ∷ others)) refl
-      (logs_later limit bound next.cells next.pending key (ready_turn basis task rest beside)
-      (all-put_all (λ child. key_cmp key child.key ≡ Less) (children_of app cells task) others
-      (all-weaker (λ child. key_cmp task.key child.key ≡ Less) (λ child. key_cmp key child.key ≡ Less)
-      (λ child after. key_cmp_total.trans key task.key child.key later.0 after)
-      (children_of app cells task) (children_later basis task cells ready.cells beside.fit))
-      later.1))
-    where
-      rest : State V
-      rest = state_of cells others
-
-      next : State V
-      next = turn app.act task rest
-
-      beside : IsBeside app task rest
-      beside = beside_rest cells task others ready
-
-      by_case : (clear : Bool) → none_before bound (task ∷ others) ≡ clear → IfSome (run_from app.act limit bound next) (LogsLater key)
-          → IfSome (run_from app.act (suc limit) bound (state_of cells (task ∷ others))) (LogsLater key)
-      by_case true clear logs = subst (λ run. IfSome run (LogsLater key)) (sym (run_clear basis.runs (suc limit) bound (execution_from (state_of cells (task ∷ others))) clear)) tt
-      by_case false busy logs =
-          subst (λ run. IfSome run (LogsLater key)) (sym (run_task basis.runs limit bound cells task others busy))
-          (later_mapped key (entry_of app.act cells task) later.0 (run_from app.act limit bound next) logs)
-
-  more_by_first : (cells : List V) (task : Task) (run : Option (Execution V)) → IfSome run (LogsLater task.key)
+  more_by_first : (cells : List V) (task : Task) (run : Option (Execution V)) → IfSome run (IsLogOf (λ key. key_cmp task.key key ≡ Less))
       → BothEnd (IsSameButLogsMore (entry_of app.act cells task ∷ [])) (option_map (with_front (entry_of app.act cells task ∷ [])) run) run
-  more_by_first cells task None later = tt
-  more_by_first cells task (Some e) later = record {
+  more_by_first cells task None logs = tt
+  more_by_first cells task (Some e) logs = record {
     cells-are = refl;
     pending-are = refl;
-    log-is = sym (entry_first task.key (app.act task cells).text e.log later);
+    log-is = sym (entry_first task.key (app.act task cells).text e.log logs.all);
   }
 
   -- the first pending task acts as it would have
@@ -160,5 +108,5 @@ module _ {V : Type 0} {app : Application V} (basis : Basis app) where
       subst (λ run. BothEnd (IsSameButLogsMore (entry_of app.act cells task ∷ [])) run (run_from app.act limit bound next))
       (sym (run_task basis.runs limit bound cells task others (none_before_first bound task others is)))
       (more_by_first cells task (run_from app.act limit bound next)
-      (logs_later limit bound next.cells next.pending task.key (ready_turn basis task rest beside)
+      (logs_of basis (λ key. key_cmp task.key key ≡ Less) (later_handed basis task.key) limit bound next.cells next.pending (ready_turn basis task rest beside)
       (all-put_all (λ child. key_cmp task.key child.key ≡ Less) (children_of app cells task) others (children_later basis task cells beside.ready.cells beside.fit) later)))

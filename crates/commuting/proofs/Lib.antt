@@ -3,8 +3,10 @@ pub mod Behind
 pub mod Cells
 pub mod Clearing
 pub mod Ends
+pub mod Logs
 pub mod Pairs
 pub mod Pending
+pub mod Renaming
 pub mod Rest
 pub mod Rounds
 pub mod Runs

@@ -1,27 +1,27 @@
 -- States that stand for what is left of an execution.
-use Rattle.std.proofs.Common.{◌≡◌, ◌≢◌, ℕ, suc, ◌+◌, ◌-◌, ◌<◌, false, List, [], ◌∷◌, length, Option, Some, None, refl, sym, ap, subst, ◌∙◌, arith}
+use Rattle.std.proofs.Common.{◌≡◌, ℕ, suc, ◌+◌, ◌-◌, ◌<◌, false, List, [], ◌∷◌, length, Option, Some, None, refl, sym, ap, subst, ◌∙◌, arith}
 use Rattle.std.specs.Prelude.{IfSome, IsSomeAnd}
 use Rattle.std.specs.List.{AllByRecursion, Contains}
 use Rattle.std.specs.List.Sorted.{IsStrictlySortedBy}
 use Rattle.std.specs.Option.{option_map}
 use Rattle.std.proofs.lemmas.List.Elements.{All-from_recursion, All-contains}
-use Rattle.std.proofs.lemmas.Bool.{true≢false}
 use Rattle.task_order.specs.declared.key.Key.{Key}
 use Rattle.task_order.specs.declared.start.Start.{Start}
 use Rattle.task_order.specs.declared.task.Task.{Task}
 use Rattle.task_order.specs.Key.{Bound, at_key, end, is_before}
 use Rattle.task_order.specs.TaskList.{without}
-use Rattle.output_log.specs.Entries.{Entry, IsInKeyOrder, IsNewEntry, entries_before, entries_from, with_entry}
+use Rattle.output_log.specs.Entries.{Entry, IsInKeyOrder, entries_before, entries_from, with_entry}
 use Rattle.app_laws.specs.Applications.{Application, IsFitTask, AreFitTasks, AreFitStarts}
 use Rattle.app_laws.specs.Execution.{Operator, Execution, after_steps, is_clear_before, steps_until, created_after, first_from}
 use Rattle.app_laws.specs.Order.{is_prefix}
 use Rattle.commuting.specs.Clear.{IsReady}
 use Rattle.commuting.specs.Commuting.{BothEnd}
 use Rattle.commuting.specs.Basis.{Basis}
-use Rattle.commuting.specs.Standing.{IsRestOf, HasSameRest, IsEndWith, StartsAreReady, StartsStandForThemselves, ClearTasksKeepStanding, EarlierEntriesAreFirst, NothingPendingIsTheEnd, TooManyTasksNeverEnd}
+use Rattle.commuting.specs.Standing.{AreUnlogged, IsRestOf, HasSameRest, IsEndWith, StartsAreReady, StartsStandForThemselves, ClearTasksKeepStanding, EarlierEntriesAreFirst, NothingPendingIsTheEnd, TooManyTasksNeverEnd}
 use Rattle.commuting.specs.States.{State, state_of, execution_from, run_from, after_task}
 use Rattle.commuting.proofs.Clearing.{beside_lacking}
-use Rattle.commuting.proofs.Pending.{TasksApart, all-weaker, all-joined, all-filter, all-append, all-swapped, all-put_all, prefix_of_itself, spread-put_all}
+use Rattle.commuting.proofs.Logs.{new_where_unlogged, unlogged_handed}
+use Rattle.commuting.proofs.Pending.{TasksApart, all-joined, all-filter, all-append, all-put_all, spread-put_all}
 use Rattle.commuting.proofs.Pairs.{stays_ready}
 use Rattle.commuting.proofs.Turns.{children_of}
 use Rattle.commuting.proofs.Runs.{run_clear}
@@ -43,24 +43,9 @@ after_none act e = refl
 module _ {V : Type 0} {app : Application V} (basis : Basis app) where
   -- ---- paths
 
-  -- the paths of the pending tasks are no prefix of those of the entries
-  abbrev AreUnlogged : List Entry → List Task → Type 0
-  AreUnlogged entries tasks = AllByRecursion (λ task. AllByRecursion (λ entry. is_prefix task.key.path entry.0.path ≡ false) entries) tasks
-
-  new_where_unlogged : (task : Task) (entries : List Entry) → AllByRecursion (λ entry. is_prefix task.key.path entry.0.path ≡ false) entries → IsNewEntry task.key entries
-  new_where_unlogged task =
-      all-weaker (λ entry. is_prefix task.key.path entry.0.path ≡ false) (λ entry. entry.0 ≢ task.key)
-      (λ entry none same. let path = prefix_of_itself task.key.path in absurd (true≢false (sym path ∙ ap (λ (key : Key). is_prefix task.key.path key.path) (sym same) ∙ none)))
-
   -- what holds of one more entry and of the others holds of all
   all-with_entry : (P : Entry → Type 0) (key : Key) (text : List ℕ) (entries : List Entry) → P (key, text) → AllByRecursion P entries → AllByRecursion P (with_entry key text entries)
   all-with_entry P key text entries one all = all-append P (entries_before (at_key key) entries) ((key, text) ∷ entries_from (at_key key) entries) (all-filter P _ entries all) (one, all-filter P _ entries all)
-
-  children_unlogged : (task : Task) (cells : List V) (entries : List Entry) → AllByRecursion (λ entry. is_prefix task.key.path entry.0.path ≡ false) entries → AreUnlogged entries (children_of app cells task)
-  children_unlogged task cells entries unlogged =
-      all-swapped (λ child entry. is_prefix child.key.path entry.0.path ≡ false) (children_of app cells task) entries
-      (all-weaker (λ entry. is_prefix task.key.path entry.0.path ≡ false) (λ entry. AllByRecursion (λ child. is_prefix child.key.path entry.0.path ≡ false) (children_of app cells task))
-      (λ entry. basis.lower.children_new task.key (app.act task cells).children entry.0.path) entries unlogged)
 
   -- where a task has acted, its path is logged
   still_unlogged : (now : State V) (task : Task) (entries : List Entry) → IsReady app now → Contains now.pending task → AreUnlogged entries now.pending
@@ -71,12 +56,13 @@ module _ {V : Type 0} {app : Application V} (basis : Basis app) where
       let After = λ (other : Task). AllByRecursion (λ (entry : Entry). is_prefix other.key.path entry.0.path ≡ false) (with_entry task.key text entries) in
       let more = λ (other : Task). all-with_entry (λ entry. is_prefix other.key.path entry.0.path ≡ false) task.key text entries in
       let here = All-contains Before now.pending task (All-from_recursion Before now.pending unlogged) pending in
+      let beside = beside_lacking basis now task ready pending in
       all-put_all After (children_of app now.cells task) (without task.key now.pending)
       (all-joined (λ child. is_prefix child.key.path task.key.path ≡ false) Before After more (children_of app now.cells task)
       (basis.lower.children_go_on task.key (app.act task now.cells).children)
-      (children_unlogged task now.cells entries here))
+      (unlogged_handed basis entries task now.cells beside.ready.cells beside.fit here))
       (all-joined (TasksApart task) Before After (λ other apart. more other apart.not_after) (without task.key now.pending)
-      (beside_lacking basis now task ready pending).apart
+      beside.apart
       (all-filter Before _ now.pending unlogged))
 
   -- ---- standing
@@ -120,7 +106,7 @@ module _ {V : Type 0} {app : Application V} (basis : Basis app) where
   clear_tasks_keep_standing start now entries task stands clear =
       let Before = λ (other : Task). AllByRecursion (λ (entry : Entry). is_prefix other.key.path entry.0.path ≡ false) entries in
       let here = All-contains Before now.pending task (All-from_recursion Before now.pending stands.unlogged) clear.pending in
-      let new = new_where_unlogged task entries here in
+      let new = new_where_unlogged task.key entries here in
       record {
         ready = stays_ready basis now task stands.ready clear.pending;
         ordered = basis.lower.entries_in_order task.key (app.act task now.cells).text entries new stands.ordered;

@@ -41,6 +41,15 @@ module _ {V : Type 0} (app : Application V) where
     pub sets_apart : ¬ Conflicts (set_in app others.cells task) (set_in app others.cells other)
 
 module _ {V : Type 0} {app : Application V} (basis : Basis app) where
+  -- the first of the pending tasks, beside the others
+  pub beside_rest : (cells : List V) (task : Task) (others : List Task) → IsReady app (state_of cells (task ∷ others))
+      → IsBeside app task (state_of cells others)
+  beside_rest cells task others ready = record {
+    ready = record { cells = ready.cells; tasks = ready.tasks.1; ascending = ready.ascending.1; apart = ready.apart.1 };
+    fit = ready.tasks.0;
+    apart = ready.apart.0;
+  }
+
   fit_from : (parent : Key) (number : ℕ) (children : List Start) → AreFitStarts app children → AreFitTasks app (children_from parent number children)
   fit_from parent number [] fit = tt
   fit_from parent number (child ∷ children) fit = (fit.0, fit_from parent (suc number) children fit.1)

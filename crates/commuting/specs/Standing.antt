@@ -1,11 +1,12 @@
 -- When a state, with what was logged on the way to it, stands for what is left of an execution.
-use Rattle.std.specs.Prelude.{◌≡◌, ℕ, ◌+◌, ◌<◌, ◌≤◌, true, false, List, [], length, None, IsSomeAnd}
+use Rattle.std.specs.Prelude.{◌≡◌, ℕ, ◌+◌, ◌<◌, ◌≤◌, true, false, List, [], length, None, IfSome, IsSomeAnd}
 use Rattle.std.specs.List.{AllByRecursion}
+use Rattle.std.specs.declared.cmp.Ordering.TheVariants.{Less}
 use Rattle.task_order.specs.declared.start.Start.{Start}
 use Rattle.task_order.specs.declared.task.Task.{Task}
-use Rattle.task_order.specs.Key.{Bound, end}
+use Rattle.task_order.specs.Key.{Bound, end, key_cmp}
 use Rattle.task_order.specs.TaskList.{put_all}
-use Rattle.output_log.specs.Entries.{Entry, IsInKeyOrder, entries_before, with_entry}
+use Rattle.output_log.specs.Entries.{Entry, IsInKeyOrder, ShareNoKey, entries_before, with_entry}
 use Rattle.app_laws.specs.Applications.{Application, AreFitStarts}
 use Rattle.app_laws.specs.Execution.{Operator, Execution, after_steps, first_from, is_clear_before}
 use Rattle.app_laws.specs.Order.{is_prefix}
@@ -32,12 +33,25 @@ pub record IsEndWith {V : Type 0} (entries : List Entry) (cells : List V) (e : E
   pub log-is : e.log ≡ entries
   pub cells-are : e.cells ≡ cells
 
+-- the path of no entry goes on from that of a task
+abbrev pub AreUnlogged : List Entry → List Task → Type 0
+AreUnlogged entries tasks = AllByRecursion (λ task. AllByRecursion (λ entry. is_prefix task.key.path entry.0.path ≡ false) entries) tasks
+
+-- each entry is earlier than each task
+abbrev pub ComeBefore : List Entry → List Task → Type 0
+ComeBefore entries tasks = AllByRecursion (λ task. AllByRecursion (λ entry. key_cmp entry.0 task.key ≡ Less) entries) tasks
+
+-- a log in key order, of which all is later than the entries
+pub record IsLaterLog (entries log : List Entry) : Type 0 where
+  pub ordered : IsInKeyOrder log
+  pub later : AllByRecursion (λ other. AllByRecursion (λ entry. key_cmp entry.0 other.0 ≡ Less) entries) log
+
 module _ {V : Type 0} (app : Application V) where
   -- the state, with the entries on the way to it, stands for what is left of the execution from the start
   pub record StandsFor (start : State V) (entries : List Entry) (now : State V) : Type 0 where
     pub ready : IsReady app now
     pub ordered : IsInKeyOrder entries
-    pub unlogged : AllByRecursion (λ task. AllByRecursion (λ entry. is_prefix task.key.path entry.0.path ≡ false) entries) now.pending
+    pub unlogged : AreUnlogged entries now.pending
     pub same_rest : HasSameRest app.act start entries now
 
   -- the first tasks make a state that is ready
@@ -69,3 +83,13 @@ module _ {V : Type 0} (app : Application V) where
   abbrev pub TooManyTasksNeverEnd : Type 0
   TooManyTasksNeverEnd = (start now : State V) (entries : List Entry) → StandsFor start entries now →
       (limit : ℕ) → length entries ≤ limit → limit < length entries + length now.pending → run_from app.act limit end start ≡ None
+
+  -- a run logs in key order, and later than all that its first pending tasks are later than
+  abbrev pub RunsLogLater : Type 0
+  RunsLogLater = (state : State V) (entries : List Entry) → IsReady app state → ComeBefore entries state.pending →
+      (limit : ℕ) (bound : Bound) → IfSome (run_from app.act limit bound state) (λ e. IsLaterLog entries e.log)
+
+  -- and no key of an entry whose path goes on from none of theirs
+  abbrev pub RunsLogNewKeys : Type 0
+  RunsLogNewKeys = (state : State V) (entries : List Entry) → IsReady app state → AreUnlogged entries state.pending →
+      (limit : ℕ) (bound : Bound) → IfSome (run_from app.act limit bound state) (λ e. ShareNoKey entries e.log)

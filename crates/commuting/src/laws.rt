@@ -1,10 +1,11 @@
 ghost use Rattle.commuting.specs.Commuting.{ClearTasksMayActAtOnce, ClearTasksStayClearInTurn, ClearTasksActInAnyOrder, ClearTasksMayAllActAtOnce};
 ghost use Rattle.commuting.specs.Independent.{StaysReady, IndependentTasksCommute, IndependentTasksLeaveAlone, ClearTasksStayClear, ClearTasksAreIndependent, EarliestIsClear};
 ghost use Rattle.commuting.specs.Basis.{LowerLaws, Basis};
+ghost use Rattle.commuting.specs.Renaming.{NamesChangeNoRounds, ListedTasksComeToSame};
 ghost use Rattle.commuting.specs.Rounds.{ClearTasksAreListed, RoundsKeepReady, RoundsKeepStanding, EndsTakeRounds, RoundsEnd, RoundsAreOneNumber};
-ghost use Rattle.commuting.specs.Standing.{StartsAreReady, StartsStandForThemselves, ClearTasksKeepStanding, EarlierEntriesAreFirst, NothingPendingIsTheEnd, TooManyTasksNeverEnd};
+ghost use Rattle.commuting.specs.Standing.{StartsAreReady, StartsStandForThemselves, ClearTasksKeepStanding, EarlierEntriesAreFirst, NothingPendingIsTheEnd, TooManyTasksNeverEnd, RunsLogLater, RunsLogNewKeys};
 
-use app_laws::{App, execution_laws, family_laws, lawful};
+use app_laws::{App, execution_laws, family_laws, lawful, naming_laws, renaming_laws};
 use output_log::{join_laws, part_laws, put_laws};
 use rw_sets::{conflict_laws, independence_laws};
 use task_order::{
@@ -77,7 +78,8 @@ pub fn clear_tasks_all_commute<A: App>()
 }
 
 /// A state, with the entries of the clear tasks that have acted so far in any order, stands for
-/// what is left of the execution from its start.
+/// what is left of the execution from its start. What is left is logged later than what came before
+/// all that is pending, and under new keys.
 pub fn standing_laws<A: App>()
     ensures starts_ready { (app : A) → StartsAreReady (A.meaning app) }
     ensures starts { (app : A) → StartsStandForThemselves (A.meaning app) }
@@ -85,6 +87,8 @@ pub fn standing_laws<A: App>()
     ensures first { (app : A) → EarlierEntriesAreFirst (A.meaning app) }
     ensures end { (app : A) → NothingPendingIsTheEnd (A.meaning app) }
     ensures too_many { (app : A) → TooManyTasksNeverEnd (A.meaning app) }
+    ensures later { (app : A) → RunsLogLater (A.meaning app) }
+    ensures new_keys { (app : A) → RunsLogNewKeys (A.meaning app) }
 {
     basis::<A>();
 }
@@ -100,4 +104,15 @@ pub fn round_laws<A: App>()
     ensures one_number { (app : A) → RoundsAreOneNumber (A.meaning app) }
 {
     basis::<A>();
+}
+
+/// Where pending tasks are first tasks in the order of their paths, what is left of an execution comes to the same, in as
+/// many rounds.
+pub fn listed_tasks_come_to_same<A: App>()
+    ensures rounds { (app : A) → NamesChangeNoRounds (A.meaning app) }
+    ensures same { (app : A) → ListedTasksComeToSame (A.meaning app) }
+{
+    basis::<A>();
+    renaming_laws::<A>();
+    naming_laws();
 }

@@ -5,5 +5,5 @@ mod laws;
 
 pub use laws::{
     clear_tasks_all_commute, clear_tasks_commute, clear_tasks_stay_clear,
-    independent_tasks_commute, round_laws, standing_laws,
+    independent_tasks_commute, listed_tasks_come_to_same, round_laws, standing_laws,
 };

@@ -1,0 +1,8 @@
+use Rattle.commuting.proofs.Renaming.{names_change_no_rounds, listed_tasks_come_to_same}
+use Rattle.commuting.proofs.laws.listed_tasks_come_to_same.Goals as goal
+
+pub returns-clause-rounds : goal.returns-clause-rounds
+returns-clause-rounds g c = λ app. names_change_no_rounds (c.basis.ensures app)
+
+pub returns-clause-same : goal.returns-clause-same
+returns-clause-same g c = λ app. listed_tasks_come_to_same (c.basis.ensures app) (c.renaming_laws.ensures app) c.naming_laws.ensures
