@@ -8,7 +8,7 @@ use Rattle.cell_store.specs.declared.cell.Cell.{Cell}
 use Rattle.cell_store.specs.declared.cell.Cell.TheVariants.{Home, Out}
 use Rattle.cell_store.specs.Cells.{cell_at}
 use Rattle.cell_store.specs.Home.{IsHome}
-use Rattle.cell_store.specs.Values.{AreAllHome, homes}
+use Rattle.cell_store.specs.Values.{AreAllHome, homes, values_of}
 use Rattle.kdg_graph.specs.Node.{Node}
 use Rattle.kdg_graph.specs.Nodes.{earlier_than, tasks_of}
 use Rattle.app_laws.specs.Applications.{Application, IsFitTask, set_in}
@@ -20,7 +20,7 @@ use Rattle.graph_update.specs.Progress.{Progress, whole_state}
 use Rattle.graph_update.specs.Sound.{Covers, HasJob, IsOfNode, IsSound}
 use Rattle.graph_update.specs.Standing.{ended_entries}
 use Rattle.graph_update.specs.StandingBasis.{StandingBasis}
-use Rattle.graph_update.specs.StandingLaws.{IsAtRest, IsSequentialEnd, NoJobsAreRest, NoJobsWhereNoneRuns, NoNodesAreTheEnd, NoneRuns}
+use Rattle.graph_update.specs.StandingLaws.{IdleIsSound, IsAtRest, IsSequentialEnd, NoJobsAreRest, NoJobsWhereNoneRuns, NoNodesAreTheEnd, NoneRuns}
 use Rattle.graph_update.proofs.ClearNodes.{earliest_first, idle, unblocked_where_first}
 use Rattle.graph_update.proofs.Members.{all_at, all_from, here, in_map}
 
@@ -82,6 +82,15 @@ module _ {V : Type 0} {app : Application V} (basis : Basis app) where
 
   pub no_jobs_are_rest : NoJobsAreRest app
   no_jobs_are_rest progress values sound = at_rest progress values sound
+
+  -- the values of the cells are those of the whole ones
+  pub home_values : (progress : Progress V) (values : List V) → IsSound app progress [] values → values_of progress.cells ≡ values
+  home_values progress values sound = ap values_of (cells_are_values progress values sound) ∙ basis.cells.values.values_of_homes values
+
+  pub idle_is_sound : IdleIsSound app
+  idle_is_sound progress jobs values sound idle =
+      let alone = subst (λ (held : List (Job V)). IsSound app progress held values) ((no_jobs_where_none_runs progress jobs values sound).1 idle) sound in
+      subst (IsSound app progress []) (sym (home_values progress values alone)) alone
 
 some_map : {X : Type 0} (P Q : X → Type 0) → ((x : X) → P x → Q x) → (o : Option X) → IsSomeAnd o P → IsSomeAnd o Q
 some_map P Q each None never = never

@@ -18,7 +18,7 @@ use Rattle.graph_update.proofs.Claims.{found_is_there}
 use Rattle.graph_update.proofs.Picked.{IsPicked}
 use Rattle.graph_update.proofs.Starting.{start, unblocked_started}
 
-Some-injective : {X : Type 0} (a b : X) → Some a ≡ Some b → a ≡ b
+pub Some-injective : {X : Type 0} (a b : X) → Some a ≡ Some b → a ≡ b
 Some-injective a b same = cc
 
 none_is_not_some : {X : Type 0} (x : X) → None ≡ Some x → ⊥
@@ -74,7 +74,7 @@ other_at id node other = by_test (is_at id node) refl
     by_test true is = absurd (other (ap (λ n. let made : NodeId = record { at = n } in made) (eqb-true node.id.at id.at is)))
 
 -- where no node has the id, all are left
-none_taken : (id : NodeId) (nodes : List Node) → AllByRecursion (λ (other : Node). other.id ≢ id) nodes → without id nodes ≡ nodes
+pub none_taken : (id : NodeId) (nodes : List Node) → AllByRecursion (λ (other : Node). other.id ≢ id) nodes → without id nodes ≡ nodes
 none_taken id [] others = refl
 none_taken id (node ∷ nodes) others =
     ap (λ test. cond (not test) (node ∷ without id nodes) (without id nodes)) (other_at id node others.0) ∙ ap (λ left. node ∷ left) (none_taken id nodes others.1)

@@ -24,14 +24,16 @@ pub mod FinishMembers
 pub mod FinishTasks
 pub mod FirstNodes
 pub mod FixedSets
-pub mod MakingFresh
 pub mod IdLists
+pub mod Listed
+pub mod MakingFresh
 pub mod Marks
 pub mod Members
 pub mod NodeTasks
 pub mod Performed
 pub mod Picked
 pub mod ReadyIds
+pub mod Renamed
 pub mod Renewing
 pub mod Standing
 pub mod StandingDrains
@@ -40,5 +42,6 @@ pub mod StandingEvents
 pub mod StandingJobs
 pub mod StandingMeans
 pub mod Starting
+pub mod TakenTasks
 pub mod TaskEnds
 pub mod Whole

@@ -9,6 +9,7 @@ pub mod IdChunks
 pub mod Jobs
 pub mod Laws
 pub mod Progress
+pub mod Renaming
 pub mod Sound
 pub mod Standing
 pub mod StandingBasis

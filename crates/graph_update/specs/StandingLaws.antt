@@ -6,6 +6,7 @@ use Rattle.task_order.specs.declared.start.Start.{Start}
 use Rattle.task_order.specs.Key.{Bound, at_key, end, key_cmp}
 use Rattle.task_order.specs.TaskList.{put_all}
 use Rattle.cell_store.specs.declared.cell.Cell.TheVariants.{Home}
+use Rattle.cell_store.specs.Values.{values_of}
 use Rattle.output_log.specs.Entries.{Entry, IsInKeyOrder, IsNewEntry, ShareNoKey, entries_before, joined_by_key, with_entry}
 use Rattle.kdg_graph.specs.Node.{Node}
 use Rattle.app_laws.specs.Applications.{Application, AreFitStarts, set_in}
@@ -180,6 +181,10 @@ module _ {V : Type 0} (app : Application V) where
   -- there is no job exactly where no node is running
   abbrev pub NoJobsWhereNoneRuns : Type 0
   NoJobsWhereNoneRuns = (progress : Progress V) (jobs : List (Job V)) (values : List V) → IsSound app progress jobs values → (jobs ≡ []) ↔ NoneRuns progress.nodes
+
+  -- where none is running, an execution is sound with no jobs, and the values of its cells are those of the whole ones
+  abbrev pub IdleIsSound : Type 0
+  IdleIsSound = (progress : Progress V) (jobs : List (Job V)) (values : List V) → IsSound app progress jobs values → NoneRuns progress.nodes → IsSound app progress [] (values_of progress.cells)
 
   -- all cells are home, each recorded set is the declared one, and the least node is clear
   pub record IsAtRest (progress : Progress V) (values : List V) : Type 0 where

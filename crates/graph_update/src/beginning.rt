@@ -30,14 +30,17 @@ pub(crate) fn home_store<A: App>(
     Store::new(alloc, cells)
 }
 
-/// The first tasks as nodes, with the sets that they declare in cells that are all home.
-pub(crate) fn first_graph<A: App, L: Ledger>(
+/// Puts the first tasks into an empty graph as nodes, with the sets that they declare in cells that are
+/// all home.
+pub(crate) fn put_first<A: App, L: Ledger>(
     alloc: Global,
     app: &A,
+    mut graph: Graph,
     first: &[Start],
     store: &Store<A::Val>,
     steps: &mut Steps<L>,
 ) -> Result<Graph, NoRoom>
+    requires empty { graph ≡ [] }
     requires home { store.now ≡ homes (values_of store.now) }
     requires fit_cells { (A.meaning app.now).is_fit_cells (values_of store.now) }
     requires fit_first { AreFitStarts (A.meaning app.now) first.now }
@@ -46,7 +49,6 @@ pub(crate) fn first_graph<A: App, L: Ledger>(
     ensures steps { steps.new ≤ steps.old + length first.now }
 {
     put_laws();
-    let mut graph = empty_graph(alloc, app);
     for (number, start) in first.iter().enumerate() {
         let path = Path::root(alloc, number as u32)?;
         let key = Key {
@@ -67,7 +69,7 @@ pub(crate) fn first_graph<A: App, L: Ledger>(
 
 /// A graph without nodes. Where sets may change, later nodes are asked for, so that it keeps the order
 /// of all.
-fn empty_graph<A: App>(alloc: Global, app: &A) -> Graph
+pub(crate) fn empty_graph<A: App>(alloc: Global, app: &A) -> Graph
     ensures { result ≡ [] }
 {
     if app.sets_are_fixed() {

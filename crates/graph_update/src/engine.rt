@@ -1,6 +1,6 @@
-ghost use Rattle.std.specs.Prelude.{◌≡◌, ◌≢◌, ◌+◌, ◌<◌, ◌≤◌, ◌^◌, ℕ, List, [], length, Some, None, IfOk, IfErr, OnOk, OnErr};
+ghost use Rattle.std.specs.Prelude.{◌≡◌, ◌≢◌, ◌↔◌, ◌+◌, ◌<◌, ◌≤◌, ◌^◌, ℕ, List, [], length, Some, None, IfOk, IfErr, OnOk, OnErr, IsTrue};
 ghost use Rattle.cell_store.specs.Values.{homes};
-ghost use Rattle.output_log.specs.Entries.{joined_texts};
+ghost use Rattle.output_log.specs.Entries.{joined_texts, with_texts};
 ghost use Rattle.app_laws.specs.Applications.{AreFitStarts};
 ghost use Rattle.graph_update.specs.declared.answers.OverCause.TheVariants as cause;
 ghost use Rattle.graph_update.specs.Answers.{IsBegun, counts_of};
@@ -8,7 +8,7 @@ ghost use Rattle.graph_update.specs.Engine.{IsBeginFault, IsKept, StaysSound};
 ghost use Rattle.graph_update.specs.Events.{drainable, drained, marked};
 ghost use Rattle.graph_update.specs.Sound.{IsSound};
 
-use crate::beginning::{first_graph, home_store};
+use crate::beginning::{empty_graph, home_store, put_first};
 use crate::laws::{basis, begin_laws, drain_laws};
 use crate::ready::Ready;
 use crate::{BeginFault, Counts, OverCause};
@@ -110,7 +110,8 @@ impl<'a, A: App> Engine<'a, A> {
             });
         }
         let store = home_store(alloc, app, cells)?;
-        let graph = first_graph(alloc, app, starts, &store, steps)?;
+        let graph = empty_graph(alloc, app);
+        let graph = put_first(alloc, app, graph, starts, &store, steps)?;
         Ok(Engine {
             alloc,
             app,
@@ -155,6 +156,13 @@ impl<'a, A: App> Engine<'a, A> {
         }
     }
 
+    /// How many tasks have ended.
+    pub fn ended(&self) -> u64
+        ensures { result ≡ self.now.progress.ended }
+    {
+        self.ended
+    }
+
     /// Puts the pending tasks in order before they are looked at, which changes nothing that is seen.
     #[inline(always)]
     pub(crate) fn settle(&mut self)
@@ -187,6 +195,13 @@ impl<'a, A: App> Engine<'a, A> {
             Some(least) => self.log.take_below(&self.graph.task(least).key),
             None => self.log.take_all(),
         }
+    }
+
+    /// Whether nothing is logged that has a text.
+    pub fn is_silent(&self) -> bool
+        ensures { IsTrue result ↔ (with_texts self.now.progress.log ≡ []) }
+    {
+        self.log.is_silent()
     }
 
     /// The cells, all of them home, the texts of what was logged and not drained, and how many tasks

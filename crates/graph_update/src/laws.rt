@@ -1,6 +1,7 @@
 ghost use Rattle.graph_update.specs.Basis.{CellLaws, LowerLaws, Basis};
 ghost use Rattle.graph_update.specs.Jobs.{JobsMayRun};
 ghost use Rattle.graph_update.specs.Laws.{BeginningsAreSound, ClaimsKeepSound, ClaimsTakeOneClear, EventsKeepSound, MarksAndDrainsKeepSound, RecordedSetsSuffice, SomeIsClear, WholeIsOne};
+ghost use Rattle.graph_update.specs.Renaming.{RenamingsKeepSound};
 
 use crate::finish_laws::sound_finish_laws;
 use app_laws::{App, lawful};
@@ -69,6 +70,13 @@ pub fn clear_laws<A: App>()
 /// What begins is sound, and nothing is running.
 pub fn begin_laws<A: App>()
     ensures sound { (app : A) → BeginningsAreSound (A.meaning app) }
+{
+    basis::<A>();
+}
+
+/// Where nothing is running and the pending tasks become first tasks, what is there is as sound.
+pub fn renaming_laws<A: App>()
+    ensures { (app : A) → RenamingsKeepSound (A.meaning app) }
 {
     basis::<A>();
 }

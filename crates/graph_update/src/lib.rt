@@ -14,6 +14,7 @@ mod laws;
 mod pending;
 mod performing;
 mod ready;
+mod renaming;
 mod rewriting;
 mod standing_laws;
 
@@ -26,7 +27,7 @@ pub use finish_laws::{
 pub use job::{Done, Job};
 pub use laws::{
     begin_laws, claim_laws, clear_claim_laws, clear_laws, drain_laws, event_laws, job_laws,
-    whole_laws,
+    renaming_laws, whole_laws,
 };
 pub use performing::perform;
 pub use standing_laws::{

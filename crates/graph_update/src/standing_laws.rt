@@ -1,5 +1,5 @@
 ghost use Rattle.graph_update.specs.StandingBasis.{StandingBasis};
-ghost use Rattle.graph_update.specs.StandingLaws.{BeginningsStand, ClaimsKeepStanding, ClaimAnswersKeepStanding, FinishesKeepStanding, EndsAddTheirEntry, PassedLimitsKeepStanding, PassedLimitsNeverEnd, RefusalsKeepStanding, GivingUpKeepsStanding, DrainsKeepStanding, DrainsTakeTheNext, EventsKeepStanding, ExecutionsStand, StandingMeansTheSequentialRun, NoNodesAreTheEnd, NoJobsWhereNoneRuns, NoJobsAreRest, ClearNodesStayClear};
+ghost use Rattle.graph_update.specs.StandingLaws.{BeginningsStand, ClaimsKeepStanding, ClaimAnswersKeepStanding, FinishesKeepStanding, EndsAddTheirEntry, PassedLimitsKeepStanding, PassedLimitsNeverEnd, RefusalsKeepStanding, GivingUpKeepsStanding, DrainsKeepStanding, DrainsTakeTheNext, EventsKeepStanding, ExecutionsStand, StandingMeansTheSequentialRun, NoNodesAreTheEnd, NoJobsWhereNoneRuns, NoJobsAreRest, IdleIsSound, ClearNodesStayClear};
 
 use crate::finish_laws::sound_finish_laws;
 use crate::{finish_laws, laws};
@@ -97,6 +97,7 @@ pub fn end_laws<A: App>()
 pub fn rest_laws<A: App>()
     ensures no_jobs { (app : A) → NoJobsWhereNoneRuns (A.meaning app) }
     ensures rest { (app : A) → NoJobsAreRest (A.meaning app) }
+    ensures idle { (app : A) → IdleIsSound (A.meaning app) }
 {
     standing_basis::<A>();
 }

@@ -1,4 +1,4 @@
-use Rattle.graph_update.proofs.AtRest.{no_jobs_are_rest, no_jobs_where_none_runs}
+use Rattle.graph_update.proofs.AtRest.{idle_is_sound, no_jobs_are_rest, no_jobs_where_none_runs}
 use Rattle.graph_update.proofs.standing_laws.rest_laws.Goals as goal
 
 pub returns-clause-no_jobs : goal.returns-clause-no_jobs
@@ -6,3 +6,6 @@ returns-clause-no_jobs g c = λ app. no_jobs_where_none_runs ((c.standing_basis.
 
 pub returns-clause-rest : goal.returns-clause-rest
 returns-clause-rest g c = λ app. no_jobs_are_rest ((c.standing_basis.ensures app).begun)
+
+pub returns-clause-idle : goal.returns-clause-idle
+returns-clause-idle g c = λ app. idle_is_sound ((c.standing_basis.ensures app).begun)

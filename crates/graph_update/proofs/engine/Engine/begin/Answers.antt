@@ -5,13 +5,13 @@ use Rattle.graph_update.proofs.Begun.{begun, begun_fixed, begun_kept, begun_soun
 use Rattle.graph_update.proofs.ReadyIds.{some_are_ready}
 use Rattle.graph_update.proofs.engine.Engine.begin.Goals as goal
 
-pub first_graph-requires-clause-home : goal.first_graph-requires-clause-home
-first_graph-requires-clause-home g c κs within =
+pub put_first-requires-clause-home : goal.put_first-requires-clause-home
+put_first-requires-clause-home g c κs within =
     let values = ap values_of c.in_ok-store.ensures ∙ c.value_laws.ensures.values.values_of_homes c.args.cells.items in
     c.in_ok-store.ensures ∙ ap homes (sym values)
 
-pub first_graph-requires-clause-fit_cells : goal.first_graph-requires-clause-fit_cells
-first_graph-requires-clause-fit_cells g c κs within =
+pub put_first-requires-clause-fit_cells : goal.put_first-requires-clause-fit_cells
+put_first-requires-clause-fit_cells g c κs within =
     let values = ap values_of c.in_ok-store.ensures ∙ c.value_laws.ensures.values.values_of_homes c.args.cells.items in
     subst (g.A.App.meaning c.args.app.now).is_fit_cells (sym values) c.requires.fit_cells
 

@@ -1,7 +1,7 @@
 use Rattle.std.proofs.Common.{arith}
 use Rattle.cell_store.specs.Values.{values_of}
 use Rattle.graph_update.proofs.FirstNodes.{next_left}
-use Rattle.graph_update.proofs.beginning.first_graph.Goals as goal
+use Rattle.graph_update.proofs.beginning.put_first.Goals as goal
 
 pub loop-number-preserved : goal.loop-number-preserved
 loop-number-preserved g c = record {

@@ -1,7 +1,7 @@
 use Rattle.std.proofs.Common.{◌+◌, ◌≤◌}
 use Rattle.cell_store.specs.Values.{values_of}
 use Rattle.graph_update.proofs.FirstNodes.{AreLeft}
-use Rattle.graph_update.proofs.beginning.first_graph.Given as goal
+use Rattle.graph_update.proofs.beginning.put_first.Given as goal
 
 abbrev pub invariant-loop-number : goal.invariant-loop-number
 invariant-loop-number g l = record {

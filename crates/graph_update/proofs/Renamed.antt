@@ -1,0 +1,94 @@
+-- An execution whose pending tasks become first tasks.
+use Rattle.std.proofs.Common.{◌≡◌, ◌^◌, ◌<◌, List, [], length, sym, ap, subst, ◌∙◌, arith}
+use Rattle.task_order.specs.declared.start.Start.{Start}
+use Rattle.task_order.specs.declared.task.Task.{Task}
+use Rattle.cell_store.specs.Values.{homes, values_of}
+use Rattle.output_log.specs.Entries.{Entry}
+use Rattle.kdg_graph.specs.Node.{Node}
+use Rattle.kdg_graph.specs.Nodes.{tasks_of}
+use Rattle.app_laws.specs.Applications.{Application, AreFitStarts}
+use Rattle.app_laws.specs.Names.{AreListed}
+use Rattle.app_laws.specs.RenamingLaws.{as_many_listed}
+use Rattle.graph_update.specs.Basis.{Basis}
+use Rattle.graph_update.specs.Engine.{AreFirstNodes, HaveFixedSets, IsKept}
+use Rattle.graph_update.specs.Progress.{EngineState, Progress}
+use Rattle.graph_update.specs.Renaming.{IsRenamed, RenamingsKeepSound}
+use Rattle.graph_update.specs.Sound.{IsSound}
+use Rattle.graph_update.specs.StandingLaws.{NoneRuns}
+use Rattle.graph_update.proofs.AtRest.{at_rest, home_values, idle_is_sound}
+use Rattle.graph_update.proofs.Beginnings.{first_nodes_are_sound}
+use Rattle.graph_update.proofs.Listed.{listed_fit}
+use Rattle.graph_update.proofs.FinishTasks.{length-mapped}
+use Rattle.graph_update.proofs.FixedSets.{first_are_fixed}
+
+-- as many first tasks as nodes
+pub as_many_first : (nodes : List Node) (first : List Start) → AreListed (tasks_of nodes) first → length first ≡ length nodes
+as_many_first nodes first listed = as_many_listed (tasks_of nodes) first listed ∙ length-mapped (λ (node : Node). node.task) nodes
+
+module _ {V : Type 0} {app : Application V} (basis : Basis app) where
+  pub renamings_keep_sound : RenamingsKeepSound app
+  renamings_keep_sound old now values sound is =
+      let counts = sound.keys_and_counts in
+      let fit = listed_fit app (tasks_of old.nodes) is.first is.listed sound.ready.tasks in
+      let are = subst (λ cells. AreFirstNodes app cells is.first now.nodes) (home_values basis old values sound) is.nodes in
+      let home = ap (λ (progress : Progress V). progress.cells) is.after ∙ (at_rest basis old values sound).cells in
+      let empty = ap (λ (progress : Progress V). progress.log) is.after in
+      let created = ap (λ (progress : Progress V). progress.created) is.after in
+      let ended = ap (λ (progress : Progress V). progress.ended) is.after in
+      let limit = ap (λ (progress : Progress V). progress.limit) is.after in
+      let many = as_many_first old.nodes is.first is.listed in
+      first_nodes_are_sound basis values is.first now sound.ready.cells fit are home empty
+      (omega (arith, created, ended, many, counts.created)) (omega (arith, created, limit, counts.within))
+
+  -- an engine's execution while nothing is running
+  module _ (old : Progress V) (kept : IsKept app old) (idle : NoneRuns old.nodes) where
+    pub own_sound : IsSound app old [] (values_of old.cells)
+    own_sound = idle_is_sound basis old kept.jobs kept.values kept.sound idle
+
+    pub own_home : old.cells ≡ homes (values_of old.cells)
+    own_home = (at_rest basis old (values_of old.cells) own_sound).cells
+
+    module _ (tasks : List Task) (first starts : List Start) (all : tasks ≡ tasks_of old.nodes) (listed : AreListed tasks first) (same : starts ≡ first) where
+      own_listed : AreListed (tasks_of old.nodes) starts
+      own_listed = subst (λ pending. AreListed pending starts) all (subst (AreListed tasks) (sym same) listed)
+
+      pub own_fit : AreFitStarts app starts
+      own_fit = listed_fit app (tasks_of old.nodes) starts own_listed own_sound.ready.tasks
+
+      pub own_many : length starts ≡ length old.nodes
+      own_many = as_many_first old.nodes starts own_listed
+
+      pub own_few : length starts < 2 ^ 32
+      own_few =
+          let counts = own_sound.keys_and_counts in
+          omega (arith, own_many, counts.created, counts.within, kept.limited)
+
+      -- what becomes of it
+      module _ (nodes : List Node) (log : List Entry) (are : AreFirstNodes app (values_of old.cells) starts nodes) (empty : log ≡ []) where
+        abbrev now : Progress V
+        now = record old { nodes = nodes; log = log }
+
+        pub is_renamed : IsRenamed app old now
+        is_renamed = record {
+          first = starts;
+          listed = own_listed;
+          nodes = are;
+          after = ap (λ (entries : List Entry). let progress : Progress V = record old { nodes = nodes; log = entries } in progress) empty;
+        }
+
+        module _ (laws : RenamingsKeepSound app) where
+          now_sound : IsSound app now [] (values_of old.cells)
+          now_sound = laws old now (values_of old.cells) own_sound is_renamed
+
+          pub stays_kept : IsKept app now
+          stays_kept = record { jobs = []; values = values_of old.cells; sound = now_sound; limited = kept.limited }
+
+          pub stays_fixed : HaveFixedSets app nodes
+          stays_fixed = first_are_fixed app basis.lawful (values_of old.cells) own_sound.ready.cells nodes now_sound.ready.tasks are.sets
+
+-- what an engine keeps sound, seen from outside
+pub engine_stays_sound : {A V : Type 0} (meaning : A → Application V) (app : A) (old now : Progress V) (engine : EngineState A V) → record { app = app; progress = old } ≡ engine
+    → ((values : List V) → IsSound (meaning app) old [] values → IsSound (meaning app) now [] values)
+    → (values : List V) → IsSound (meaning engine.app) engine.progress [] values → IsSound (meaning engine.app) now [] values
+engine_stays_sound {A} {V} meaning app old now engine is stays =
+    subst (λ (engine : EngineState A V). (values : List V) → IsSound (meaning engine.app) engine.progress [] values → IsSound (meaning engine.app) now [] values) is stays

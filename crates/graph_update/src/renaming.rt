@@ -1,0 +1,88 @@
+//! How pending tasks become first tasks, which keeps paths short.
+
+ghost use Rattle.std.specs.Prelude.{◌≡◌, ◌+◌, ◌≤◌, [], false, length, List, IfOk, OnOk};
+ghost use Rattle.std.specs.List.{AllByRecursion};
+ghost use Rattle.kdg_graph.specs.Nodes.{tasks_of};
+ghost use Rattle.output_log.specs.Entries.{with_texts};
+ghost use Rattle.graph_update.specs.Renaming.{IsRenamed};
+ghost use Rattle.graph_update.specs.Sound.{IsSound};
+
+use crate::Engine;
+use crate::beginning::put_first;
+use crate::laws::{basis, renaming_laws};
+use app_laws::{App, starts_by_path};
+use kdg_graph::{Fresh, Graph};
+use kdg_text::{NoRoom, Steps};
+use output_log::Log;
+use std::alloc::Global;
+use std::sync::ledger::Ledger;
+use task_order::Task;
+
+impl<'a, A: App> Engine<'a, A> {
+    /// The same execution with paths of one number: the pending tasks are numbered in the order of
+    /// their paths, as first tasks are. So they keep their order, and their children theirs among them.
+    /// What is logged writes nothing, and is forgotten.
+    ///
+    /// Each one's set is asked for once. After `NoRoom` all is dropped.
+    pub fn renamed<L: Ledger>(self, steps: &mut Steps<L>) -> Result<Engine<'a, A>, NoRoom>
+        requires idle { AllByRecursion (λ node. node.running ≡ false) self.progress.nodes }
+        requires silent { with_texts self.progress.log ≡ [] }
+        ensures app { IfOk result (λ engine. engine.app ≡ self.entry.app) }
+        ensures renamed { IfOk result (λ engine. IsRenamed (A.meaning self.entry.app) self.entry.progress engine.progress) }
+        ensures sound { (values : List A.Val) → IsSound (A.meaning self.entry.app) self.entry.progress [] values →
+            IfOk result (λ engine. IsSound (A.meaning self.entry.app) engine.progress [] values) }
+        ensures steps { steps.new ≤ steps.old + length self.entry.progress.nodes }
+    {
+        basis::<A>();
+        renaming_laws::<A>();
+        let Engine {
+            alloc,
+            app,
+            store,
+            mut graph,
+            log: _,
+            created,
+            ended,
+            limit,
+            over,
+            mut ready,
+            mut fresh,
+        } = self;
+        let tasks = take_tasks(alloc, &mut graph, &mut fresh)?;
+        let first = starts_by_path(tasks)?;
+        let graph = put_first(alloc, app, graph, &first, &store, steps)?;
+        ready.forget();
+        Ok(Engine {
+            alloc,
+            app,
+            store,
+            graph,
+            log: Log::new(alloc),
+            created,
+            ended,
+            limit,
+            over,
+            ready,
+            fresh,
+        })
+    }
+}
+
+/// Takes all nodes out of a graph, the earliest first, and gives their tasks in that order. The graph
+/// keeps its memory. What was in the list of fresh tasks is dropped.
+fn take_tasks(alloc: Global, graph: &mut Graph, fresh: &mut Vec<Fresh>) -> Result<Vec<Task>, NoRoom>
+    ensures tasks { IfOk result (λ tasks. tasks.items ≡ tasks_of graph.old) }
+    ensures none_left { OnOk result (graph.new ≡ []) }
+{
+    fresh.clear();
+    let mut tasks = Vec::with_capacity(alloc, graph.len())?;
+    graph.settle();
+    while let Some(node) = graph.least() {
+        let Ok(task) = graph.rewrite(node, Vec::new(alloc), fresh) else {
+            return Err(NoRoom);
+        };
+        graph.settle();
+        tasks.push(task)?;
+    }
+    Ok(tasks)
+}
