@@ -11,6 +11,9 @@ pub mod EngineAtRest
 pub mod Finished
 pub mod HandsPlayed
 pub mod Jobs
+pub mod JoinedTexts
+pub mod LegRounds
+pub mod Legs
 pub mod Lists
 pub mod Logged
 pub mod Played

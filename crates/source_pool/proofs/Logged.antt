@@ -17,10 +17,11 @@ use Rattle.kdg_graph.specs.Node.{Node}
 use Rattle.kdg_graph.specs.Nodes.{tasks_of}
 use Rattle.app_laws.specs.Applications.{Application}
 use Rattle.app_laws.specs.Execution.{children_from}
+use Rattle.commuting.specs.Standing.{ComeBefore}
 use Rattle.graph_update.specs.Events.{drainable, drained, undrainable}
 use Rattle.graph_update.specs.Progress.{Progress}
 use Rattle.source_pool.specs.Basis.{Basis}
-use Rattle.source_pool.specs.Course.{ComeBefore, IsLogged}
+use Rattle.source_pool.specs.Course.{IsLogged}
 use Rattle.source_pool.proofs.Lists.{all_at, all_from, all_joined, from_filter}
 
 -- ---- entries
@@ -41,7 +42,7 @@ none_from key (entry ∷ entries) all =
     ap (λ order. cond (not (is_lt order)) (entry ∷ entries_from (at_key key) entries) (entries_from (at_key key) entries)) all.0 ∙ none_from key entries all.1
 
 -- an entry comes behind those that are earlier
-put_behind : (key : Key) (text : List ℕ) (front back : List Entry) → AreBefore key front → with_entry key text (front ++ back) ≡ front ++ with_entry key text back
+pub put_behind : (key : Key) (text : List ℕ) (front back : List Entry) → AreBefore key front → with_entry key text (front ++ back) ≡ front ++ with_entry key text back
 put_behind key text front back all =
     let before : entries_before (at_key key) (front ++ back) ≡ front ++ entries_before (at_key key) back =
     filter-append (is_entry_before (at_key key)) front back ∙ ap (λ first. first ++ entries_before (at_key key) back) (all_before key front all) in
@@ -61,7 +62,7 @@ both_before front back [] first last = tt
 both_before front back (task ∷ tasks) first last =
     (all_joined (λ (entry : Entry). key_cmp entry.0 task.key ≡ Less) front back first.0 last.0, both_before front back tasks first.1 last.1)
 
-none_before : (tasks : List Task) → ComeBefore [] tasks
+pub none_before : (tasks : List Task) → ComeBefore [] tasks
 none_before [] = tt
 none_before (task ∷ tasks) = (tt, none_before tasks)
 

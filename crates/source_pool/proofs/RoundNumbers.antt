@@ -12,7 +12,7 @@ use Rattle.kdg_graph.specs.Nodes.{tasks_of}
 use Rattle.output_log.specs.Entries.{joined_by_key, joined_texts}
 use Rattle.app_laws.specs.Applications.{Application}
 use Rattle.app_laws.specs.Execution.{Execution}
-use Rattle.commuting.specs.Rounds.{after_round}
+use Rattle.commuting.specs.Rounds.{TakesRounds, after_round}
 use Rattle.commuting.specs.Standing.{IsEndWith}
 use Rattle.commuting.specs.States.{State, run_from}
 use Rattle.graph_update.specs.Progress.{Progress, whole_state}
@@ -23,17 +23,27 @@ use Rattle.kdg_graph.specs.Node.{Node}
 use Rattle.source_pool.proofs.Jobs.{node_of}
 use Rattle.source_pool.proofs.Lists.{all_at, here}
 use Rattle.source_pool.proofs.Logged.{texts_in_all}
-use Rattle.source_pool.specs.Course.{IsAtRest, NothingRuns}
-use Rattle.source_pool.specs.Laws.{IdleIsSound, IsSequentialEnd, RestWithoutNodesIsTheEnd, RoundsAdd, RoundsAreTaken, WholeIsHome}
+use Rattle.source_pool.specs.Course.{IsAtRest, LeadsByRounds, NothingRuns}
+use Rattle.source_pool.specs.Laws.{IsSequentialEnd, RestWithoutNodesIsTheEnd, RoundsAdd, RoundsAreTaken, WholeIsHome}
 
 module _ {V : Type 0} (app : Application V) where
   pub rounds_add : RoundsAdd app
   rounds_add zero state now leads some = (subst (λ (s : State V). s.pending ≢ []) leads some, ap (after_round app) leads)
   rounds_add (suc rounds) state now leads some = (leads.0, rounds_add rounds (after_round app state) now leads.1 some)
 
+  -- what takes so many rounds takes those on the way there and these
+  pub rounds_take_more : (rounds more : ℕ) (state now : State V) → LeadsByRounds app rounds state now → TakesRounds app more now → TakesRounds app (rounds + more) state
+  rounds_take_more zero more state now leads takes =
+      let all : more ≡ 0 + more = omega arith in
+      subst (λ n. TakesRounds app n state) all (subst (TakesRounds app more) leads takes)
+  rounds_take_more (suc rounds) more state now leads takes =
+      let all : suc (rounds + more) ≡ suc rounds + more = omega arith in
+      subst (λ n. TakesRounds app n state) all (leads.0, rounds_take_more rounds more (after_round app state) now leads.1 takes)
+
   pub rounds_are_taken : RoundsAreTaken app
-  rounds_are_taken zero state now leads empty = ap (λ (s : State V). s.pending) (sym leads) ∙ empty
-  rounds_are_taken (suc rounds) state now leads empty = (leads.0, rounds_are_taken rounds (after_round app state) now leads.1 empty)
+  rounds_are_taken rounds state now leads empty =
+      let all : rounds + 0 ≡ rounds = omega arith in
+      subst (λ n. TakesRounds app n state) all (rounds_take_more rounds 0 state now leads empty)
 
 module _ {V : Type 0} {app : Application V} (basis : Basis app) where
   no_cell_out : (now : Progress V) (values : List V) → IsSound app now [] values → AreAllHome now.cells
@@ -48,18 +58,6 @@ module _ {V : Type 0} {app : Application V} (basis : Basis app) where
   whole_is_home now values sound =
       let home = basis.agreement.all_home now.cells values sound.whole.home (no_cell_out now values sound) in
       (home, sym (basis.values.values_of_homes values) ∙ ap values_of (sym home))
-
-  -- no job without a running node
-  no_job : (now : Progress V) (jobs : List (Job V)) (values : List V) → IsSound app now jobs values → NothingRuns now.nodes → jobs ≡ []
-  no_job now [] values sound idle = refl
-  no_job now (job ∷ jobs) values sound idle =
-      let its = node_of basis now (job ∷ jobs) values job sound (here job jobs) in
-      absurd (true≢false (sym its.is.running ∙ all_at (λ (node : Node). node.running ≡ false) now.nodes its.node idle its.there))
-
-  pub idle_is_sound : IdleIsSound app
-  idle_is_sound now jobs values sound idle =
-      let alone = subst (λ jobs. IsSound app now jobs values) (no_job now jobs values sound idle) sound in
-      subst (IsSound app now []) (whole_is_home now values alone).1 alone
 
   -- the end of a run that is there
   sequential_end : (start : Progress V) (cells : List V) (now : Progress V) (state : State V) (text : List ℕ) (rest : IsAtRest app start cells state text now) (run : Option (Execution V))

@@ -6,10 +6,12 @@ use Rattle.cell_store.specs.Laws as cells
 use Rattle.output_log.specs.Laws as logs
 use Rattle.kdg_graph.specs.Laws as graph
 use Rattle.app_laws.specs.Applications.{Application, IsLawful}
+use Rattle.commuting.specs.Renaming.{ListedTasksComeToSame}
 use Rattle.commuting.specs.Rounds.{ClearTasksAreListed}
-use Rattle.commuting.specs.Standing.{StartsStandForThemselves, ClearTasksKeepStanding, NothingPendingIsTheEnd, TooManyTasksNeverEnd}
+use Rattle.commuting.specs.Standing.{StartsStandForThemselves, ClearTasksKeepStanding, NothingPendingIsTheEnd, RunsLogLater, RunsLogNewKeys, TooManyTasksNeverEnd}
 use Rattle.graph_update.specs.Finishes.{FinishesActOnWhole}
 use Rattle.graph_update.specs.Laws.{ClaimsKeepSound, FinishesKeepSound, MarksAndDrainsKeepSound, RecordedSetsSuffice, SomeIsClear}
+use Rattle.graph_update.specs.Renaming.{RenamingsKeepSound}
 use Rattle.graph_update.specs.StandingLaws.{ClearNodesStayClear}
 
 pub record Basis {V : Type 0} (app : Application V) : Type 0 where
@@ -19,10 +21,14 @@ pub record Basis {V : Type 0} (app : Application V) : Type 0 where
   pub acts_stand : ClearTasksKeepStanding app
   pub ends : NothingPendingIsTheEnd app
   pub too_many : TooManyTasksNeverEnd app
+  pub log_later : RunsLogLater app
+  pub log_new_keys : RunsLogNewKeys app
+  pub come_to_same : ListedTasksComeToSame app
   pub claims_keep_sound : ClaimsKeepSound app
   pub finishes_keep_sound : FinishesKeepSound app
   pub finishes_act : FinishesActOnWhole app
   pub drains_keep_sound : MarksAndDrainsKeepSound app
+  pub renamings_keep_sound : RenamingsKeepSound app
   pub suffice : RecordedSetsSuffice app
   pub some_clear : SomeIsClear app
   pub stay_clear : ClearNodesStayClear app
@@ -40,8 +46,13 @@ pub record Basis {V : Type 0} (app : Application V) : Type 0 where
   pub put_without : tasks.PutRestoresWithout
   pub without_others : tasks.WithoutKeepsOthers
   pub decided : sets.ConflictsAreDecided
+  pub before_end : logs.AllAreBeforeEnd
   pub earlier_first : logs.EarlierEntriesComeFirst
   pub texts_follow : logs.TextsFollow
+  pub joins_with_none : logs.JoinsWithNone
+  pub joins_commute : logs.JoinsCommute
+  pub joins_associate : logs.JoinsAssociate
+  pub silent_joins : logs.SilentJoinsAddNoText
   pub joins_take_puts : logs.JoinsTakePuts
   pub joins_add_lengths : logs.JoinsAddLengths
   pub agreement : cells.AgreementLasts V

@@ -1,9 +1,7 @@
 -- How far rounds of claims and ends have come since an execution in which nothing was running.
 use Rattle.std.specs.Prelude.{◌≡◌, ◌≢◌, ℕ, zero, suc, ◌+◌, not, false, List, [], ◌++◌, length, map, None, Contains}
 use Rattle.std.specs.List.{AllByRecursion, filter}
-use Rattle.std.specs.declared.cmp.Ordering.TheVariants.{Less}
 use Rattle.task_order.specs.declared.task.Task.{Task}
-use Rattle.task_order.specs.Key.{key_cmp}
 use Rattle.task_order.specs.TaskList.{IsAscending}
 use Rattle.output_log.specs.Entries.{Entry, joined_by_key, joined_texts}
 use Rattle.kdg_graph.specs.declared.node_id.NodeId.{NodeId}
@@ -12,7 +10,7 @@ use Rattle.kdg_graph.specs.Nodes.{ids_of, tasks_of}
 use Rattle.app_laws.specs.Order.{Pairwise}
 use Rattle.app_laws.specs.Applications.{Application, IsEffect, set_in}
 use Rattle.commuting.specs.Rounds.{after_round}
-use Rattle.commuting.specs.Standing.{StandsFor}
+use Rattle.commuting.specs.Standing.{ComeBefore, StandsFor}
 use Rattle.commuting.specs.States.{State, after_tasks}
 use Rattle.graph_update.specs.declared.job.Done.{Done}
 use Rattle.graph_update.specs.declared.job.Job.{Job}
@@ -41,10 +39,6 @@ pub record RunPoint (V : Type 0) : Type 0 where
   pub start : Progress V
   pub state : State V
   pub text : List ℕ
-
--- each entry is earlier than each task
-abbrev pub ComeBefore : List Entry → List Task → Type 0
-ComeBefore entries tasks = AllByRecursion (λ task. AllByRecursion (λ entry. key_cmp entry.0 task.key ≡ Less) entries) tasks
 
 -- The entries are those that were drained, whose text this is, and behind them those of the log. What was drained is earlier than
 -- all that is pending.

@@ -142,10 +142,6 @@ module _ {V : Type 0} (app : Application V) where
   RestWithoutNodesIsTheEnd = (start now : Progress V) (cells : List V) (state : State V) (text : List ℕ) →
       IsAtRest app start cells state text now → now.nodes ≡ [] → IsSequentialEnd start cells text now
 
-  -- where no node is running there are no jobs, and the whole cells are those of the store
-  abbrev pub IdleIsSound : Type 0
-  IdleIsSound = (now : Progress V) (jobs : List (Job V)) (values : List V) → IsSound app now jobs values → NothingRuns now.nodes → IsSound app now [] (values_of now.cells)
-
   -- while nothing is running, the whole cells are those of the store
   abbrev pub WholeIsHome : Type 0
   WholeIsHome = (now : Progress V) (values : List V) → IsSound app now [] values → (now.cells ≡ homes values) × (values ≡ values_of now.cells)

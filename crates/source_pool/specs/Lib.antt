@@ -2,6 +2,7 @@ pub mod Basis
 pub mod Course
 pub mod Faults
 pub mod Laws
+pub mod Legs
 pub mod Performing
 pub mod Runs
 pub mod Turns

@@ -1,11 +1,13 @@
 ghost use Rattle.source_pool.specs.Basis.{Basis};
-ghost use Rattle.source_pool.specs.Laws.{ActsBegin, ActsComeToRest, ActsGoOn, ClaimsGoOn, ClaimsStartOne, DrainsKeepRest, DrawingsBegin, DrawnJobsAreTheRound, DrawnJobsDiffer, EndsComeToRest, EndsGoOn, FirstMayAct, FirstMayEnd, IdleIsSound, RestWithoutNodesIsTheEnd, RoundsAdd, RoundsAreTaken, RoundsHaveActs, RoundsHaveJobs, StartsAreAtRest, TooManyActsNeverEnd, TooManyNeverEnd, WholeIsHome};
+ghost use Rattle.source_pool.specs.Legs.{LegsBegin, LegsGoOn, RenamingsGoOn};
+ghost use Rattle.source_pool.specs.Laws.{ActsBegin, ActsComeToRest, ActsGoOn, ClaimsGoOn, ClaimsStartOne, DrainsKeepRest, DrawingsBegin, DrawnJobsAreTheRound, DrawnJobsDiffer, EndsComeToRest, EndsGoOn, FirstMayAct, FirstMayEnd, RestWithoutNodesIsTheEnd, RoundsAdd, RoundsAreTaken, RoundsHaveActs, RoundsHaveJobs, StartsAreAtRest, TooManyActsNeverEnd, TooManyNeverEnd, WholeIsHome};
 
 use app_laws::{App, lawful};
 use cell_store::value_laws;
-use commuting::{round_laws as clear_round_laws, standing_laws};
+use commuting::{listed_tasks_come_to_same, round_laws as clear_round_laws, standing_laws};
 use graph_update::{
-    claim_laws, clear_laws, drain_laws, finish_state_laws, sound_finish_laws, stay_clear_laws,
+    claim_laws, clear_laws, drain_laws, finish_state_laws, renaming_laws, sound_finish_laws,
+    stay_clear_laws,
 };
 use kdg_graph::{node_laws, put_laws};
 use output_log::{join_laws, part_laws};
@@ -18,11 +20,13 @@ fn basis<A: App>()
 {
     lawful::<A>();
     clear_round_laws::<A>();
+    listed_tasks_come_to_same::<A>();
     standing_laws::<A>();
     claim_laws::<A>();
     sound_finish_laws::<A>();
     finish_state_laws::<A>();
     drain_laws::<A>();
+    renaming_laws::<A>();
     clear_laws::<A>();
     stay_clear_laws::<A>();
     node_laws();
@@ -93,9 +97,12 @@ pub fn rounds_laws<A: App>()
     basis::<A>();
 }
 
-/// Where no node is running, an execution is sound with no job.
-pub fn idle_laws<A: App>()
-    ensures { (app : A) → IdleIsSound (A.meaning app) }
+/// A run may be told in legs: what is left of it goes on from where the leg before came to, also where
+/// the pending tasks become first tasks there.
+pub fn leg_laws<A: App>()
+    ensures begins { (app : A) → LegsBegin (A.meaning app) }
+    ensures goes_on { (app : A) → LegsGoOn (A.meaning app) }
+    ensures renamed { (app : A) → RenamingsGoOn (A.meaning app) }
 {
     basis::<A>();
 }

@@ -12,7 +12,7 @@ mod performing;
 mod round_lists;
 mod rounds;
 
-pub use laws::{acting_laws, draining_laws, drawing_laws, ending_laws, idle_laws, rounds_laws};
+pub use laws::{acting_laws, draining_laws, drawing_laws, ending_laws, leg_laws, rounds_laws};
 pub use rounds::{RunFault, run_rounds};
 
 #[cfg(test)]

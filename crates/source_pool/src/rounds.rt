@@ -1,26 +1,29 @@
-ghost use Rattle.std.specs.Prelude.{◌≡◌, ◌≢◌, ◌<◌, ◌≤◌, [], None, IfOk, IfErr, OnOk};
+ghost use Rattle.std.specs.Prelude.{◌≡◌, ◌≢◌, ◌+◌, ◌<◌, ◌≤◌, ◌^◌, [], ◌++◌, None, IsTrue, IfOk, IfErr, OnOk};
 ghost use Rattle.cell_store.specs.Values.{values_of};
 ghost use Rattle.commuting.specs.Rounds.{after_round};
 ghost use Rattle.graph_update.specs.Progress.{Progress};
-ghost use Rattle.source_pool.specs.Course.{IsAtRest, NothingRuns, RunPoint};
+ghost use Rattle.output_log.specs.Entries.{with_texts};
+ghost use Rattle.source_pool.specs.Course.{IsAtRest, LeadsByRounds, NothingRuns, RunPoint};
+ghost use Rattle.source_pool.specs.Legs.{BeginsAtRest};
 ghost use Rattle.source_pool.specs.Runs.{IsRoundsEnd, IsRunFault, state_at_rest};
 
 use crate::acting::act_round;
 use crate::claiming::Picks;
 use crate::draining::drain;
 use crate::finishing::end_all;
-use crate::laws::{drawing_laws, idle_laws, rounds_laws};
+use crate::laws::{drawing_laws, leg_laws, rounds_laws};
 use crate::performing::{perform_round, stays_alone};
 use crate::round_lists::RoundLists;
 use app_laws::{App, Finals};
 use cell_store::Held;
-use graph_update::{Engine, FinishFault, OverCause};
+use graph_update::{Engine, FinishFault, OverCause, rest_laws};
 use kdg_text::{NoRoom, Steps, Text};
 use outer_edge::Gate;
 use std::alloc::Global;
 use std::marker::Brand;
 use std::sync::ledger::{Blank, Ledger};
 use std::thread::Threads;
+use task_order::Path;
 
 /// Why a run in rounds did not end.
 #[derive(Clone, Copy, Debug, PartialEq, Eq)]
@@ -99,7 +102,7 @@ pub fn run_rounds<'a, R: Threads + Sync, A: App + Sync, G: Gate + Sync>(
     ensures fault { IfErr result (IsRunFault (A.meaning engine.entry.app) engine.entry.progress) }
 {
     drawing_laws::<A>();
-    idle_laws::<A>();
+    rest_laws::<A>();
     // Its contract tells what every engine keeps: the execution is sound.
     let _graph = engine.graph();
     let blank = Blank::new(1);
@@ -107,6 +110,7 @@ pub fn run_rounds<'a, R: Threads + Sync, A: App + Sync, G: Gate + Sync>(
 }
 
 /// The rounds from one at whose beginning nothing runs, with a count of the sets that are asked for.
+/// Before each leg but the first the pending tasks get short paths.
 fn counted_rounds<'a, R: Threads + Sync, A: App + Sync, G: Gate + Sync, L: Ledger>(
     rt: &R,
     alloc: Global,
@@ -121,12 +125,15 @@ fn counted_rounds<'a, R: Threads + Sync, A: App + Sync, G: Gate + Sync, L: Ledge
     requires parts { blank.parts ≡ L.parts }
     requires some { 0 < blank.parts }
     requires workers { 1 ≤ workers }
-    requires rest { IsAtRest (A.meaning engine.app) start (values_of start.cells) (state_at_rest start) [] engine.progress }
+    requires rest { BeginsAtRest (A.meaning engine.app) start }
     requires begins { engine.progress ≡ start }
     ensures end { IfOk result (λ run. IsRoundsEnd (A.meaning engine.entry.app) start run.0 run.1) }
     ensures fit { IfOk result (λ run. (A.meaning engine.entry.app).is_fit_cells (values_of run.0.store)) }
     ensures fault { IfErr result (IsRunFault (A.meaning engine.entry.app) start) }
 {
+    drawing_laws::<A>();
+    leg_laws::<A>();
+    rest_laws::<A>();
     rounds_laws::<A>();
     let mut steps = Steps::<L>::new(blank);
     let mut picks = Picks::new(alloc, gate, seed);
@@ -134,21 +141,101 @@ fn counted_rounds<'a, R: Threads + Sync, A: App + Sync, G: Gate + Sync, L: Ledge
     let mut text = Text::new(alloc);
     let mut rounds = 0u64;
     while engine.graph().least().is_some() {
-        play_round(
+        let mut more = Text::new(alloc);
+        rounds += play_leg(
             rt,
             &mut engine,
             &mut picks,
             workers,
             &mut lists,
             &mut steps,
-            &mut text,
+            &mut more,
         )?;
-        rounds += 1;
+        text = joined(text, more)?;
+        engine = engine.renamed(&mut steps)?;
     }
     let mut finals = engine.end()?;
-    text.push_all(finals.text.bytes())?;
-    finals.text = text;
+    finals.text = joined(text, finals.text)?;
     Ok((finals, rounds))
+}
+
+/// The two texts, one behind the other. Where one is empty, nothing is copied.
+fn joined(text: Text, more: Text) -> Result<Text, NoRoom>
+    ensures { IfOk result (λ whole. whole ≡ text ++ more) }
+{
+    if text.is_empty() {
+        return Ok(more);
+    }
+    let mut text = text;
+    text.push_all(more.bytes())?;
+    Ok(text)
+}
+
+/// Plays a leg of an execution in which nothing runs and some task is pending: rounds until none is,
+/// or until the paths are to be short again. Its text comes into one that is empty. The answer is the
+/// number of rounds.
+fn play_leg<R: Threads + Sync, A: App + Sync, G: Gate + Sync, L: Ledger>(
+    rt: &R,
+    engine: &mut Engine<'_, A>,
+    picks: &mut Picks<'_, G>,
+    workers: u32,
+    lists: &mut RoundLists<A::Val>,
+    steps: &mut Steps<L>,
+    text: &mut Text,
+) -> Result<u64, RunFault>
+    ghost start: { Progress A.Val }
+    requires workers { 1 ≤ workers }
+    requires rest { IsAtRest (A.meaning engine.old.app) start (values_of start.cells) (state_at_rest start) [] engine.old.progress }
+    requires begins { engine.old.progress ≡ start }
+    requires limited { start.limit < 2 ^ 64 }
+    requires text { text.old ≡ [] }
+    requires some { engine.old.progress.nodes ≢ [] }
+    ensures app { engine.new.app ≡ engine.old.app }
+    ensures rest { OnOk result (IsAtRest (A.meaning engine.old.app) start (values_of start.cells) (state_at_rest engine.new.progress) text.new engine.new.progress) }
+    ensures leads { IfOk result (λ rounds. LeadsByRounds (A.meaning engine.old.app) rounds (state_at_rest start) (state_at_rest engine.new.progress)) }
+    ensures silent { OnOk result (with_texts engine.new.progress.log ≡ []) }
+    ensures ended { IfOk result (λ rounds. start.ended + rounds ≤ engine.new.progress.ended) }
+    ensures some_round { IfOk result (λ rounds. 0 < rounds) }
+    ensures fault { IfErr result (IsRunFault (A.meaning engine.old.app) start) }
+{
+    rounds_laws::<A>();
+    let ended = engine.ended();
+    let mut rounds = 0u64;
+    loop {
+        play_round(rt, engine, picks, workers, lists, steps, text)?;
+        rounds += 1;
+        if ends_leg(engine, ended) {
+            return Ok(rounds);
+        }
+    }
+}
+
+/// Whether a leg ends that began when so many tasks had ended: no task is pending, or else so many have
+/// ended since that new paths take little beside them, the earliest one's path is long, and no text is
+/// logged that waits for a task.
+fn ends_leg<A: App>(engine: &Engine<'_, A>, ended: u64) -> bool
+    requires drained { engine.now.progress.nodes ≡ [] → engine.now.progress.log ≡ [] }
+    ensures ended { engine.now.progress.nodes ≡ [] → IsTrue result }
+    ensures silent { IsTrue result → with_texts engine.now.progress.log ≡ [] }
+{
+    match engine.graph().least() {
+        Some(least) => {
+            is_enough(engine.ended().saturating_sub(ended), engine.graph().len())
+                && is_long(&engine.graph().task(least).key.path)
+                && engine.is_silent()
+        }
+        None => true,
+    }
+}
+
+/// Whether a leg of so many tasks may end where so many are pending, of which each gets a new path.
+fn is_enough(tasks: u64, pending: usize) -> bool {
+    tasks / 32 >= (pending as u64).saturating_add(2)
+}
+
+/// Whether a path is kept as eight bytes or more.
+fn is_long(path: &Path) -> bool {
+    path.beginning() % 256 != 0
 }
 
 /// Plays one round of an execution in which nothing runs: draws the jobs of all clear tasks, has
@@ -171,6 +258,7 @@ fn play_round<R: Threads + Sync, A: App + Sync, G: Gate + Sync, L: Ledger>(
     requires some { engine.old.progress.nodes ≢ [] }
     ensures app { engine.new.app ≡ engine.old.app }
     ensures rest { OnOk result (IsAtRest (A.meaning engine.old.app) from.start (values_of from.start.cells) (after_round (A.meaning engine.old.app) from.state) text.new engine.new.progress) }
+    ensures drained { OnOk result (engine.new.progress.nodes ≡ [] → engine.new.progress.log ≡ []) }
     ensures ended { OnOk result (engine.old.progress.ended < engine.new.progress.ended) }
     ensures fault { IfErr result (IsRunFault (A.meaning engine.old.app) from.start) }
 {

@@ -7,7 +7,7 @@ pub counted_rounds-requires : goal.counted_rounds-requires
 counted_rounds-requires g c κs within =
     let progress = c.args.engine.progress in
     let kept = c.graph-graph.ensures.kept in
-    let sound = c.idle_laws.ensures c.args.engine.app progress kept.jobs kept.values kept.sound c.requires.at_rest in
+    let sound = c.rest_laws.ensures.idle c.args.engine.app progress kept.jobs kept.values kept.sound c.requires.at_rest in
     let rest = c.drawing_laws.ensures.starts c.args.engine.app progress (values_of progress.cells) sound c.requires.not_over in
     let some : 0 < c.new-blank.result.parts = omega (arith, c.new-blank.ensures) in
     let sent = c.type_bounds.send-A-Val in (
