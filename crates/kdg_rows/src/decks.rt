@@ -20,6 +20,10 @@ pub const C17_STIMULUS_PRINT: &str =
 /// A gate that reads itself, with a stimulus.
 pub const RING: &str = "INPUT(a)\nOUTPUT(q)\nq = NAND(a, q)\n@ 2 1\n";
 
+/// A ring of five gates that feeds back, so that it changes for ever.
+pub const FEEDBACK: &str =
+    "OUTPUT(s4)\ns0 = XNOR(s4, s2)\ns1 = BUFF(s0)\ns2 = BUFF(s1)\ns3 = BUFF(s2)\ns4 = BUFF(s3)\n";
+
 /// c17 with a stimulus that has four bits for five inputs.
 pub const C17_SHORT_STIMULUS: &str =
     "INPUT(1)\nINPUT(2)\nINPUT(3)\nINPUT(6)\nINPUT(7)\nOUTPUT(22)\nOUTPUT(23)\n10 = NAND(1, 3)\n11 = NAND(3, 6)\n16 = NAND(2, 11)\n19 = NAND(11, 7)\n22 = NAND(10, 16)\n23 = NAND(16, 19)\n@ 3 1011\n";

@@ -3,7 +3,7 @@
 use crate::answering::{MODES, answer, answer_in, tells_more_than};
 use crate::decks::{
     C17, C17_CUT, C17_PRINT, C17_ROUNDS_PRINT, C17_SHORT_STIMULUS, C17_STIMULUS,
-    C17_STIMULUS_PRINT, C17_WITH_HEADER, RING,
+    C17_STIMULUS_PRINT, C17_WITH_HEADER, FEEDBACK, RING,
 };
 use crate::matrices::DIAGONAL;
 use crate::meshes::SPRING;
@@ -77,6 +77,21 @@ fn runs_are_in_rounds_unless_another_mode_is_named(rt: HostRuntime) -> Result<()
         assert_eq!(rt; answered, Status::Ok, "{words} {input}");
         assert_eq!(rt; sink.held(), print.as_bytes(), "{words} {input}");
     }
+    Ok(())
+}
+
+#[test]
+fn a_long_run_prints_the_same_in_both_modes(rt: HostRuntime) -> Result<(), Fail> {
+    let words = "sim --until 400";
+    let (serial, wanted) = answer_in(&rt, rt.alloc(), "serial", words, FEEDBACK, 4096)?;
+    let (rounds, print) = answer_in(&rt, rt.alloc(), "rounds", words, FEEDBACK, 4096)?;
+    assert_eq!(rt; (serial, rounds), (Status::Ok, Status::Ok));
+    assert_eq!(rt; print.held(), wanted.held());
+    assert!(rt;
+        print
+            .held()
+            .ends_with(b"399 s4 0\nfinal s4 0\ntasks 2284\n")
+    );
     Ok(())
 }
 
