@@ -7,3 +7,4 @@ mod Moves
 mod Returns
 mod Independent
 mod Values
+mod AtHome

@@ -66,6 +66,14 @@ TakingForgetsGiving V = (cells : List (Cell V)) (part : Part V) (set : Accesses)
 abbrev pub RegainsWhatWasGiven : Type 0 → Type 0
 RegainsWhatWasGiven V = (cells : List (Cell V)) (bundle : Part V) → IsBundle bundle → AreWrittenOut cells bundle.set → bundle_of (cells_given cells bundle) (shell_of bundle) ≡ bundle
 
+-- a write of a cell where it is, and of the part that has it
+pub record WritesAtHome (V : Type 0) : Type 0 where
+  pub given : (cells : List (Cell V)) (part : Part V) (loc : ℕ) (value : V) → IsPart part → IsTrue (writes part.set loc) → slice_set (cells_given cells part) loc (Home value) ≡ cells_given cells (with_value part loc value)
+  pub taken_and_given : (cells : List (Cell V)) (set : Accesses) (loc : ℕ) (value : V) → IsAscending set → AreHome cells set → IsTrue (writes set loc) → slice_set cells loc (Home value) ≡ cells_given (cells_taken cells set) (with_value (part_of cells set) loc value)
+  pub part : (cells : List (Cell V)) (set : Accesses) (loc : ℕ) (value : V) → IsAscending set → loc < length cells → part_of (slice_set cells loc (Home value)) set ≡ with_value (part_of cells set) loc value
+  pub taken : (cells : List (Cell V)) (set : Accesses) (loc : ℕ) (value : V) → IsTrue (writes set loc) → cells_taken (slice_set cells loc (Home value)) set ≡ cells_taken cells set
+  pub home : (cells : List (Cell V)) (set : Accesses) (loc : ℕ) (value : V) → AreHome cells set → AreHome (slice_set cells loc (Home value)) set
+
 -- takes and gives of independent sets can change places
 pub record IndependentOrder (V : Type 0) : Type 0 where
   pub takes : (cells : List (Cell V)) (a b : Accesses) → cells_taken (cells_taken cells a) b ≡ cells_taken (cells_taken cells b) a

@@ -1,4 +1,4 @@
-ghost use Rattle.cell_store.specs.Laws.{LookupsDetermineCells, LookupsDetermineParts, TakenByLocation, GivenByLocation, PartsByLocation, WritesByLocation, ShellsByLocation, GivesBackWhatWasTaken, TakesBackWhatWasGiven, GivingForgetsTaking, TakingForgetsGiving, RegainsWhatWasGiven, IndependentOrder, IndependentTake, IndependentGive, HomesByLocation, HomesAreValues, AgreementLasts, GivesNewValues, ValueChanges};
+ghost use Rattle.cell_store.specs.Laws.{LookupsDetermineCells, LookupsDetermineParts, TakenByLocation, GivenByLocation, PartsByLocation, WritesByLocation, ShellsByLocation, GivesBackWhatWasTaken, TakesBackWhatWasGiven, GivingForgetsTaking, TakingForgetsGiving, RegainsWhatWasGiven, IndependentOrder, IndependentTake, IndependentGive, WritesAtHome, HomesByLocation, HomesAreValues, AgreementLasts, GivesNewValues, ValueChanges};
 
 /// What is taken and given, one location at a time.
 pub fn location_laws<V>()
@@ -25,6 +25,11 @@ pub fn independence_laws<V>()
     ensures order { IndependentOrder V }
     ensures take { IndependentTake V }
     ensures give { IndependentGive V }
+{}
+
+/// A write of a cell that is home is the write of the part that has it.
+pub fn home_laws<V>()
+    ensures { WritesAtHome V }
 {}
 
 /// Cells that are all home are their values, and agree with them while some are out.

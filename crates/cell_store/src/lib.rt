@@ -16,5 +16,5 @@ mod tests;
 pub use bundle::{Bundle, Shell};
 pub use cell::{Cell, Seen};
 pub use held::Held;
-pub use laws::{independence_laws, location_laws, return_laws, value_laws};
+pub use laws::{home_laws, independence_laws, location_laws, return_laws, value_laws};
 pub use store::Store;

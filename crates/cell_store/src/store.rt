@@ -1,7 +1,7 @@
-ghost use Rattle.std.specs.Prelude.{◌≡◌, ℕ, ◌<◌, ◌^◌, length, map, vec_len, IsTrue, IfOk, OnOk, OnErr};
+ghost use Rattle.std.specs.Prelude.{◌≡◌, ℕ, ◌<◌, ◌^◌, length, map, slice_set, vec_len, IsTrue, IfOk, OnOk, OnErr};
 ghost use Rattle.rw_sets.specs.Accesses.{IsAscending, writes};
 ghost use Rattle.cell_store.specs.declared.cell.Cell.TheVariants.{Home};
-ghost use Rattle.cell_store.specs.Home.{cell_seen};
+ghost use Rattle.cell_store.specs.Home.{IsHome, cell_seen};
 ghost use Rattle.cell_store.specs.Storage.{cells_of};
 ghost use Rattle.cell_store.specs.Cells.{cell_at, AreHome, AreWrittenHome, AreWrittenOut, IsBundle, part_of, cells_taken, cells_given, shell_of, bundle_of, read_copy, with_written};
 
@@ -63,6 +63,24 @@ impl<V: Held> Store<V> {
         }
     }
 
+    /// The value of a cell that is home.
+    #[inline(always)]
+    pub fn value(&self, loc: u32) -> &V
+        requires { IsHome (cell_at self.now loc) }
+        ensures { cell_at self.now loc ≡ Home result.now }
+    {
+        self.cells[loc as usize].value()
+    }
+
+    /// Puts another value into a cell, where it is. What the cell had is dropped.
+    #[inline(always)]
+    pub fn put(&mut self, loc: u32, value: V)
+        requires { loc < length self.old }
+        ensures { self.new ≡ slice_set self.old loc (Home value) }
+    {
+        self.cells[loc as usize] = Cell::Home(value);
+    }
+
     /// Takes the cells of a set: moves out those that it writes, and copies those that it reads.
     /// After `NoRoom` the store is as it was.
     #[inline(always)]
@@ -118,6 +136,20 @@ impl<V: Held> Store<V> {
         let Shell { set, mut cells } = shell;
         self.exchange(set.items(), &mut cells);
         Bundle { set, cells }
+    }
+
+    /// Drops the values of the cells that a set writes, and leaves these cells out.
+    #[inline(never)]
+    pub fn drop_written(&mut self, set: &RwSet)
+        requires { AreWrittenHome self.old set.now }
+        ensures taken { self.new ≡ cells_taken self.old set.now }
+        ensures out { AreWrittenOut self.new set.now }
+    {
+        for (loc, access) in set.items() {
+            if access.is_write() {
+                self.cells[*loc as usize] = Cell::Out;
+            }
+        }
     }
 
     /// Exchanges the cells that a set writes with those that are held in the order of the set.

@@ -57,6 +57,22 @@ fn gives_and_regains(rt: HostRuntime) -> Result<(), Fail> {
     Ok(())
 }
 
+#[test]
+fn writes_and_drops_at_home(rt: HostRuntime) -> Result<(), Fail> {
+    let alloc = rt.alloc();
+    let set = write_first_read_second(alloc)?;
+    let mut store = Store::new(alloc, vec![in alloc; 10u64, 20, 30]?)?;
+    store.put(0, 11);
+    assert_eq!(rt; (*store.value(0), *store.value(1)), (11, 20));
+    store.drop_written(&set);
+    assert_eq!(rt; store.peek(0), Seen::Out);
+    assert_eq!(rt;
+        (store.peek(1), store.peek(2)),
+        (Seen::At(&20), Seen::At(&30))
+    );
+    Ok(())
+}
+
 /// Takes a set and gives it back with another value at one location.
 fn rewrite<V: Held>(store: &mut Store<V>, set: RwSet, loc: u32, value: V) -> Result<(), NoRoom>
     requires home { AreHome store.old set }
