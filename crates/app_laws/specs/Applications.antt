@@ -12,7 +12,7 @@ use Rattle.rw_sets.specs.Accesses.{Accesses, access_at, writes, merged, Conflict
 use Rattle.cell_store.specs.declared.cell.Cell.{Cell}
 use Rattle.cell_store.specs.declared.cell.Cell.TheVariants.{Out}
 use Rattle.cell_store.specs.Part.{Part}
-use Rattle.cell_store.specs.Cells.{cell_at, part_of}
+use Rattle.cell_store.specs.Cells.{cell_at, part_of, cells_taken, cells_given}
 use Rattle.cell_store.specs.Values.{homes}
 pub use Rattle.cell_store.specs.Values.{AgreesWith}
 use Rattle.app_laws.specs.declared.child.Child.{Child}
@@ -85,6 +85,13 @@ module _ {V : Type 0} (app : Application V) where
   -- the effect is what the operator makes of all cells of the application of which the task takes this bundle
   abbrev pub IsEffect : Task → Part V → Effect V → Type 0
   IsEffect task bundle effect = (cells : List V) → app.is_fit_cells cells → bundle ≡ part_of (homes cells) (set_in cells task) → effect ≡ effect_of task cells
+
+  -- these children and this text are what the task makes of the part of the old cells that the set names, and the new cells
+  -- are the old ones where that part was taken and is given back as the task leaves it
+  pub record IsDoneAtHome (task : Task) (set : Accesses) (old : List (Cell V)) (children : List Child) (text : List ℕ) (new : List (Cell V)) : Type 0 where
+    pub bundle : Part V
+    pub effect : IsEffect task (part_of old set) (record { bundle = bundle; children = children; text = text })
+    pub given : new ≡ cells_given (cells_taken old set) bundle
 
   -- Laws. Each speaks of the application's own cells and tasks alone.
 

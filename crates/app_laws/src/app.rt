@@ -1,4 +1,6 @@
-ghost use Rattle.std.specs.Prelude.{◌≡◌, ◌+◌, length, ℕ, List, IfOk, IfErr};
+ghost use Rattle.std.specs.Prelude.{◌≡◌, ◌+◌, length, ℕ, List, Ok, Err, IfOk, IfErr, OnErr};
+ghost use Rattle.cell_store.specs.Cells.{AreHome, AreWrittenOut, part_of, cells_given};
+ghost use Rattle.cell_store.specs.Part.{Part};
 
 use crate::ChildList;
 use cell_store::{Bundle, Held, Store};
@@ -29,7 +31,7 @@ pub enum SetAnswer {
 pub trait App {
     ghost use Rattle.task_order.specs.declared.task.Body.{Body};
     ghost use Rattle.task_order.specs.declared.task.Task.{Task};
-    ghost use Rattle.app_laws.specs.Applications.{Application, AgreesWith, AreFitTasks, IsFitTask, IsTaken, IsEffect, tasks_before, CellsAreCounted, SetsAreInRange, ActsAreFit, SetsAreLocal, ActsAreLocal, ActsIgnorePaths, ChildrenComeNoEarlier, SetsStayWithin, WalksAreTrue, FixedSetsAreKnown, IsSafeAlone, SafeTasksStaySafe, SafetyIgnoresPaths};
+    ghost use Rattle.app_laws.specs.Applications.{Application, AgreesWith, AreFitTasks, IsFitTask, IsTaken, IsEffect, IsDoneAtHome, tasks_before, CellsAreCounted, SetsAreInRange, ActsAreFit, SetsAreLocal, ActsAreLocal, ActsIgnorePaths, ChildrenComeNoEarlier, SetsStayWithin, WalksAreTrue, FixedSetsAreKnown, IsSafeAlone, SafeTasksStaySafe, SafetyIgnoresPaths};
 
     /// What a cell holds.
     type Val: Held;
@@ -84,6 +86,21 @@ pub trait App {
         ensures effect { IfOk result (IsEffect (meaning self.now) task.now bundle) }
         ensures returned { IfErr result (λ back. back ≡ bundle) };
 
+    /// Does what the task does on cells that are home, and leaves them there: as where the bundle of
+    /// its set is taken, `run` works on it, and it is given back. An application may do so without a
+    /// bundle, which takes less time. Where memory runs out, the cells are as they were.
+    fn run_at_home(
+        &self,
+        task: &Task,
+        set: &RwSet,
+        store: &mut Store<Self::Val>,
+    ) -> Result<(ChildList, Text), NoRoom>
+        requires fit { IsFitTask (meaning self.now) task.now }
+        requires home { AreHome store.old set.now }
+        requires cells { IsTaken (meaning self.now) task.now (part_of store.old set.now) }
+        ensures done { IfOk result (λ made. IsDoneAtHome (meaning self.now) task.now set.now store.old made.0 made.1 store.new) }
+        ensures unchanged { OnErr result (store.new ≡ store.old) };
+
     /// The application's cells have one value for each location.
     ghost cells_are_counted: { (app : Self) → CellsAreCounted (meaning app) };
 
@@ -123,4 +140,34 @@ pub trait App {
 
     /// Nor is it told by paths whether a task is safe.
     ghost safety_ignores_paths: { (app : Self) → SafetyIgnoresPaths (meaning app) };
+}
+
+/// Gives back the bundle of a task that ran, or with which it came back where memory ran out. After
+/// `take` and `run` it ends an application's `run_at_home` that has no shorter way.
+#[inline(always)]
+pub fn give_back<V: Held>(
+    store: &mut Store<V>,
+    ran: Result<Effect<V>, Bundle<V>>,
+) -> Result<(ChildList, Text), NoRoom>
+    requires effect { IfOk ran (λ effect. AreWrittenOut store.old effect.bundle.set) }
+    requires returned { IfErr ran (λ back. AreWrittenOut store.old back.set) }
+    ensures done { IfOk result (λ made. (bundle : Part V) × (ran ≡ Ok (record { bundle = bundle; children = made.0; text = made.1 })) × (store.new ≡ cells_given store.old bundle)) }
+    ensures unchanged { OnErr result ((back : Part V) × (ran ≡ Err back) × (store.new ≡ cells_given store.old back)) }
+{
+    match ran {
+        Ok(
+            Effect {
+                bundle,
+                children,
+                text,
+            },
+        ) => {
+            let _ = store.give(bundle);
+            Ok((children, text))
+        }
+        Err(back) => {
+            let _ = store.give(back);
+            Err(NoRoom)
+        }
+    }
 }

@@ -1,8 +1,8 @@
 ghost use Rattle.std.specs.Prelude.{◌≡◌, ◌+◌, ◌<◌, ◌^◌, IfOk, IfErr};
 ghost use Rattle.example_app.specs.Introduction.{children_of, contact_after, line_of, meeting_set};
 
-use app_laws::{App, Child, ChildList, Effect, SetAnswer};
-use cell_store::{Bundle, Seen, Store, location_laws, value_laws};
+use app_laws::{App, Child, ChildList, Effect, SetAnswer, give_back};
+use cell_store::{Bundle, Seen, Store, location_laws, return_laws, value_laws};
 use kdg_text::{NoRoom, Steps, Text, push_u64};
 use rw_sets::{Access, RwSet};
 use std::alloc::Global;
@@ -110,6 +110,17 @@ impl App for Introductions {
             children,
             text,
         })
+    }
+
+    fn run_at_home(
+        &self,
+        task: &Task,
+        set: &RwSet,
+        store: &mut Store<u64>,
+    ) -> Result<(ChildList, Text), NoRoom> {
+        return_laws::<u64>();
+        let bundle = store.take(set)?;
+        give_back(store, self.run(task, bundle))
     }
 
     ghost cells_are_counted = { lawful.cells_are_counted };
