@@ -9,7 +9,7 @@ ghost use Rattle.app_laws.specs.Order.{AreApart, Pairwise};
 ghost use Rattle.app_laws.specs.Renumbering.{AreRenumbered, MayBeRenumbered};
 ghost use Rattle.app_laws.specs.Serial.{IsRun, IsFault};
 
-use crate::{App, Child, ChildList, Effect, SetAnswer, lawful, naming_laws, starts_by_path};
+use crate::{App, Child, ChildList, SetAnswer, lawful, naming_laws, starts_by_path};
 use cell_store::{Held, Store, value_laws};
 use kdg_text::{NoRoom, Steps, Text};
 use std::alloc::Global;
@@ -212,8 +212,7 @@ fn store_of<A: App>(alloc: Global, app: &A, cells: Vec<A::Val>) -> Result<Store<
     Store::new(alloc, cells)
 }
 
-/// Lets a task act on the cells, which are all home: finds out its set, and runs it on its bundle,
-/// which comes home again.
+/// Lets a task act on the cells, which are all home: finds out its set, and runs it on them there.
 #[inline(always)]
 fn act<A: App, L: Ledger>(
     app: &A,
@@ -237,20 +236,7 @@ fn act<A: App, L: Ledger>(
         SetAnswer::Known(set) => set,
         SetAnswer::Out(_) => unreachable!(),
     };
-    let bundle = store.take_owned(set)?;
-    match app.run(task, bundle) {
-        Ok(
-            Effect {
-                bundle,
-                children,
-                text,
-            },
-        ) => {
-            let _ = store.give(bundle);
-            Ok((children, text))
-        }
-        Err(_) => Err(NoRoom),
-    }
+    app.run_at_home(task, &set, store)
 }
 
 /// The first tasks, with their keys.
