@@ -11,8 +11,8 @@ use crate::finals::finals;
 use crate::start::{first_cells, first_tasks};
 use crate::step::{Change, plan, write_lines};
 use crate::touched::{first_out, touched};
-use app_laws::{App, ChildList, Effect, SetAnswer};
-use cell_store::{Bundle, Seen, Store, location_laws, value_laws};
+use app_laws::{App, ChildList, Effect, SetAnswer, give_back};
+use cell_store::{Bundle, Seen, Store, location_laws, return_laws, value_laws};
 use kdg_text::{NoRoom, Steps, Text};
 use mtx_reader::Pattern;
 use rw_sets::RwSet;
@@ -144,6 +144,18 @@ impl App for Matrix {
                 })
             }
         }
+    }
+
+    #[inline(always)]
+    fn run_at_home(
+        &self,
+        task: &Task,
+        set: &RwSet,
+        store: &mut Store<Line2>,
+    ) -> Result<(ChildList, Text), NoRoom> {
+        return_laws::<Line2>();
+        let bundle = store.take(set)?;
+        give_back(store, self.run(task, bundle))
     }
 
     ghost cells_are_counted = { λ pattern. lawful.cells_are_counted pattern.rows pattern.cols };

@@ -7,8 +7,8 @@ ghost use Rattle.spring_mesh.specs.Meaning.{IsFitCells, children_of, ends_of, fi
 
 use crate::motion::{brought_to, ends_after};
 use crate::{MeshFile, MeshNode, Spring};
-use app_laws::{App, Child, ChildList, Effect, SetAnswer};
-use cell_store::{Bundle, Held, Seen, Store, location_laws, value_laws};
+use app_laws::{App, Child, ChildList, Effect, SetAnswer, give_back};
+use cell_store::{Bundle, Held, Seen, Store, location_laws, return_laws, value_laws};
 use kdg_text::{NoRoom, Steps, Text, push_i64, push_u64};
 use rw_sets::{Access, RwSet};
 use std::alloc::Global;
@@ -225,6 +225,18 @@ impl App for Mesh {
             children,
             text: Text::new(self.alloc),
         })
+    }
+
+    #[inline(always)]
+    fn run_at_home(
+        &self,
+        task: &Task,
+        set: &RwSet,
+        store: &mut Store<MeshNode>,
+    ) -> Result<(ChildList, Text), NoRoom> {
+        return_laws::<MeshNode>();
+        let bundle = store.take(set)?;
+        give_back(store, self.run(task, bundle))
     }
 
     ghost cells_are_counted = { lawful.cells_are_counted };

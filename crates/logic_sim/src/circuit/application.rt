@@ -8,8 +8,8 @@ ghost use Rattle.logic_sim.specs.Wiring.{readers_of};
 use super::Circuit;
 use crate::event::{CHANGE, change_start, eval_start, push_change};
 use crate::gate::computed_value;
-use app_laws::{App, Child, ChildList, Effect, SetAnswer};
-use cell_store::{Bundle, Store, location_laws, value_laws};
+use app_laws::{App, Child, ChildList, Effect, SetAnswer, give_back};
+use cell_store::{Bundle, Store, location_laws, return_laws, value_laws};
 use kdg_text::{NoRoom, Steps, Text};
 use rw_sets::{Access, RwSet};
 use std::alloc::Global;
@@ -72,6 +72,18 @@ impl App for Circuit {
         } else {
             self.evaluation_effect(time, at, bundle)
         }
+    }
+
+    #[inline(always)]
+    fn run_at_home(
+        &self,
+        task: &Task,
+        set: &RwSet,
+        store: &mut Store<u8>,
+    ) -> Result<(ChildList, Text), NoRoom> {
+        return_laws::<u8>();
+        let bundle = store.take(set)?;
+        give_back(store, self.run(task, bundle))
     }
 
     ghost cells_are_counted = { lawful.cells_are_counted };
