@@ -1,11 +1,9 @@
 -- What events make of their bundles is what the operator makes of all cells.
-use Rattle.std.proofs.Common.{◌≡◌, ◌≢◌, ◌∙◌, ℕ, ◌+◌, ◌*◌, ◌<◌, List, [], ◌∷◌, length, map, true, false, ap, sym, refl, subst, arith}
+use Rattle.std.proofs.Common.{◌≡◌, ◌∙◌, ℕ, ◌<◌, Bool, true, false, List, [], ◌∷◌, length, map, ap, sym, refl, subst, arith}
 use Rattle.std.specs.Prelude.{◌==◌, if◌then◌else◌, IsSome, slice_index, slice_set}
 use Rattle.std.specs.List.{AllByRecursion}
-use Rattle.std.proofs.lemmas.Bool.{eq-eqb, ne_eqb}
 use Rattle.bench_reader.specs.declared.deck.Form.{Form}
 use Rattle.bench_reader.specs.declared.deck.Form.TheVariants.{Input, Gate}
-use Rattle.bench_reader.specs.declared.deck.Signal.{Signal}
 use Rattle.task_order.specs.declared.start.Start.{Start}
 use Rattle.task_order.specs.declared.task.Task.{Task}
 use Rattle.rw_sets.specs.Accesses.{Accesses, IsAscending, access_at}
@@ -18,7 +16,7 @@ use Rattle.app_laws.specs.declared.app.Effect.{Effect}
 use Rattle.app_laws.specs.declared.child.Child.{Child}
 use Rattle.app_laws.specs.Applications.{IsEffect}
 use Rattle.app_laws.specs.Execution.{Outcome}
-use Rattle.logic_sim.specs.Bundles.{child_of, computed_from, effect_on, held_value, value_of, IsEffectOn}
+use Rattle.logic_sim.specs.Bundles.{child_of, computed_from, effect_on, held_in, value_of, values_held, IsEffectOn}
 use Rattle.logic_sim.specs.Circuit.{IsFitCells}
 use Rattle.logic_sim.specs.Event.{Simulation, change_of, change_text, computed_by, eval_at, eval_of, event_of, next_changes, nothing_done, plan_of, plan_place, time_of, value_in, value_place}
 use Rattle.logic_sim.specs.Gate.{gate_value}
@@ -48,36 +46,46 @@ module _ {set : Accesses} {bundle : Part ℕ} {cells : List ℕ} (taken : IsTake
   cell_found loc named =
       ap (λ (part : Part ℕ). cell_in part loc) taken.is ∙ taken.laws.parts.each (homes cells) set loc named ∙ taken.laws.values.in_range cells loc 0 (taken.below loc named)
 
-  value_found : (loc found : ℕ) → IsSome (access_at set loc) → cell_in bundle loc ≡ Home found → found ≡ slice_index cells loc
-  value_found loc found named at =
-      let same : Home found ≡ Home (slice_index cells loc) = sym at ∙ cell_found loc named in (cc)
+  held_found : (loc : ℕ) → IsSome (access_at set loc) → held_in bundle loc ≡ slice_index cells loc
+  held_found loc named = ap value_of (cell_found loc named)
 
-  -- the event finds what it would write
-  idle_effect : (c : Simulation) (loc found value : ℕ) (other : Outcome ℕ) → IsSome (access_at set loc) → cell_in bundle loc ≡ Home found → found ≡ value
-      → ◌≡◌ {A = Effect ℕ} (record { bundle = bundle; children = []; text = [] }) (effect_on c set (if slice_index cells loc == value then nothing_done cells else other))
-  idle_effect c loc found value other named at same =
-      let test : (slice_index cells loc == value) ≡ true = eq-eqb (slice_index cells loc) value (sym (value_found loc found named at) ∙ same) in
-      rw test (same_effects taken.is refl refl)
+  -- the event finds what it would write, or writes it
+  decided_effect : (c : Simulation) (loc value : ℕ) (starts : List Start) (line : List ℕ) (idle : Bool) → IsSome (access_at set loc)
+      → ◌≡◌ {A = Effect ℕ} (record { bundle = if idle then bundle else with_value bundle loc value; children = if idle then [] else map (child_of c) starts; text = if idle then [] else line })
+      (effect_on c set (if idle then nothing_done cells else record { cells = slice_set cells loc value; children = starts; text = line }))
+  decided_effect c loc value starts line true named = same_effects taken.is refl refl
+  decided_effect c loc value starts line false named =
+      same_effects (ap (λ (part : Part ℕ). with_value part loc value) taken.is ∙ taken.laws.values.written cells set loc value taken.ascending (taken.below loc named)) refl refl
 
-  -- the event writes another value
-  acting_effect : (c : Simulation) (loc found value : ℕ) (children : List Start) (text : List ℕ) → IsSome (access_at set loc) → cell_in bundle loc ≡ Home found → found ≢ value
-      → ◌≡◌ {A = Effect ℕ} (record { bundle = with_value bundle loc value; children = map (child_of c) children; text = text })
-      (effect_on c set (if slice_index cells loc == value then nothing_done cells else record { cells = slice_set cells loc value; children = children; text = text }))
-  acting_effect c loc found value children text named at differs =
-      let test : (slice_index cells loc == value) ≡ false = ne_eqb (slice_index cells loc) value (λ same. differs (value_found loc found named at ∙ same)) in
-      rw test
-      (same_effects (ap (λ (part : Part ℕ). with_value part loc value) taken.is ∙ taken.laws.values.written cells set loc value taken.ascending (taken.below loc named)) refl refl)
+  put_effect : (c : Simulation) (loc value : ℕ) (starts : List Start) (line : List ℕ) (left : Part ℕ) (children : List Child) (text : List ℕ) → IsSome (access_at set loc)
+      → left ≡ (if held_in bundle loc == value then bundle else with_value bundle loc value) → children ≡ (if held_in bundle loc == value then [] else map (child_of c) starts)
+      → text ≡ (if held_in bundle loc == value then [] else line)
+      → ◌≡◌ {A = Effect ℕ} (record { bundle = left; children = children; text = text })
+      (effect_on c set (if slice_index cells loc == value then nothing_done cells else record { cells = slice_set cells loc value; children = starts; text = line }))
+  put_effect c loc value starts line left children text named left-is children-are text-is =
+      same_effects left-is children-are text-is
+      ∙ subst
+      (λ (found : ℕ). ◌≡◌ {A = Effect ℕ} (record {
+        bundle = if held_in bundle loc == value then bundle else with_value bundle loc value;
+        children = if held_in bundle loc == value then [] else map (child_of c) starts;
+        text = if held_in bundle loc == value then [] else line;
+      }) (effect_on c set (if found == value then nothing_done cells else record { cells = slice_set cells loc value; children = starts; text = line })))
+      (held_found loc named) (decided_effect c loc value starts line (held_in bundle loc == value) named)
 
-  values_found : (fan_in : List ℕ) → AllByRecursion (λ signal. IsSome (access_at set (value_place signal))) fan_in → map (held_value bundle) fan_in ≡ map (value_in cells) fan_in
+  values_found : (fan_in : List ℕ) → AllByRecursion (λ signal. IsSome (access_at set (value_place signal))) fan_in → values_held (held_in bundle) fan_in ≡ map (value_in cells) fan_in
   values_found [] named = refl
   values_found (signal ∷ fan_in) named =
-      ap (λ (value : ℕ). value ∷ map (held_value bundle) fan_in) (ap value_of (cell_found (value_place signal) named.0))
+      ap (λ (value : ℕ). value ∷ values_held (held_in bundle) fan_in) (held_found (value_place signal) named.0)
       ∙ ap (λ (values : List ℕ). value_in cells signal ∷ values) (values_found fan_in named.1)
 
   -- what a gate computes from its bundle is what it computes from all cells
-  computed_found : (form : Form) → AllByRecursion (λ signal. IsSome (access_at set (value_place signal))) (fan_in_of form) → computed_from form bundle ≡ computed_by form cells
+  computed_found : (form : Form) → AllByRecursion (λ signal. IsSome (access_at set (value_place signal))) (fan_in_of form) → computed_from (held_in bundle) form ≡ computed_by form cells
   computed_found Input named = refl
   computed_found (Gate kind fan_in) named = ap (gate_value kind) (values_found fan_in named)
+
+nothing_either_way : (idle : Bool) (text : List ℕ) → text ≡ [] → text ≡ (if idle then [] else [])
+nothing_either_way true text is = is
+nothing_either_way false text is = is
 
 module _ (c : Simulation) (laws : HeldLaws) where
   changing : (signal : ℕ) (bundle : Part ℕ) (cells : List ℕ) → IsFitCells c cells → signal < length c.deck.signals → bundle ≡ part_of (homes cells) (change_set signal)
@@ -89,17 +97,14 @@ module _ (c : Simulation) (laws : HeldLaws) where
     is = is;
   }
 
-  pub change_idle : (time signal value found : ℕ) (bundle : Part ℕ) → signal < length c.deck.signals → cell_in bundle (2 * signal) ≡ Home found → found ≡ value
-      → IsEffectOn c (change_set signal) (change_of c time signal value) bundle (record { bundle = bundle; children = []; text = [] })
-  change_idle time signal value found bundle inside at same cells fit is =
-      idle_effect (changing signal bundle cells fit inside is) c (value_place signal) found value _ (change_set-named signal) at same
-
-  pub change_acting : (time signal value found : ℕ) (bundle : Part ℕ) (children : List Child) (text : List ℕ) → signal < length c.deck.signals → cell_in bundle (2 * signal) ≡ Home found → found ≢ value
-      → children ≡ map (child_of c) (map (eval_at time) (readers_of c.deck.signals signal)) → text ≡ change_text c.deck time signal value
-      → IsEffectOn c (change_set signal) (change_of c time signal value) bundle (record { bundle = with_value bundle (2 * signal) value; children = children; text = text })
-  change_acting time signal value found bundle children text inside at differs children-are text-is cells fit is =
-      same_effects refl children-are text-is
-      ∙ acting_effect (changing signal bundle cells fit inside is) c (value_place signal) found value (map (eval_at time) (readers_of c.deck.signals signal)) (change_text c.deck time signal value) (change_set-named signal) at differs
+  pub change_made : (time signal value : ℕ) (bundle left : Part ℕ) (children : List Child) (text : List ℕ) → signal < length c.deck.signals
+      → left ≡ (if held_in bundle (value_place signal) == value then bundle else with_value bundle (value_place signal) value)
+      → children ≡ (if held_in bundle (value_place signal) == value then [] else map (child_of c) (map (eval_at time) (readers_of c.deck.signals signal)))
+      → text ≡ (if held_in bundle (value_place signal) == value then [] else change_text c.deck time signal value)
+      → IsEffectOn c (change_set signal) (change_of c time signal value) bundle (record { bundle = left; children = children; text = text })
+  change_made time signal value bundle left children text inside left-is children-are text-is cells fit is =
+      put_effect (changing signal bundle cells fit inside is) c (value_place signal) value (map (eval_at time) (readers_of c.deck.signals signal)) (change_text c.deck time signal value) left children text
+      (change_set-named signal) left-is children-are text-is
 
   evaluating : (gate : ℕ) (bundle : Part ℕ) (cells : List ℕ) → IsFitCells c cells → gate < length c.deck.signals → bundle ≡ part_of (homes cells) (eval_set c.deck gate)
       → IsTakenBy (eval_set c.deck gate) bundle cells
@@ -110,29 +115,17 @@ module _ (c : Simulation) (laws : HeldLaws) where
     is = is;
   }
 
-  value_computed : (gate : ℕ) (bundle : Part ℕ) (cells : List ℕ) (signal : Signal) (value : ℕ) → IsFitCells c cells → gate < length c.deck.signals → bundle ≡ part_of (homes cells) (eval_set c.deck gate)
-      → signal ≡ signal_at c.deck.signals gate → value ≡ computed_from signal.form bundle → value ≡ computed_by (signal_at c.deck.signals gate).form cells
-  value_computed gate bundle cells signal value fit inside is signal-is value-is =
-      value-is ∙ ap (λ (s : Signal). computed_from s.form bundle) signal-is
-      ∙ computed_found (evaluating gate bundle cells fit inside is) (signal_at c.deck.signals gate).form (fan_in_named c gate)
-
-  pub evaluation_idle : (time gate value found : ℕ) (bundle : Part ℕ) (signal : Signal) → gate < length c.deck.signals → signal ≡ signal_at c.deck.signals gate → value ≡ computed_from signal.form bundle
-      → cell_in bundle (2 * gate + 1) ≡ Home found → found ≡ value
-      → IsEffectOn c (eval_set c.deck gate) (eval_of c time gate) bundle (record { bundle = bundle; children = []; text = [] })
-  evaluation_idle time gate value found bundle signal inside signal-is value-is at same cells fit is =
-      let computed = value_computed gate bundle cells signal value fit inside is signal-is value-is in
-      subst (λ (v : ℕ). ◌≡◌ {A = Effect ℕ} (record { bundle = bundle; children = []; text = [] }) (effect_on c (eval_set c.deck gate) (plan_of c time gate v cells))) computed
-      (idle_effect (evaluating gate bundle cells fit inside is) c (plan_place gate) found value _ (plan_named c gate) at same)
-
-  pub evaluation_acting : (time gate value found : ℕ) (bundle : Part ℕ) (signal : Signal) (children : List Child) → gate < length c.deck.signals → signal ≡ signal_at c.deck.signals gate
-      → value ≡ computed_from signal.form bundle → cell_in bundle (2 * gate + 1) ≡ Home found → found ≢ value → children ≡ map (child_of c) (next_changes c time gate value)
-      → IsEffectOn c (eval_set c.deck gate) (eval_of c time gate) bundle (record { bundle = with_value bundle (2 * gate + 1) value; children = children; text = [] })
-  evaluation_acting time gate value found bundle signal children inside signal-is value-is at differs children-are cells fit is =
-      let computed = value_computed gate bundle cells signal value fit inside is signal-is value-is in
-      subst
-      (λ (v : ℕ). ◌≡◌ {A = Effect ℕ} (record { bundle = with_value bundle (2 * gate + 1) value; children = children; text = [] }) (effect_on c (eval_set c.deck gate) (plan_of c time gate v cells)))
-      computed
-      (same_effects refl children-are refl ∙ acting_effect (evaluating gate bundle cells fit inside is) c (plan_place gate) found value (next_changes c time gate value) [] (plan_named c gate) at differs)
+  pub evaluation_made : (time gate value : ℕ) (bundle left : Part ℕ) (children : List Child) (text : List ℕ) → gate < length c.deck.signals
+      → value ≡ computed_from (held_in bundle) (signal_at c.deck.signals gate).form
+      → left ≡ (if held_in bundle (plan_place gate) == value then bundle else with_value bundle (plan_place gate) value)
+      → children ≡ (if held_in bundle (plan_place gate) == value then [] else map (child_of c) (next_changes c time gate value)) → text ≡ []
+      → IsEffectOn c (eval_set c.deck gate) (eval_of c time gate) bundle (record { bundle = left; children = children; text = text })
+  evaluation_made time gate value bundle left children text inside value-is left-is children-are text-is cells fit is =
+      let computed : value ≡ computed_by (signal_at c.deck.signals gate).form cells =
+      value-is ∙ computed_found (evaluating gate bundle cells fit inside is) (signal_at c.deck.signals gate).form (fan_in_named c gate) in
+      subst (λ (v : ℕ). ◌≡◌ {A = Effect ℕ} (record { bundle = left; children = children; text = text }) (effect_on c (eval_set c.deck gate) (plan_of c time gate v cells))) computed
+      (put_effect (evaluating gate bundle cells fit inside is) c (plan_place gate) value (next_changes c time gate value) [] left children text (plan_named c gate) left-is children-are
+      (nothing_either_way (held_in bundle (plan_place gate) == value) text text-is))
 
 -- what is made of a bundle is the effect of a task that is a change
 pub change_is_effect : (c : Simulation) (task : Task) (bundle : Part ℕ) (effect : Effect ℕ) → task.body.kind ≡ 0

@@ -12,7 +12,7 @@ use Rattle.rw_sets.specs.declared.access.Access.{Access}
 use Rattle.rw_sets.specs.declared.access.Access.TheVariants.{Read, Write}
 use Rattle.rw_sets.specs.Accesses.{Accesses, access_at, merged}
 use Rattle.cell_store.specs.Part.{Part}
-use Rattle.logic_sim.specs.Bundles.{IsHeld}
+use Rattle.logic_sim.specs.Bundles.{IsReadable}
 use Rattle.logic_sim.specs.Event.{Simulation, plan_place, value_place}
 use Rattle.logic_sim.specs.Laws.{filter_range, length-filter_range}
 use Rattle.logic_sim.specs.Lawful.{eval_set-named, listed_later, plan_listed, wired}
@@ -70,20 +70,18 @@ pub fan_in_named : (c : Simulation) (gate : ℕ) → AllByRecursion (λ signal. 
 fan_in_named c gate =
     of_reads (fan_in_of (signal_at c.deck.signals gate).form) gate (λ loc. IsSome (access_at (eval_set c.deck gate) loc)) (λ p listed. eval_set-named c gate p.0 p.1 listed)
 
-held_each : (part : Part ℕ) (n : ℕ) (fan_in : List ℕ) → n ≤ 4096 → AllByRecursion (λ signal. signal < n) fan_in → AllByRecursion (λ signal. IsSome (access_at part.set (value_place signal))) fan_in
-    → AllByRecursion (IsHeld part) fan_in
-held_each part n [] few below named = tt
-held_each part n (signal ∷ fan_in) few below named = (record { small = omega (arith, below.0, few); named = named.0 }, held_each part n fan_in few below.1 named.1)
+readable_each : (can_read : ℕ → Type 0) (n : ℕ) (fan_in : List ℕ) → n ≤ 4096 → AllByRecursion (λ signal. signal < n) fan_in → AllByRecursion (λ signal. can_read (value_place signal)) fan_in
+    → AllByRecursion (IsReadable can_read) fan_in
+readable_each can_read n [] few below each = tt
+readable_each can_read n (signal ∷ fan_in) few below each = (record { small = omega (arith, below.0, few); readable = each.0 }, readable_each can_read n fan_in few below.1 each.1)
 
--- a bundle of an evaluation has the values of the fan-ins
-pub fan_in_held : (c : Simulation) (gate : ℕ) (bundle : Part ℕ) (signal : Signal) → IsSoundlyWired c.deck → gate < length c.deck.signals → bundle.set ≡ eval_set c.deck gate → signal ≡ signal_at c.deck.signals gate
-    → All (IsHeld bundle) (fan_in_of signal.form)
-fan_in_held c gate bundle signal sound below set-is is =
-    let named : AllByRecursion (λ s. IsSome (access_at bundle.set (value_place s))) (fan_in_of (signal_at c.deck.signals gate).form) =
-    subst (λ (set : Accesses). AllByRecursion (λ s. IsSome (access_at set (value_place s))) (fan_in_of (signal_at c.deck.signals gate).form)) (sym set-is) (fan_in_named c gate) in
-    subst (λ (s : Signal). All (IsHeld bundle) (fan_in_of s.form)) (sym is)
-    (All-from_recursion (IsHeld bundle) (fan_in_of (signal_at c.deck.signals gate).form)
-    (held_each bundle (length c.deck.signals) (fan_in_of (signal_at c.deck.signals gate).form) sound.signal_count (wired c gate sound below) named))
+-- the values of a gate's fan-ins can be read where their locations can
+pub fan_in_readable : (can_read : ℕ → Type 0) (c : Simulation) (gate : ℕ) (signal : Signal) → IsSoundlyWired c.deck → gate < length c.deck.signals → signal ≡ signal_at c.deck.signals gate
+    → AllByRecursion (λ s. can_read (value_place s)) (fan_in_of (signal_at c.deck.signals gate).form) → All (IsReadable can_read) (fan_in_of signal.form)
+fan_in_readable can_read c gate signal sound below is each =
+    subst (λ (s : Signal). All (IsReadable can_read) (fan_in_of s.form)) (sym is)
+    (All-from_recursion (IsReadable can_read) (fan_in_of (signal_at c.deck.signals gate).form)
+    (readable_each can_read (length c.deck.signals) (fan_in_of (signal_at c.deck.signals gate).form) sound.signal_count (wired c gate sound below) each))
 
 -- the signal that was looked up
 pub signal_looked_up : (signals items : List Signal) (gate : ℕ) (signal : Signal) → gate < length signals → items ≡ signals → signal ≡ get_or items gate signal

@@ -23,19 +23,23 @@ abbrev pub value_of : Cell ℕ → ℕ
 value_of (Home value) = value
 value_of Out = 0
 
--- the value of a signal in a part
-abbrev pub held_value : Part ℕ → ℕ → ℕ
-held_value part signal = value_of (cell_in part (value_place signal))
+-- the value at a location of a part
+abbrev pub held_in : Part ℕ → ℕ → ℕ
+held_in part loc = value_of (cell_in part loc)
 
--- whether a part has the value of a signal
-pub record IsHeld (part : Part ℕ) (signal : ℕ) : Type 0 where
+-- whether the value of a signal can be read, where some locations can
+pub record IsReadable (can_read : ℕ → Type 0) (signal : ℕ) : Type 0 where
   pub small : signal < 2 ^ 31
-  pub named : IsSome (access_at part.set (value_place signal))
+  pub readable : can_read (value_place signal)
 
--- what a gate computes from the values of its fan-ins in a part
-abbrev pub computed_from : Form → Part ℕ → ℕ
-computed_from Input part = 0
-computed_from (Gate kind fan_in) part = gate_value kind (map (held_value part) fan_in)
+-- the values of signals, where these are held at the locations
+abbrev pub values_held : (ℕ → ℕ) → List ℕ → List ℕ
+values_held held signals = map (λ signal. held (value_place signal)) signals
+
+-- what a gate computes from the values of its fan-ins, where these are held at the locations
+abbrev pub computed_from : (ℕ → ℕ) → Form → ℕ
+computed_from held Input = 0
+computed_from held (Gate kind fan_in) = gate_value kind (values_held held fan_in)
 
 -- a child as it is handed over, with the set that it declares
 abbrev pub child_of : Simulation → Start → Child

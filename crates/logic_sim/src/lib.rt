@@ -2,6 +2,7 @@
 //! gate has a delay of one unit of time.
 #![tactic(auto)]
 
+mod cells;
 mod chain;
 mod circuit;
 mod event;

@@ -1,11 +1,13 @@
-ghost use Rattle.std.specs.Prelude.{◌≡◌, ◌+◌, ◌-◌, ◌*◌, ◌^◌, ◌<◌, ◌≤◌, [], ◌∷◌, ◌++◌, All, length, map, IfOk, IfErr, OnOk};
+ghost use Rattle.std.specs.Prelude.{◌≡◌, ◌==◌, ◌+◌, ◌-◌, ◌*◌, ◌^◌, ◌<◌, ◌≤◌, [], ◌∷◌, ◌++◌, All, length, map, if◌then◌else◌, IfOk, IfErr, OnOk, OnErr};
+ghost use Rattle.std.specs.List.{AllByRecursion};
 ghost use Rattle.app_laws.specs.Applications.{IsFitTask as IsTaskOf, IsTaken, IsEffect};
-ghost use Rattle.logic_sim.specs.Bundles.{IsEffectOn, child_of};
-ghost use Rattle.logic_sim.specs.Event.{change_of, change_text, eval_at, eval_of, next_changes};
+ghost use Rattle.logic_sim.specs.Bundles.{IsEffectOn, child_of, computed_from};
+ghost use Rattle.logic_sim.specs.Event.{change_of, change_text, eval_at, eval_of, next_changes, plan_place, value_place};
 ghost use Rattle.logic_sim.specs.Meaning.{change_set, eval_set, simulation};
-ghost use Rattle.logic_sim.specs.Wiring.{readers_of};
+ghost use Rattle.logic_sim.specs.Wiring.{fan_in_of, readers_of, signal_at};
 
 use super::Circuit;
+use crate::cells::Cells;
 use crate::event::{CHANGE, change_start, eval_start, push_change};
 use crate::gate::computed_value;
 use app_laws::{App, Child, ChildList, Effect, SetAnswer, give_back};
@@ -136,6 +138,34 @@ impl Circuit {
     /// The signal takes the value, unless it has it. Each gate that reads it is then evaluated at
     /// the same time.
     #[inline(always)]
+    fn change<C: Cells>(
+        &self,
+        time: u64,
+        signal: u32,
+        value: u8,
+        cells: &mut C,
+    ) -> Result<(ChildList, Text), NoRoom>
+        requires in_range { signal < length self.now.deck.signals }
+        requires time { 2 * time + 1 < 2 ^ 64 }
+        requires read { C.can_read cells.old (value_place signal) }
+        requires written { C.can_write cells.old (value_place signal) }
+        ensures cells { OnOk result (cells.new ≡ (if C.held cells.old (value_place signal) == value then cells.old else C.put_at cells.old (value_place signal) value)) }
+        ensures children { IfOk result (λ made. made.0 ≡ (if C.held cells.old (value_place signal) == value then [] else map (child_of self.now) (map (eval_at time) (readers_of self.now.deck.signals signal)))) }
+        ensures text { IfOk result (λ made. made.1 ≡ (if C.held cells.old (value_place signal) == value then [] else change_text self.now.deck time signal value)) }
+        ensures unchanged { OnErr result (cells.new ≡ cells.old) }
+    {
+        let alloc = self.alloc;
+        let place = 2 * signal;
+        if cells.value(place) == value {
+            return Ok(nothing_made(alloc));
+        }
+        let made = self.change_outcome(time, signal, value)?;
+        cells.put(place, value);
+        Ok(made)
+    }
+
+    /// A change of a signal in a bundle.
+    #[inline(always)]
     fn change_effect(
         &self,
         time: u64,
@@ -151,21 +181,13 @@ impl Circuit {
     {
         location_laws::<u8>();
         value_laws::<u8>();
-        let alloc = self.alloc;
         let mut bundle = bundle;
-        let place = 2 * signal;
-        if *bundle.get(place) == value {
-            return Ok(without_effect(alloc, bundle));
-        }
-        match self.change_outcome(time, signal, value) {
-            Ok((children, text)) => {
-                *bundle.get_mut(place) = value;
-                Ok(Effect {
-                    bundle,
-                    children,
-                    text,
-                })
-            }
+        match self.change(time, signal, value, &mut bundle) {
+            Ok((children, text)) => Ok(Effect {
+                bundle,
+                children,
+                text,
+            }),
             Err(_) => Err(bundle),
         }
     }
@@ -205,6 +227,34 @@ impl Circuit {
     /// Plans what the gate computes, unless it is planned. The gate then takes that value one unit
     /// of time later, if that is not too late.
     #[inline(always)]
+    fn evaluate<C: Cells>(
+        &self,
+        time: u64,
+        gate: u32,
+        cells: &mut C,
+    ) -> Result<(ChildList, Text), NoRoom>
+        requires in_range { gate < length self.now.deck.signals }
+        requires time { time < 2 ^ 63 }
+        requires fan_in { AllByRecursion (λ signal. C.can_read cells.old (value_place signal)) (fan_in_of (signal_at self.now.deck.signals gate).form) }
+        requires read { C.can_read cells.old (plan_place gate) }
+        requires written { C.can_write cells.old (plan_place gate) }
+        ensures cells { OnOk result (let value = computed_from (C.held cells.old) (signal_at self.now.deck.signals gate).form in cells.new ≡ (if C.held cells.old (plan_place gate) == value then cells.old else C.put_at cells.old (plan_place gate) value)) }
+        ensures children { IfOk result (λ made. let value = computed_from (C.held cells.old) (signal_at self.now.deck.signals gate).form in made.0 ≡ (if C.held cells.old (plan_place gate) == value then [] else map (child_of self.now) (next_changes self.now time gate value))) }
+        ensures text { IfOk result (λ made. made.1 ≡ []) }
+        ensures unchanged { OnErr result (cells.new ≡ cells.old) }
+    {
+        let value = computed_value(&self.deck.signals.items()[gate as usize].form, &*cells);
+        let place = 2 * gate + 1;
+        if cells.value(place) == value {
+            return Ok(nothing_made(self.alloc));
+        }
+        let children = self.next_change(time, gate, value)?;
+        cells.put(place, value);
+        Ok((children, Text::new(self.alloc)))
+    }
+
+    /// An evaluation of a gate in a bundle.
+    #[inline(always)]
     fn evaluation_effect(
         &self,
         time: u64,
@@ -220,20 +270,12 @@ impl Circuit {
         location_laws::<u8>();
         value_laws::<u8>();
         let mut bundle = bundle;
-        let value = computed_value(&self.deck.signals.items()[gate as usize].form, &bundle);
-        let place = 2 * gate + 1;
-        if *bundle.get(place) == value {
-            return Ok(without_effect(self.alloc, bundle));
-        }
-        match self.next_change(time, gate, value) {
-            Ok(children) => {
-                *bundle.get_mut(place) = value;
-                Ok(Effect {
-                    bundle,
-                    children,
-                    text: Text::new(self.alloc),
-                })
-            }
+        match self.evaluate(time, gate, &mut bundle) {
+            Ok((children, text)) => Ok(Effect {
+                bundle,
+                children,
+                text,
+            }),
             Err(_) => Err(bundle),
         }
     }
@@ -279,14 +321,11 @@ fn push_child(children: &mut ChildList, start: Start, set: RwSet) -> Result<(), 
     children.push(Child { prio, body, set }).map_err(|_| NoRoom)
 }
 
-/// What an event leaves that has nothing to do.
+/// What an event makes that has nothing to do.
 #[inline(always)]
-fn without_effect(alloc: Global, bundle: Bundle<u8>) -> Effect<u8>
-    ensures { result ≡ record { bundle = bundle; children = []; text = [] } }
+fn nothing_made(alloc: Global) -> (ChildList, Text)
+    ensures children { result.0 ≡ [] }
+    ensures text { result.1 ≡ [] }
 {
-    Effect {
-        bundle,
-        children: ChildList::new(alloc),
-        text: Text::new(alloc),
-    }
+    (ChildList::new(alloc), Text::new(alloc))
 }
