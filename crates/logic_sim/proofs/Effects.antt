@@ -15,7 +15,6 @@ use Rattle.cell_store.specs.Laws.{PartsByLocation, HomesByLocation}
 use Rattle.app_laws.specs.declared.app.Effect.{Effect}
 use Rattle.app_laws.specs.declared.child.Child.{Child}
 use Rattle.app_laws.specs.Applications.{IsEffect}
-use Rattle.app_laws.specs.Execution.{Outcome}
 use Rattle.logic_sim.specs.Bundles.{child_of, computed_from, effect_on, held_in, value_of, values_held, IsEffectOn}
 use Rattle.logic_sim.specs.Circuit.{IsFitCells}
 use Rattle.logic_sim.specs.Event.{Simulation, change_of, change_text, computed_by, eval_at, eval_of, event_of, next_changes, nothing_done, plan_of, plan_place, time_of, value_in, value_place}
@@ -131,6 +130,15 @@ module _ (c : Simulation) (laws : HeldLaws) where
 pub change_is_effect : (c : Simulation) (task : Task) (bundle : Part ℕ) (effect : Effect ℕ) → task.body.kind ≡ 0
     → IsEffectOn c (change_set task.body.at) (change_of c (time_of task.key.prio) task.body.at task.body.arg) bundle effect → IsEffect (simulation c) task bundle effect
 change_is_effect c task bundle effect kind made =
+    subst
+    (λ (k : ℕ). (cells : List ℕ) → IsFitCells c cells → bundle ≡ part_of (homes cells) (set_for c.deck k task.body.at) →
+    effect ≡ effect_on c (set_for c.deck k task.body.at) (event_of c k (time_of task.key.prio) task.body.at task.body.arg cells))
+    (sym kind) made
+
+-- and of one that is an evaluation
+pub evaluation_is_effect : (c : Simulation) (task : Task) (bundle : Part ℕ) (effect : Effect ℕ) → task.body.kind ≡ 1
+    → IsEffectOn c (eval_set c.deck task.body.at) (eval_of c (time_of task.key.prio) task.body.at) bundle effect → IsEffect (simulation c) task bundle effect
+evaluation_is_effect c task bundle effect kind made =
     subst
     (λ (k : ℕ). (cells : List ℕ) → IsFitCells c cells → bundle ≡ part_of (homes cells) (set_for c.deck k task.body.at) →
     effect ≡ effect_on c (set_for c.deck k task.body.at) (event_of c k (time_of task.key.prio) task.body.at task.body.arg cells))

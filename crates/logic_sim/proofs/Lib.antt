@@ -1,6 +1,7 @@
 pub mod Changes
 pub mod Counts
 pub mod Effects
+pub mod AtHome
 pub mod Ranges
 pub mod Readers
 pub mod SafeTasks

@@ -11,7 +11,6 @@ use Rattle.bench_reader.specs.declared.deck.Signal.{Signal}
 use Rattle.rw_sets.specs.declared.access.Access.{Access}
 use Rattle.rw_sets.specs.declared.access.Access.TheVariants.{Read, Write}
 use Rattle.rw_sets.specs.Accesses.{Accesses, access_at, merged}
-use Rattle.cell_store.specs.Part.{Part}
 use Rattle.logic_sim.specs.Bundles.{IsReadable}
 use Rattle.logic_sim.specs.Event.{Simulation, plan_place, value_place}
 use Rattle.logic_sim.specs.Laws.{filter_range, length-filter_range}

@@ -1,13 +1,13 @@
 -- What events find in their bundles, and what they make of them.
-use Rattle.std.specs.Prelude.{◌≡◌, ℕ, ◌^◌, ◌<◌, List, [], map, IsSome}
+use Rattle.std.specs.Prelude.{◌≡◌, ℕ, ◌^◌, ◌<◌, List, [], map}
 use Rattle.bench_reader.specs.declared.deck.Form.{Form}
 use Rattle.bench_reader.specs.declared.deck.Form.TheVariants.{Input, Gate}
 use Rattle.task_order.specs.declared.start.Start.{Start}
-use Rattle.rw_sets.specs.Accesses.{Accesses, access_at}
+use Rattle.rw_sets.specs.Accesses.{Accesses}
 use Rattle.cell_store.specs.declared.cell.Cell.{Cell}
 use Rattle.cell_store.specs.declared.cell.Cell.TheVariants.{Home, Out}
 use Rattle.cell_store.specs.Part.{Part}
-use Rattle.cell_store.specs.Cells.{cell_in, part_of}
+use Rattle.cell_store.specs.Cells.{cell_at, cell_in, part_of}
 use Rattle.cell_store.specs.Values.{homes}
 use Rattle.app_laws.specs.declared.app.Effect.{Effect}
 use Rattle.app_laws.specs.declared.child.Child.{Child}
@@ -26,6 +26,10 @@ value_of Out = 0
 -- the value at a location of a part
 abbrev pub held_in : Part ℕ → ℕ → ℕ
 held_in part loc = value_of (cell_in part loc)
+
+-- the value at a location of cells that are home
+abbrev pub held_at_home : List (Cell ℕ) → ℕ → ℕ
+held_at_home cells loc = value_of (cell_at cells loc)
 
 -- whether the value of a signal can be read, where some locations can
 pub record IsReadable (can_read : ℕ → Type 0) (signal : ℕ) : Type 0 where

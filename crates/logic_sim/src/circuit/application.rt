@@ -1,6 +1,7 @@
 ghost use Rattle.std.specs.Prelude.{◌≡◌, ◌==◌, ◌+◌, ◌-◌, ◌*◌, ◌^◌, ◌<◌, ◌≤◌, [], ◌∷◌, ◌++◌, All, length, map, if◌then◌else◌, IfOk, IfErr, OnOk, OnErr};
 ghost use Rattle.std.specs.List.{AllByRecursion};
-ghost use Rattle.app_laws.specs.Applications.{IsFitTask as IsTaskOf, IsTaken, IsEffect};
+ghost use Rattle.app_laws.specs.Applications.{IsFitTask as IsTaskOf, IsTaken, IsEffect, IsDoneAtHome};
+ghost use Rattle.cell_store.specs.Cells.{AreHome, part_of};
 ghost use Rattle.logic_sim.specs.Bundles.{IsEffectOn, child_of, computed_from};
 ghost use Rattle.logic_sim.specs.Event.{change_of, change_text, eval_at, eval_of, next_changes, plan_place, value_place};
 ghost use Rattle.logic_sim.specs.Meaning.{change_set, eval_set, simulation};
@@ -10,8 +11,8 @@ use super::Circuit;
 use crate::cells::Cells;
 use crate::event::{CHANGE, change_start, eval_start, push_change};
 use crate::gate::computed_value;
-use app_laws::{App, Child, ChildList, Effect, SetAnswer, give_back};
-use cell_store::{Bundle, Store, location_laws, return_laws, value_laws};
+use app_laws::{App, Child, ChildList, Effect, SetAnswer};
+use cell_store::{Bundle, Store, home_laws, location_laws, return_laws, value_laws};
 use kdg_text::{NoRoom, Steps, Text};
 use rw_sets::{Access, RwSet};
 use std::alloc::Global;
@@ -82,10 +83,24 @@ impl App for Circuit {
         task: &Task,
         set: &RwSet,
         store: &mut Store<u8>,
-    ) -> Result<(ChildList, Text), NoRoom> {
+    ) -> Result<(ChildList, Text), NoRoom>
+        requires fit { IsTaskOf (simulation self.now) task.now }
+        requires home { AreHome store.old set.now }
+        requires cells { IsTaken (simulation self.now) task.now (part_of store.old set.now) }
+        ensures done { IfOk result (λ made. IsDoneAtHome (simulation self.now) task.now set.now store.old made.0 made.1 store.new) }
+        ensures unchanged { OnErr result (store.new ≡ store.old) }
+    {
+        location_laws::<u8>();
+        value_laws::<u8>();
         return_laws::<u8>();
-        let bundle = store.take(set)?;
-        give_back(store, self.run(task, bundle))
+        home_laws::<u8>();
+        let time = task.key.prio / 2;
+        let Body { kind, at, arg } = task.body;
+        if kind == CHANGE {
+            self.change(time, at, arg as u8, store)
+        } else {
+            self.evaluate(time, at, store)
+        }
     }
 
     ghost cells_are_counted = { lawful.cells_are_counted };
