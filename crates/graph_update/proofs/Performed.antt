@@ -11,7 +11,7 @@ use Rattle.rw_sets.specs.declared.access.Access.{Access}
 use Rattle.rw_sets.specs.Accesses.{Accesses, access_at, allows_write, writes}
 use Rattle.cell_store.specs.declared.cell.Cell.{Cell}
 use Rattle.cell_store.specs.declared.cell.Cell.TheVariants.{Out}
-use Rattle.cell_store.specs.Cells.{AreWrittenOut, cell_at, cells_given, cells_taken, part_of}
+use Rattle.cell_store.specs.Cells.{AreHome, AreWrittenOut, IsBundle, cell_at, cells_given, cells_taken, part_of}
 use Rattle.cell_store.specs.Values.{AgreesWith, ChangesOnlyWritten, homes}
 use Rattle.kdg_graph.specs.declared.change.Fresh.{Fresh}
 use Rattle.kdg_graph.specs.Node.{Node}
@@ -159,7 +159,7 @@ module _ {V : Type 0} {app : Application V} (basis : FinishBasis app) where
         (any_in_middle (λ job. writes job.bundle.set loc) performed.before job performed.after written))
 
     -- the set of the new values is that of the job
-    done_set : done.effect.bundle.set ≡ job.bundle.set
+    pub done_set : done.effect.bundle.set ≡ job.bundle.set
     done_set = ap (λ (effect : Effect V). effect.bundle.set) performed_node.effect ∙ sym job_set
 
     pub bundle_is_out : AreWrittenOut old.cells done.effect.bundle.set
@@ -170,6 +170,16 @@ module _ {V : Type 0} {app : Application V} (basis : FinishBasis app) where
         let many : length old.cells ≡ app.count = sound.whole.home.as_many ∙ basis.lawful.cells_are_counted values sound.ready.cells in
         let inside : loc < length old.cells = subst (λ (n : ℕ). loc < n) (sym many) below in
         (inside, written_is_out loc inside of_job)
+
+    -- the new values are whole
+    pub bundle_is_whole : IsBundle done.effect.bundle
+    bundle_is_whole =
+        let new = (app.act job.task values).cells in
+        let set = set_in app values job.task in
+        let in_range = basis.lawful.sets_are_in_range job.task values sound.ready.cells fit_task in
+        let many : length (homes new) ≡ app.count = (basis.agreement.of_homes new).as_many ∙ basis.lawful.cells_are_counted new fit_after in
+        let home : AreHome (homes new) set = λ loc there. basis.all_homes.all_home new loc (subst (λ (n : ℕ). loc < n) (sym many) (in_range.below loc there)) in
+        subst IsBundle (sym (ap (λ (effect : Effect V). effect.bundle) performed_node.effect)) (basis.parts.is_bundle (homes new) set in_range.ascending home)
 
     pub given_is : cells_given old.cells done.effect.bundle ≡ cells_given old.cells (part_of (homes (app.act job.task values).cells) job.bundle.set)
     given_is =

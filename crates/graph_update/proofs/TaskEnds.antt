@@ -4,8 +4,9 @@ use Rattle.std.specs.Prelude.{Contains, IsSome, option_map}
 use Rattle.std.specs.List.{AllByRecursion}
 use Rattle.std.specs.Option.{option_or}
 use Rattle.task_order.specs.declared.task.Task.{Task}
+use Rattle.rw_sets.specs.Accesses.{Accesses}
 use Rattle.cell_store.specs.declared.cell.Cell.{Cell}
-use Rattle.cell_store.specs.Cells.{AreWrittenOut, IsBundle, bundle_of, cells_given, cells_taken, shell_of}
+use Rattle.cell_store.specs.Cells.{AreWrittenHome, AreWrittenOut, IsBundle, bundle_of, cells_given, cells_taken, shell_of}
 use Rattle.cell_store.specs.Laws.{RegainsWhatWasGiven, TakesBackWhatWasGiven}
 use Rattle.cell_store.specs.Part.{Part}
 use Rattle.cell_store.specs.Values.{AgreesWith}
@@ -14,7 +15,7 @@ use Rattle.kdg_graph.specs.declared.change.Fresh.{Fresh}
 use Rattle.kdg_graph.specs.declared.node_id.NodeId.{NodeId}
 use Rattle.kdg_graph.specs.Edges.{laters_of}
 use Rattle.kdg_graph.specs.Node.{Node}
-use Rattle.kdg_graph.specs.Nodes.{HasNode, IsGraph, node_at, node_with_key, task_at}
+use Rattle.kdg_graph.specs.Nodes.{HasNode, IsGraph, node_at, node_with_key, set_at, task_at}
 use Rattle.kdg_graph.specs.Rewrite.{IsRewritten}
 use Rattle.app_laws.specs.declared.app.Effect.{Effect}
 use Rattle.app_laws.specs.declared.child.Child.{Child}
@@ -22,6 +23,7 @@ use Rattle.app_laws.specs.Applications.{Application}
 use Rattle.graph_update.specs.declared.answers.OverCause.{OverCause}
 use Rattle.graph_update.specs.declared.answers.OverCause.TheVariants as cause
 use Rattle.graph_update.specs.declared.job.Done.{Done}
+use Rattle.graph_update.specs.AtHome.{EndsAtHome, IsBackHome, done_of, with_parts}
 use Rattle.graph_update.specs.Engine.{FinishStaysSound, HaveFixedSets, IsDone, IsKept, IsOfClear, IsOneStepEach, StaysSound, most_tasks}
 use Rattle.graph_update.specs.Events.{IsFinished, IsOverLimit, budget_marked, fresh_from, renewals}
 use Rattle.graph_update.specs.FinishBasis.{FinishBasis}
@@ -31,7 +33,7 @@ use Rattle.graph_update.specs.Sound.{IsSound}
 use Rattle.graph_update.specs.StandingLaws.{ClearNodesStayClear}
 use Rattle.graph_update.proofs.FinishMembers.{none}
 use Rattle.graph_update.proofs.FixedSets.{fixed_after}
-use Rattle.graph_update.proofs.Performed.{IsEnded, agrees_given, fit_after, named, new_entry, performed_node}
+use Rattle.graph_update.proofs.Performed.{IsEnded, agrees_given, bundle_is_out, bundle_is_whole, done_set, fit_after, named, new_entry, performed_node}
 use Rattle.graph_update.proofs.ReadyIds.{ready_after}
 use Rattle.graph_update.proofs.Renewing.{part_is}
 
@@ -49,8 +51,10 @@ module _ {V : Type 0} (cells given : List (Cell V)) (bundle shell : Part V) (out
   bundle_back regains whole back is =
       is ∙ ap (λ (cells : List (Cell V)). bundle_of cells shell) given_is ∙ ap (bundle_of (cells_given cells bundle)) shell_is ∙ regains cells bundle whole out
 
-pub effect_back : {V : Type 0} (effect : Effect V) (bundle : Part V) → bundle ≡ effect.bundle → (record effect { bundle = bundle }) ≡ effect
-effect_back {V} effect bundle is = ap (λ (bundle : Part V). let back : Effect V = record effect { bundle = bundle } in back) is
+pub effect_back : {V : Type 0} (effect : Effect V) (bundle : Part V) (text : List ℕ) → bundle ≡ effect.bundle → text ≡ effect.text → (record effect { bundle = bundle; text = text }) ≡ effect
+effect_back {V} effect bundle text bundle_is text_is =
+    ap (λ (bundle : Part V). let back : Effect V = record effect { bundle = bundle; text = text } in back) bundle_is
+    ∙ ap (λ (text : List ℕ). let back : Effect V = record effect { text = text } in back) text_is
 
 pub progress_back : {V : Type 0} (old : Progress V) (cells : List (Cell V)) (nodes : List Node) (log : List Entry) → cells ≡ old.cells → nodes ≡ old.nodes → log ≡ old.log
     → (record old { cells = cells; nodes = nodes; log = log }) ≡ old
@@ -172,25 +176,71 @@ module _ {V : Type 0} {app : Application V} (basis : FinishBasis app) (old : Pro
                 } in next) one_more;
           }
 
-      not_over : created ≤ old.limit → ¬ IsOverLimit app old done
-      not_over within over =
-          let is_over : old.limit < old.created + length done.effect.children = over in
-          omega (arith, is_over, created_are, within)
+  pub not_over : (created : ℕ) → created ≡ old.created + length done.effect.children → created ≤ old.limit → ¬ IsOverLimit app old done
+  not_over created created_are within over =
+      let is_over : old.limit < old.created + length done.effect.children = over in
+      omega (arith, is_over, created_are, within)
 
-      pub stays_fixed : created ≤ old.limit → HaveFixedSets app old.nodes → HaveFixedSets app nodes
-      stays_fixed within have = fixed_after basis (record { sound = is.sound; performed = is.performed; within = not_over within; finished = is_finished }) have
+  -- what is kept where it is finished
+  module _ (within : ¬ IsOverLimit app old done) (now : Progress V) (finished : IsFinished app old done now) where
+    pub stays_fixed : HaveFixedSets app old.nodes → HaveFixedSets app now.nodes
+    stays_fixed have = fixed_after basis (record { sound = is.sound; performed = is.performed; within = within; finished = finished }) have
 
-      pub stays_ready : ClearNodesStayClear app → created ≤ old.limit → (ids : List NodeId) → AllByRecursion (IsOfClear app old.nodes) ids → AllByRecursion (IsOfClear app nodes) ids
-      stays_ready stay within ids clear = ready_after app stay old now done is.job is.jobs is.others is.values is.sound is.performed (not_over within) is_finished ids clear
+    pub stays_ready : ClearNodesStayClear app → (ids : List NodeId) → AllByRecursion (IsOfClear app old.nodes) ids → AllByRecursion (IsOfClear app now.nodes) ids
+    stays_ready stay ids clear = ready_after app stay old now done is.job is.jobs is.others is.values is.sound is.performed within finished ids clear
 
-      module _ (keeps : FinishesKeepSound app) (within : created ≤ old.limit) where
-        pub stays_sound : FinishStaysSound app old done now
-        stays_sound jobs others job values sound performed = keeps old now done job jobs others values sound performed (not_over within) is_finished
+    module _ (keeps : FinishesKeepSound app) where
+      pub stays_sound : FinishStaysSound app old done now
+      stays_sound jobs others job values sound performed = keeps old now done job jobs others values sound performed within finished
 
-        pub stays_kept : old.limit ≤ most_tasks → IsKept app now
-        stays_kept limited = record {
-          jobs = is.others;
-          values = (app.act is.job.task is.values).cells;
-          sound = stays_sound is.jobs is.others is.job is.values is.sound is.performed;
-          limited = limited;
-        }
+      pub stays_kept : old.limit ≤ most_tasks → IsKept app now
+      stays_kept limited = record {
+        jobs = is.others;
+        values = (app.act is.job.task is.values).cells;
+        sound = stays_sound is.jobs is.others is.job is.values is.sound is.performed;
+        limited = subst (λ (progress : Progress V). progress.limit ≤ most_tasks) (sym finished.after) limited;
+      }
+
+  -- ---- its new values are home
+
+  -- the set that its id finds is that of its bundle
+  set_is : (set : Accesses) → set_at old.nodes done.node ≡ Some set → set ≡ done.effect.bundle.set
+  set_is set at =
+      let node = (named basis is.sound is.performed).0 in
+      let there : node_at old.nodes done.node ≡ Some node = subst (λ (id : NodeId). node_at old.nodes id ≡ Some node) id_is ended.at_id in
+      sym (part_is (λ (node : Node). node.set) (node_at old.nodes done.node) set node at there) ∙ ended.job_set ∙ sym (done_set basis is.sound is.performed)
+
+  module _ (cells : List (Cell V)) (given : cells ≡ cells_given old.cells done.effect.bundle) where
+    module _ (set : Accesses) (at : set_at old.nodes done.node ≡ Some set) where
+      pub written_home : AreWrittenHome cells set
+      written_home =
+          subst (AreWrittenHome cells) (sym (set_is set at))
+          (subst (λ (cells : List (Cell V)). AreWrittenHome cells done.effect.bundle.set) (sym given)
+          (basis.given.leaves_home old.cells done.effect.bundle (bundle_is_whole basis is.sound is.performed) (bundle_is_out basis is.sound is.performed)))
+
+      -- without what it writes the cells are as they were
+      pub dropped : (left : List (Cell V)) → left ≡ cells_taken cells set → left ≡ old.cells
+      dropped left taken =
+          taken ∙ ap (cells_taken cells) (set_is set at) ∙ ap (λ (cells : List (Cell V)). cells_taken cells done.effect.bundle.set) given
+          ∙ basis.takes_back old.cells done.effect.bundle (bundle_is_out basis is.sound is.performed)
+
+    module _ (children : List Child) (children_are : children ≡ done.effect.children) where
+      abbrev back_home : IsBackHome app (record old { cells = cells }) done.node children done.effect.text
+      back_home = record {
+        away = old.cells;
+        task = done.task;
+        bundle = done.effect.bundle;
+        is_done = subst (λ (children : List Child). IsDone app old (done_of done.node done.task done.effect.bundle children done.effect.text)) (sym children_are) is;
+        given = given;
+      }
+
+      pub is_back : (counts : Progress V) × IsBackHome app (with_parts counts cells old.nodes old.log) done.node children done.effect.text
+      is_back = (old, back_home)
+
+      pub finished_at_home : (nodes : List Node) (log : List Entry) → EndsAtHome app cells old.nodes old.log done.node children done.effect.text nodes log
+          → (created : ℕ) → created ≡ old.created + length done.effect.children
+          → IsFinished app old done (record old { cells = cells; nodes = nodes; log = log; created = created; ended = old.ended + 1 })
+      finished_at_home nodes log ends created created_are =
+          subst (λ (created : ℕ). IsFinished app old done (record old { cells = cells; nodes = nodes; log = log; created = created; ended = old.ended + 1 })) (ap (λ (children : List Child). old.created + length children) children_are ∙ sym created_are)
+          (subst (λ (some : List Child). IsFinished app old (done_of done.node done.task done.effect.bundle some done.effect.text)
+          (record old { cells = cells; nodes = nodes; log = log; created = old.created + length children; ended = old.ended + 1 })) children_are (ends old back_home))

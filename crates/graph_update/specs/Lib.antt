@@ -1,4 +1,5 @@
 pub mod Acting
+pub mod AtHome
 pub mod Answers
 pub mod Basis
 pub mod Engine

@@ -1,19 +1,27 @@
 //! How a task ends.
 
-ghost use Rattle.std.specs.Prelude.{◌≡◌, ◌+◌, ◌≤◌, length, IfErr, OnOk, OnErr};
+ghost use Rattle.std.specs.Prelude.{◌≡◌, ◌+◌, ◌<◌, ◌≤◌, ◌^◌, Some, length, IfErr, OnOk, OnErr};
 ghost use Rattle.task_order.specs.declared.task.Task.{Task};
+ghost use Rattle.kdg_graph.specs.Edges.{laters_of};
+ghost use Rattle.kdg_graph.specs.Node.{Node};
+ghost use Rattle.kdg_graph.specs.Nodes.{node_at};
 ghost use Rattle.graph_update.specs.Answers.{IsFinishRefusal};
-ghost use Rattle.graph_update.specs.Engine.{AsksForNoFixedSet, FinishStaysSound, IsDone, IsOneStepEach, StaysSound};
+ghost use Rattle.graph_update.specs.AtHome.{EndsAtHome, IsBackHome, with_parts};
+ghost use Rattle.graph_update.specs.Engine.{AsksForNoFixedSet, FinishStaysSound, HaveFixedSets, IsDone, IsOneStepEach, StaysSound};
 ghost use Rattle.graph_update.specs.Events.{IsFinished, IsOverLimit};
+ghost use Rattle.graph_update.specs.Progress.{Progress};
 
 use crate::finish_laws::{basis, sound_finish_laws};
 use crate::laws::drain_laws;
 use crate::rewriting::{end_node, fresh_tasks};
 use crate::standing_laws::stay_clear_laws;
 use crate::{Done, Engine, FinishFault, OverCause};
-use app_laws::{App, Effect};
-use kdg_graph::NodeId;
-use kdg_text::Steps;
+use app_laws::{App, Child, Effect};
+use cell_store::Store;
+use kdg_graph::{Fresh, Graph, NodeId};
+use kdg_text::{Steps, Text};
+use output_log::Log;
+use std::alloc::Global;
 use std::sync::ledger::Ledger;
 
 impl<'a, A: App> Engine<'a, A> {
@@ -64,8 +72,8 @@ impl<'a, A: App> Engine<'a, A> {
     /// Ends the running task of a node, whose children are no more than may be created. Where memory
     /// runs out, what it did comes back and all is as it was.
     ///
-    /// The new values are home while sets are asked for. They are taken out again where the graph
-    /// finds no memory.
+    /// The new values are home while sets are asked for. They are taken out again where memory runs
+    /// out.
     #[inline(always)]
     pub(crate) fn end_running<L: Ledger>(
         &mut self,
@@ -89,35 +97,82 @@ impl<'a, A: App> Engine<'a, A> {
         basis::<A>();
         sound_finish_laws::<A>();
         stay_clear_laws::<A>();
-        let Ok(()) = self.log.reserve_for(&effect.text) else {
-            return Err(effect);
-        };
-        let (graph, fresh) = (&self.graph, &mut self.fresh);
-        let parent = &graph.task(node).key;
-        let Ok(()) = fresh_tasks(fresh, parent, effect.children.items()) else {
-            return Err(effect);
-        };
-        let shell = self.store.give(effect.bundle);
-        match end_node(
+        let Effect {
+            bundle,
+            children,
+            text,
+        } = effect;
+        let shell = self.store.give(bundle);
+        let ended = end_at_home(
             self.alloc,
             self.app,
-            &mut self.graph,
             &self.store,
-            node,
+            &mut self.graph,
+            &mut self.log,
             &mut self.fresh,
+            node,
+            children.items(),
+            text,
             steps,
-        ) {
-            Ok(task) => {
-                self.log.put(task.key, effect.text);
+        );
+        match ended {
+            Ok(()) => {
                 self.created = created;
                 self.ended += 1;
                 self.ready.expect_more();
                 Ok(())
             }
-            Err(_) => {
+            Err(text) => {
                 let bundle = self.store.regain(shell);
-                Err(Effect { bundle, ..effect })
+                Err(Effect {
+                    bundle,
+                    children,
+                    text,
+                })
             }
         }
+    }
+}
+
+/// Ends a task whose new values are home: its children are nodes in place of its own, the later nodes
+/// in conflict have new sets, and its text is logged. Where memory runs out, the text comes back, and
+/// nodes and entries are as they were.
+#[inline(always)]
+pub(crate) fn end_at_home<A: App, L: Ledger>(
+    alloc: Global,
+    app: &A,
+    store: &Store<A::Val>,
+    graph: &mut Graph,
+    log: &mut Log,
+    fresh: &mut Vec<Fresh>,
+    node: NodeId,
+    children: &[Child],
+    text: Text,
+    steps: &mut Steps<L>,
+) -> Result<(), Text>
+    requires home { (counts : Progress A.Val) × IsBackHome (A.meaning app.now) (with_parts counts store.now graph.old log.old.entries) node children.now text }
+    requires sets { HaveFixedSets (A.meaning app.now) graph.old }
+    requires few { length children.now < 2 ^ 32 }
+    ensures ended { OnOk result (EndsAtHome (A.meaning app.now) store.now graph.old log.old.entries node children.now text graph.new log.new.entries) }
+    ensures returned { IfErr result (λ back. back ≡ text) }
+    ensures nodes { OnErr result (graph.new ≡ graph.old) }
+    ensures entries { OnErr result (log.new.entries ≡ log.old.entries) }
+    ensures steps { (of : Node) → node_at graph.old node ≡ Some of → steps.new ≤ steps.old + length (laters_of graph.old of) }
+    ensures no_step { AsksForNoFixedSet (A.meaning app.now) steps.old steps.new }
+{
+    basis::<A>();
+    let Ok(()) = log.reserve_for(&text) else {
+        return Err(text);
+    };
+    let parent = &graph.task(node).key;
+    let Ok(()) = fresh_tasks(fresh, parent, children) else {
+        return Err(text);
+    };
+    match end_node(alloc, app, graph, store, node, fresh, steps) {
+        Ok(task) => {
+            log.put(task.key, text);
+            Ok(())
+        }
+        Err(_) => Err(text),
     }
 }
