@@ -1,6 +1,7 @@
 -- A mark and a drain keep an execution sound.
-use Rattle.std.proofs.Common.{◌≡◌, ◌≢◌, ◌≤◌, false, List, [], ◌∷◌, length, arith}
+use Rattle.std.proofs.Common.{◌≡◌, ◌≢◌, ◌≤◌, false, List, [], ◌∷◌, Option, Some, length, arith}
 use Rattle.std.specs.List.{AllByRecursion}
+use Rattle.std.specs.Option.{option_or}
 use Rattle.std.specs.List.Sorted.{IsStrictlySortedBy}
 use Rattle.task_order.specs.declared.task.Task.{Task}
 use Rattle.task_order.specs.Key.{at_key}
@@ -27,8 +28,9 @@ abbrev AreUnlogged : List Entry → List Task → Type 0
 AreUnlogged log tasks = AllByRecursion (λ (task : Task). AllByRecursion (λ (entry : Entry). is_prefix task.key.path entry.0.path ≡ false) log) tasks
 
 module _ {V : Type 0} {app : Application V} (basis : Basis app) where
-  marked_one : (progress : Progress V) (cause : OverCause) (jobs : List (Job V)) (values : List V) → IsSound app progress jobs values → IsSound app (marked app progress cause) jobs values
-  marked_one progress cause jobs values sound =
+  -- whatever the mark is
+  pub sound_marked : (progress : Progress V) (over : Option OverCause) (jobs : List (Job V)) (values : List V) → IsSound app progress jobs values → IsSound app (record progress { over = over }) jobs values
+  sound_marked progress over jobs values sound =
       let old = sound.keys_and_counts in
       record {
         keys_and_counts = record {
@@ -46,6 +48,9 @@ module _ {V : Type 0} {app : Application V} (basis : Basis app) where
         recorded_covers = sound.recorded_covers;
         running_unblocked = sound.running_unblocked;
       }
+
+  marked_one : (progress : Progress V) (cause : OverCause) (jobs : List (Job V)) (values : List V) → IsSound app progress jobs values → IsSound app (marked app progress cause) jobs values
+  marked_one progress cause = sound_marked progress (option_or progress.over (Some cause))
 
   -- what is left of a log
   record IsLeft (log left : List Entry) : Type 0 where

@@ -1,7 +1,6 @@
 -- Tasks that act one after the other, with nothing between the claim of one and its end.
 use Rattle.std.specs.Prelude.{◌≡◌, ◌⊎◌, ℕ, ◌+◌, List, [], ◌∷◌, length, unwrap_or}
 use Rattle.task_order.specs.declared.task.Task.{Task}
-use Rattle.cell_store.specs.Part.{Part}
 use Rattle.kdg_graph.specs.declared.node_id.NodeId.{NodeId}
 use Rattle.kdg_graph.specs.Node.{Node}
 use Rattle.kdg_graph.specs.Nodes.{task_at}
@@ -10,7 +9,6 @@ use Rattle.graph_update.specs.declared.answers.OverCause.{OverCause}
 use Rattle.graph_update.specs.declared.answers.OverCause.TheVariants as cause
 use Rattle.graph_update.specs.declared.job.Done.{Done}
 use Rattle.graph_update.specs.declared.job.Job.{Job}
-use Rattle.graph_update.specs.Engine.{MayRun}
 use Rattle.graph_update.specs.Events.{IsClaimed, IsFinished, IsOverLimit, budget_marked}
 use Rattle.graph_update.specs.Laws.{IsPerformed}
 use Rattle.graph_update.specs.Progress.{Progress}
@@ -29,13 +27,6 @@ module _ {V : Type 0} (app : Application V) where
     pub pick : ℕ
     pub claimed : IsClaimed app old pick now job
     pub node : job.node ≡ id
-
-  -- the node's job has this bundle, and it may be performed
-  pub record IsReadyToRun (old : Progress V) (id : NodeId) (now : Progress V) (bundle : Part V) : Type 0 where
-    pub job : Job V
-    pub started : IsStarted old id now job
-    pub may_run : MayRun app job
-    pub bundle_is : job.bundle ≡ bundle
 
   -- the task of the node is claimed, and its job is performed
   pub record IsPlayed (old : Progress V) (id : NodeId) (midway : Progress V) (done : Done V) : Type 0 where

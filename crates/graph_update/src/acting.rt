@@ -1,18 +1,19 @@
 //! How clear tasks act one after the other, each claimed, performed and ended at once.
 
-ghost use Rattle.std.specs.Prelude.{◌≡◌, ◌+◌, ◌≤◌, length, None, Some, IfErr, IfOk, OnOk, OnErr};
+ghost use Rattle.std.specs.Prelude.{◌≡◌, ◌+◌, ◌≤◌, length, None, Some, IfErr, OnOk};
 ghost use Rattle.kdg_graph.specs.Edges.{laters_of};
 ghost use Rattle.kdg_graph.specs.Node.{Node};
 ghost use Rattle.kdg_graph.specs.Nodes.{ids_of, node_at};
-ghost use Rattle.graph_update.specs.Acting.{HasActed, IsActFault, IsReadyToRun};
+ghost use Rattle.graph_update.specs.Acting.{HasActed, IsActFault};
 ghost use Rattle.graph_update.specs.Engine.{AsksForNoFixedSet, IsOfClear};
 ghost use Rattle.graph_update.specs.Events.{clear_nodes};
 
+use crate::finish_laws::{self, sound_finish_laws};
+use crate::finishing::end_at_home;
 use crate::laws::basis;
 use crate::pending::Pending;
 use crate::{Engine, OverCause};
 use app_laws::App;
-use cell_store::Bundle;
 use kdg_graph::{NodeId, node_laws, source_laws};
 use kdg_text::{NoRoom, Steps};
 use std::sync::ledger::Ledger;
@@ -45,11 +46,12 @@ impl<'a, A: App> Engine<'a, A> {
         Ok(())
     }
 
-    /// Claims a clear task, performs it and ends it, with nothing between. The task isn't copied, as it
-    /// is where a job is handed out.
+    /// Claims a clear task, performs it and ends it, with nothing between. Neither the task nor its cells
+    /// are copied, as they are where a job is handed out: it works on the cells where they are.
     ///
     /// Where its children are more than may be created, it stays claimed, and the mark tells. For want
-    /// of memory either nothing changes, or it stays claimed. Sets are asked for as by a finish.
+    /// of memory either nothing changes, or it stays claimed. What it wrote is dropped then, as where a
+    /// job is dropped. Sets are asked for as by a finish.
     #[inline(always)]
     pub fn act<L: Ledger>(&mut self, node: NodeId, steps: &mut Steps<L>) -> Result<(), OverCause>
         requires clear { IsOfClear (A.meaning self.old.app) self.old.progress.nodes node }
@@ -61,35 +63,44 @@ impl<'a, A: App> Engine<'a, A> {
         ensures no_step { AsksForNoFixedSet (A.meaning self.old.app) steps.old steps.new }
     {
         basis::<A>();
-        let limit = self.limit;
-        let bundle = self.start(node)?;
-        let Ok(effect) = self.app.run(self.graph.task(node), bundle) else {
+        finish_laws::basis::<A>();
+        sound_finish_laws::<A>();
+        let (task, set) = (self.graph.task(node), self.graph.set(node));
+        let Ok((children, text)) = self.app.run_at_home(task, set, &mut self.store) else {
             return Err(OverCause::NoRoom);
         };
-        let created = self.created + effect.children.items().len() as u64;
+        self.graph.mark_running(node);
+        self.ready.forget();
+        let children = children.items();
+        let (created, limit) = (self.created + children.len() as u64, self.limit);
         if created > limit {
+            self.store.drop_written(self.graph.set(node));
             let cause = OverCause::Budget { created, limit };
             self.over = Some(cause);
             return Err(cause);
         }
-        match self.end_running(node, effect, created, steps) {
-            Ok(()) => Ok(()),
-            Err(_) => Err(OverCause::NoRoom),
+        let ended = end_at_home(
+            self.alloc,
+            self.app,
+            &self.store,
+            &mut self.graph,
+            &mut self.log,
+            &mut self.fresh,
+            node,
+            children,
+            text,
+            steps,
+        );
+        match ended {
+            Ok(()) => {
+                self.created = created;
+                self.ended += 1;
+                Ok(())
+            }
+            Err(_) => {
+                self.store.drop_written(self.graph.set(node));
+                Err(OverCause::NoRoom)
+            }
         }
-    }
-
-    /// Marks a clear node as running, and takes its cells. After `NoRoom` all is as it was.
-    #[inline(always)]
-    fn start(&mut self, node: NodeId) -> Result<Bundle<A::Val>, NoRoom>
-        requires { IsOfClear (A.meaning self.old.app) self.old.progress.nodes node }
-        ensures app { self.new.app ≡ self.old.app }
-        ensures started { IfOk result (λ bundle. IsReadyToRun (A.meaning self.old.app) self.old.progress node self.new.progress bundle) }
-        ensures unchanged { OnErr result (self.new ≡ self.old) }
-    {
-        basis::<A>();
-        let bundle = self.store.take(self.graph.set(node))?;
-        self.graph.mark_running(node);
-        self.ready.forget();
-        Ok(bundle)
     }
 }
