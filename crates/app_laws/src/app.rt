@@ -142,8 +142,8 @@ pub trait App {
     ghost safety_ignores_paths: { (app : Self) → SafetyIgnoresPaths (meaning app) };
 }
 
-/// Gives back the bundle of a task that ran, or with which it came back where memory ran out. After
-/// `take` and `run` it ends an application's `run_at_home` that has no shorter way.
+/// Gives back the bundle that a task left, or that came back from it as it was where memory ran out.
+/// After `take` and `run` it ends the `run_at_home` of an application that has no shorter way.
 #[inline(always)]
 pub fn give_back<V: Held>(
     store: &mut Store<V>,
@@ -152,7 +152,7 @@ pub fn give_back<V: Held>(
     requires effect { IfOk ran (λ effect. AreWrittenOut store.old effect.bundle.set) }
     requires returned { IfErr ran (λ back. AreWrittenOut store.old back.set) }
     ensures done { IfOk result (λ made. (bundle : Part V) × (ran ≡ Ok (record { bundle = bundle; children = made.0; text = made.1 })) × (store.new ≡ cells_given store.old bundle)) }
-    ensures unchanged { OnErr result ((back : Part V) × (ran ≡ Err back) × (store.new ≡ cells_given store.old back)) }
+    ensures back { OnErr result ((back : Part V) × (ran ≡ Err back) × (store.new ≡ cells_given store.old back)) }
 {
     match ran {
         Ok(
