@@ -54,6 +54,7 @@ impl Locations {
 
     /// Files a node that stands among the nodes, where `reserve` made room at each location of its
     /// set, and tells what it has before and behind it there. It takes no memory.
+    #[inline(always)]
     pub(crate) fn enter(&mut self, nodes: &OrderedNodes, id: NodeId) -> Neighbours
         requires there { HasNode nodes.now.nodes id }
         requires room { IfSome (node_at nodes.now.nodes id) (λ node. HasRoom 1 node.set (rooms_of self.old.locations.items)) }

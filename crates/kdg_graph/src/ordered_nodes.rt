@@ -230,7 +230,7 @@ impl OrderedNodes {
     }
 
     /// Puts a node into a list of ids in key order, which has room for it, and tells its place there.
-    #[inline(never)]
+    #[inline(always)]
     pub(crate) fn put_into(&self, lane: &mut Lane, id: NodeId) -> usize
         requires there { HasNode self.now.nodes id }
         requires room { length lane.old.ids.items < lane.old.ids.capacity }
