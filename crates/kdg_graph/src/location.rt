@@ -166,16 +166,12 @@ impl Location {
         ensures lanes { (other : Access) (some : List Node) → IsLaneAmong nodes.now.nodes some (ids_for other self.old) → ids_for other self.new ≡ ids_of (without_if (excludes other access) id some) }
         ensures no_less { room_in self.old ≤ room_in self.new }
     {
-        let all = self.named.len();
-        nodes.take_from(&mut self.named, id);
-        let fewer = u32::from(self.named.len() < all);
+        let fewer = u32::from(nodes.take_from(&mut self.named, id));
         self.spare = self.spare.saturating_add(fewer);
         if !self.apart {
             self.spare_writers = self.spare_writers.saturating_add(fewer);
         } else if access.is_write() {
-            let writing = self.writers.len();
-            nodes.take_from(&mut self.writers, id);
-            let fewer = u32::from(self.writers.len() < writing);
+            let fewer = u32::from(nodes.take_from(&mut self.writers, id));
             self.spare_writers = self.spare_writers.saturating_add(fewer);
         }
     }

@@ -406,6 +406,6 @@ fn leave_order(order: &mut Option<Lane>, nodes: &OrderedNodes, id: NodeId)
 {
     let _graph = nodes.len();
     if let Some(lane) = order {
-        nodes.take_from(lane, id);
+        let _ = nodes.take_from(lane, id);
     }
 }

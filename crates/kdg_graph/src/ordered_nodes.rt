@@ -1,4 +1,5 @@
 ghost use Rattle.std.specs.Prelude.{◌≡◌, ◌+◌, ◌^◌, ◌<◌, ◌≤◌, ◌||◌, Bool, List, [], ◌∷◌, Some, IfSome, MatchResult, OnOk, filter, length, slice_get};
+ghost use Rattle.std.specs.Int.{from_bool};
 ghost use Rattle.std.specs.Option.{option_cmp, option_map};
 ghost use Rattle.task_order.specs.Key.{key_cmp};
 ghost use Rattle.task_order.specs.TaskList.{IsNewKey};
@@ -282,34 +283,38 @@ impl OrderedNodes {
         place
     }
 
-    /// Takes a node out of a list of ids in key order, if it is there: mostly it is the first.
+    /// Takes a node out of a list of ids in key order, and tells whether it was there: mostly it is the
+    /// first.
     #[inline(never)]
-    pub(crate) fn take_from(&self, lane: &mut Lane, id: NodeId)
+    pub(crate) fn take_from(&self, lane: &mut Lane, id: NodeId) -> bool
         requires { HasNode self.now.nodes id }
         ensures ids { (some : List Node) → IsLaneAmong self.now.nodes some lane.old.ids.items → lane.new.ids.items ≡ ids_of (without id some) }
         ensures room { lane.old.ids.capacity ≤ lane.new.ids.capacity }
-        ensures len { length lane.new.ids.items ≤ length lane.old.ids.items }
+        ensures len { length lane.new.ids.items + from_bool result ≡ length lane.old.ids.items }
     {
         // It is known of the nodes that no two have one id.
         let _ = &self.slots;
         if lane.starts_with(id) {
             let _ = lane.remove(0);
+            true
         } else {
-            self.take_within(lane, id);
+            self.take_within(lane, id)
         }
     }
 
     /// The same, wherever it is. It stays a call.
     #[inline(never)]
-    fn take_within(&self, lane: &mut Lane, id: NodeId)
+    fn take_within(&self, lane: &mut Lane, id: NodeId) -> bool
         requires { HasNode self.now.nodes id }
         ensures ids { (some : List Node) → IsLaneAmong self.now.nodes some lane.old.ids.items → lane.new.ids.items ≡ ids_of (without id some) }
         ensures room { lane.old.ids.capacity ≤ lane.new.ids.capacity }
-        ensures len { length lane.new.ids.items ≤ length lane.old.ids.items }
+        ensures len { length lane.new.ids.items + from_bool result ≡ length lane.old.ids.items }
     {
-        if let Ok(place) = self.place_among(lane, id) {
-            let _ = lane.remove(place);
-        }
+        let Ok(place) = self.place_among(lane, id) else {
+            return false;
+        };
+        let _ = lane.remove(place);
+        true
     }
 
     /// The id of the node whose task has the key, found by a search among all of the nodes, by their ids

@@ -176,7 +176,7 @@ impl SourceLane {
         ensures room { self.old.room ≤ self.new.room }
         ensures marks { self.new.marks ≡ self.old.marks }
     {
-        nodes.take_from(&mut self.settled, id);
+        let _ = nodes.take_from(&mut self.settled, id);
         self.standings[id.at as usize] = Standing::Absent;
     }
 

@@ -8,8 +8,8 @@ use Rattle.kdg_graph.proofs.Selecting.{found_node}
 use Rattle.kdg_graph.proofs.Sought.{id_apart, unfiled_found}
 use Rattle.kdg_graph.proofs.ordered_nodes.OrderedNodes.take_within.Goals as goal
 
-pub returns-in-Ok-clause-ids : goal.returns-in-Ok-clause-ids
-returns-in-Ok-clause-ids c some among =
+pub returns-clause-ids : goal.returns-clause-ids
+returns-clause-ids c some among =
     let nodes : List Node = c.args.self.now.nodes in
     let ids : List NodeId = c.args.lane.now.ids.items in
     let held = found_node nodes c.args.id c.requires in
