@@ -98,7 +98,8 @@ impl Lane {
         }
     }
 
-    /// How many of the nodes are earlier than the key, where it is known that those from a place on aren't.
+    /// How many of the nodes are earlier than the key, where it is known that those from a place on aren't:
+    /// mostly none, or else a search that begins there.
     #[inline(always)]
     pub(crate) fn rank_until(&self, slots: &Slab<Entry>, key: &Key, end: usize) -> usize
         requires inside { end ≤ length self.now.ids.items }
@@ -106,6 +107,9 @@ impl Lane {
         ensures rank { (nodes : List Node) → IsLane slots.now nodes self.now.ids.items → IsRank key.now nodes result }
         ensures inside { result ≤ length self.now.ids.items }
     {
+        if let Ordering::Greater = self.compare_at(slots, 0, key) {
+            return 0;
+        }
         match self.search_down(slots, key, end) {
             Ok(place) | Err(place) => place,
         }
