@@ -84,18 +84,24 @@ impl Locations {
         }
     }
 
-    /// Files a node that stands among the nodes no more. It takes no memory.
-    pub(crate) fn leave(&mut self, nodes: &OrderedNodes, id: NodeId)
+    /// Files a node that stands among the nodes no more, and tells whether any is left that its accesses
+    /// clash with. It takes no memory.
+    pub(crate) fn leave(&mut self, nodes: &OrderedNodes, id: NodeId) -> bool
         requires there { HasNode nodes.now.nodes id }
         requires filed { AreFiled nodes.now.nodes self.old.locations.items }
         ensures filed { AreFiled (without id nodes.now.nodes) self.new.locations.items }
+        ensures none_left { IfSome (node_at nodes.now.nodes id) (λ node. result ≡ false → AllByRecursion (λ p. clashing_at p.0 p.1 (without id nodes.now.nodes) ≡ []) node.set) }
         ensures no_less { HaveNoLess (rooms_of self.old.locations.items) (rooms_of self.new.locations.items) }
     {
         let _graph = nodes.len();
         let node = nodes.entry(id);
+        let mut left = false;
         for pair in node.set.items() {
-            self.locations[pair.0 as usize].leave(nodes, id, pair.1);
+            let here = &mut self.locations[pair.0 as usize];
+            here.leave(nodes, id, pair.1);
+            left |= here.clashing(pair.1).len() > 0;
         }
+        left
     }
 
     /// Files a node anew whose set was another before, where `reserve` made room: only what the two

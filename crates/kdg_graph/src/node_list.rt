@@ -266,16 +266,17 @@ impl NodeList {
         conflict_laws();
         let unblocked = self.sources.is_listed(id);
         self.sources.forget(&self.nodes, id);
-        self.locations.leave(&self.nodes, id);
+        let left = self.locations.leave(&self.nodes, id);
         leave_order(&mut self.order, &self.nodes, id);
         let node = self.nodes.remove(id);
         // No node that an unblocked one clashes with is earlier.
-        self.sources.refresh_fronts(
+        self.sources.refresh_behind(
             &self.nodes,
             &self.locations,
             &node.set,
             &node.task.key,
             unblocked,
+            left,
         );
         node.task
     }

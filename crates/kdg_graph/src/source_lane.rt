@@ -370,6 +370,33 @@ impl SourceLane {
         }
     }
 
+    /// The same, unless it is known that no node is left that its accesses clash with.
+    #[inline(always)]
+    pub(crate) fn refresh_behind(
+        &mut self,
+        nodes: &OrderedNodes,
+        locations: &Locations,
+        set: &RwSet,
+        key: &Key,
+        first: bool,
+        left: bool,
+    )
+        requires graph { IsGraph nodes.now.nodes }
+        requires first { first ≡ true → AllByRecursion (λ p. IsRankPast key.now (clashing_at p.0 p.1 nodes.now.nodes) 0) set.now }
+        requires none_left { left ≡ false → AllByRecursion (λ p. clashing_at p.0 p.1 nodes.now.nodes ≡ []) set.now }
+        requires filed { AreFiled nodes.now.nodes locations.now.locations.items }
+        requires some { AreSome nodes.now.nodes self.old }
+        ensures ids { (test : Node → Bool) → AreSelected nodes.now.nodes test (listed_in nodes.now.nodes self.old)
+            → AreSelected nodes.now.nodes (refreshed nodes.now.nodes (ids_of (fronts_after set.now key.now nodes.now.nodes)) test) (listed_in nodes.now.nodes self.new) }
+        ensures some { AreSome nodes.now.nodes self.new }
+        ensures room { self.old.room ≤ self.new.room }
+        ensures marks { self.new.marks ≡ self.old.marks }
+    {
+        if left {
+            self.refresh_fronts(nodes, locations, set, key, first);
+        }
+    }
+
     /// Takes the nodes of the front behind a node at one location out.
     fn forget_front(
         &mut self,

@@ -1,4 +1,4 @@
-use Rattle.std.proofs.Common.{◌≡◌, ◌∙◌, ℕ, List, Some, true, ap, length, subst, sym, arith}
+use Rattle.std.proofs.Common.{◌≡◌, ◌∙◌, ℕ, List, [], Some, false, true, ap, length, subst, sym, arith}
 use Rattle.std.specs.List.{AllByRecursion}
 use Rattle.std.specs.Option.{option_map}
 use Rattle.rw_sets.specs.declared.access.Access.{Access}
@@ -14,11 +14,12 @@ use Rattle.kdg_graph.proofs.Carried.{listed_without, number_listed, some_without
 use Rattle.kdg_graph.proofs.Leaving.{unblocked_leads}
 use Rattle.kdg_graph.proofs.Ordered.{length-without}
 use Rattle.kdg_graph.proofs.Rooms.{numbers_left}
+use Rattle.kdg_graph.proofs.Selecting.{at_some}
 use Rattle.kdg_graph.proofs.Settling.{select_left, settled_without}
 use Rattle.kdg_graph.proofs.node_list.NodeList.remove.Goals as goal
 
-pub refresh_fronts-requires-clause-first : goal.refresh_fronts-requires-clause-first
-refresh_fronts-requires-clause-first c listed =
+pub refresh_behind-requires-clause-first : goal.refresh_behind-requires-clause-first
+refresh_behind-requires-clause-first c listed =
     let nodes : List Node = c.self.inside.nodes.nodes in
     let node : Node = record { id = c.node.inside.id; task = c.node.inside.task; set = c.node.inside.set; running = c.node.inside.running } in
     let is : node_at nodes c.args.id ≡ Some node = c.remove-node.ensures.node ∙ ap (λ (n : Node). Some n) (sym c.node.view_is) in
@@ -26,11 +27,19 @@ refresh_fronts-requires-clause-first c listed =
     subst (λ (l : List Node). AllByRecursion (λ (p : ℕ × Access). IsRankPast node.task.key (clashing_at p.0 p.1 l) 0) node.set) (sym c.remove-node.ensures.nodes)
     (unblocked_leads c.conflict_laws.ensures.decided c.conflict_laws.ensures.mutual nodes c.args.id node c.self.invariant.0.graph is free)
 
-pub refresh_fronts-requires-clause-filed : goal.refresh_fronts-requires-clause-filed
-refresh_fronts-requires-clause-filed c = subst (λ (l : List Node). AreFiled l c.leave.new.self.locations.items) (sym c.remove-node.ensures.nodes) c.leave.ensures.filed
+pub refresh_behind-requires-clause-none_left : goal.refresh_behind-requires-clause-none_left
+refresh_behind-requires-clause-none_left c none =
+    let nodes : List Node = c.self.inside.nodes.nodes in
+    let node : Node = record { id = c.node.inside.id; task = c.node.inside.task; set = c.node.inside.set; running = c.node.inside.running } in
+    let is : node_at nodes c.args.id ≡ Some node = c.remove-node.ensures.node ∙ ap (λ (n : Node). Some n) (sym c.node.view_is) in
+    let alone : List Node → Node → Type 0 = λ l n. AllByRecursion (λ (p : ℕ × Access). clashing_at p.0 p.1 l ≡ []) n.set in
+    subst (λ (l : List Node). alone l node) (sym c.remove-node.ensures.nodes) (at_some (λ (n : Node). c.leave-left.result ≡ false → alone (without c.args.id nodes) n) (node_at nodes c.args.id) node is c.leave-left.ensures.none_left none)
 
-pub refresh_fronts-requires-clause-some : goal.refresh_fronts-requires-clause-some
-refresh_fronts-requires-clause-some c =
+pub refresh_behind-requires-clause-filed : goal.refresh_behind-requires-clause-filed
+refresh_behind-requires-clause-filed c = subst (λ (l : List Node). AreFiled l c.leave-left.new.self.locations.items) (sym c.remove-node.ensures.nodes) c.leave-left.ensures.filed
+
+pub refresh_behind-requires-clause-some : goal.refresh_behind-requires-clause-some
+refresh_behind-requires-clause-some c =
     let nodes : List Node = c.self.inside.nodes.nodes in
     some_without c.args.id c.remove-node.result nodes c.remove-node.new.self.nodes (is_unblocked nodes) c.forget.new.self c.self.invariant.0.graph c.remove-node.ensures.node c.remove-node.ensures.nodes (c.forget.ensures.ids (is_unblocked nodes) c.self.invariant.0.unblocked_are) c.forget.ensures.some
 
@@ -48,18 +57,18 @@ invariant_of-self c =
     let spare = c.self.invariant.2 in
     let fewer = ap length now in
     let one = length-without c.args.id nodes c.remove-node.result c.self.invariant.0.graph c.remove-node.ensures.node in
-    let numbers = numbers_left 0 c.self.inside.nodes.numbers c.remove-node.new.self.numbers _ _ _ _ (omega (arith, c.remove-node.ensures.numbers)) c.remove-node.ensures.keys (c.refresh_fronts.ensures.marks ∙ c.forget.ensures.marks) in (
+    let numbers = numbers_left 0 c.self.inside.nodes.numbers c.remove-node.new.self.numbers _ _ _ _ (omega (arith, c.remove-node.ensures.numbers)) c.remove-node.ensures.keys (c.refresh_behind.ensures.marks ∙ c.forget.ensures.marks) in (
       record {
         graph = c.remove-node.ensures.graph;
-        filed = subst (λ (l : List Node). AreFiled l c.leave.new.self.locations.items) (sym now) c.leave.ensures.filed;
-        some = c.refresh_fronts.ensures.some;
-        unblocked_are = settled_without c.args.id node nodes after (listed_in after c.refresh_fronts.new.self) c.self.invariant.0.graph is now (c.refresh_fronts.ensures.ids (is_unblocked nodes) others);
+        filed = subst (λ (l : List Node). AreFiled l c.leave-left.new.self.locations.items) (sym now) c.leave-left.ensures.filed;
+        some = c.refresh_behind.ensures.some;
+        unblocked_are = settled_without c.args.id node nodes after (listed_in after c.refresh_behind.new.self) c.self.invariant.0.graph is now (c.refresh_behind.ensures.ids (is_unblocked nodes) others);
       },
       subst (λ (l : List Node). IsOrder l c.leave_order.new.order) (sym now) c.leave_order.ensures.order,
       record {
         places = omega (arith, spare.places, c.leave_order.ensures.places c.self.inside.nodes.numbers c.remove-node.new.self.numbers c.remove-node.ensures.numbers);
         numbers = omega (arith, spare.numbers, numbers);
-        marks = omega (arith, spare.marks, fewer, one, c.self.invariant.0.some.room, c.forget.ensures.room, c.refresh_fronts.ensures.room);
+        marks = omega (arith, spare.marks, fewer, one, c.self.invariant.0.some.room, c.forget.ensures.room, c.refresh_behind.ensures.room);
       },
     )
 
@@ -82,4 +91,4 @@ returns-clause-marks c =
     let fewer = ap length c.remove-node.ensures.nodes in
     let one = length-without c.args.id c.self.inside.nodes.nodes c.remove-node.result c.self.invariant.0.graph c.remove-node.ensures.node in
     let was = ap (λ (stock : NodeStock). stock.marks) c.self.view_is in
-    omega (arith, fewer, one, was, c.self.invariant.0.some.room, c.forget.ensures.room, c.refresh_fronts.ensures.room)
+    omega (arith, fewer, one, was, c.self.invariant.0.some.room, c.forget.ensures.room, c.refresh_behind.ensures.room)
