@@ -300,8 +300,8 @@ impl Blocks {
         self.blocks[at].len()
     }
 
-    /// Takes the entries before a place out, and joins their texts. After `NoRoom` the blocks are as
-    /// they were.
+    /// Takes the entries before a place out, and joins their texts. Before the first place are none, and
+    /// nothing is done. After `NoRoom` the blocks are as they were.
     pub(crate) fn take_to(&mut self, at: usize, place: usize) -> Result<Text, NoRoom>
         requires { IsInside self.old.blocks at place }
         ensures text { IfOk result (λ text. text ≡ joined_texts (entries_to self.old.blocks at place)) }
@@ -309,6 +309,9 @@ impl Blocks {
         ensures unchanged { OnErr result (self.new.blocks ≡ self.old.blocks) }
         ensures spare { self.old.spare ≤ self.new.spare }
     {
+        if at == 0 && place == 0 {
+            return Ok(Text::new(*self.blocks.allocator()));
+        }
         let text = self.texts_to(at, place)?;
         self.remove_to(at, place);
         Ok(text)
