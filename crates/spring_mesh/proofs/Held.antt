@@ -17,8 +17,7 @@ use Rattle.spring_mesh.specs.declared.file.MeshNode.{MeshNode}
 use Rattle.spring_mesh.specs.declared.file.Spring.{Spring}
 use Rattle.spring_mesh.specs.LineForms.{latest}
 use Rattle.spring_mesh.specs.Files.{IsNode, IsSpring}
-use Rattle.spring_mesh.specs.Motion.{brought_to, first_after, second_after}
-use Rattle.spring_mesh.specs.Meaning.{IsFitCells, IsFitTask, children_of, ends_of, first_stepped, mass_at, mesh_steps, next_steps, no_node, node_at, second_stepped, spring_at, with_ends}
+use Rattle.spring_mesh.specs.Meaning.{IsFitCells, IsFitTask, children_of, ends_of, first_from, first_stepped, mesh_steps, next_steps, no_node, node_at, second_from, second_stepped, spring_at, with_ends}
 use Rattle.spring_mesh.specs.Ends.{ends_of-ascending, first-named, first-written, second-named, second-written}
 use Rattle.spring_mesh.specs.Lawful.{node_at-fits, spring_at-fits}
 
@@ -99,25 +98,21 @@ same_effects e f g = cc
 
 -- what a step leaves is the operator's effect, whatever the other cells hold
 pub effect_found : {mesh : MeshFile} (task : Task) {bundle : Part MeshNode} → PartsByLocation MeshNode → HomesByLocation MeshNode → IsFitTask mesh task.key.prio task.body
-    → (spring : Spring) (first second brought other new-first new-second : MeshNode) (children : List Child) (text : List ℕ) → spring ≡ spring_at mesh task.body.at
-    → cell_in bundle spring.a ≡ Home first → cell_in bundle spring.b ≡ Home second → brought ≡ brought_to task.key.prio first → other ≡ brought_to task.key.prio second
-    → new-first ≡ first_after spring (mass_at mesh spring.a) brought other → new-second ≡ second_after spring (mass_at mesh spring.b) brought other
+    → (spring : Spring) (first second new-first new-second : MeshNode) (children : List Child) (text : List ℕ) → spring ≡ spring_at mesh task.body.at
+    → cell_in bundle spring.a ≡ Home first → cell_in bundle spring.b ≡ Home second
+    → new-first ≡ first_from mesh task.key.prio spring first second → new-second ≡ second_from mesh task.key.prio spring first second
     → children ≡ children_of mesh.end task.key.prio task.body spring → text ≡ []
     → IsEffect (mesh_steps mesh) task bundle (record { bundle = with_value (with_value bundle spring.a new-first) spring.b new-second; children = children; text = text })
-effect_found {mesh} task {bundle} parts values step spring first second brought other new-first new-second children text spring-is first-is second-is brought-is other-is new-first-is new-second-is children-is text-is cells fit is =
+effect_found {mesh} task {bundle} parts values step spring first second new-first new-second children text spring-is first-is second-is new-first-is new-second-is children-is text-is cells fit is =
     let held : IsHeld mesh task bundle cells = record { parts = parts; values = values; step = step; fit = fit; is = is } in
     let time = task.key.prio in
     let s = spring_at mesh task.body.at in
     let a : first ≡ node_at cells s.a = first_found held first (subst (λ (p : Spring). cell_in bundle p.a ≡ Home first) spring-is first-is) in
     let b : second ≡ node_at cells s.b = second_found held second (subst (λ (p : Spring). cell_in bundle p.b ≡ Home second) spring-is second-is) in
     let one : new-first ≡ first_stepped mesh time s cells =
-    new-first-is ∙ ap (λ (p : Spring). first_after p (mass_at mesh p.a) brought other) spring-is
-    ∙ ap (λ n. first_after s (mass_at mesh s.a) n other) (brought-is ∙ ap (brought_to time) a)
-    ∙ ap (λ n. first_after s (mass_at mesh s.a) (brought_to time (node_at cells s.a)) n) (other-is ∙ ap (brought_to time) b) in
+    new-first-is ∙ ap (λ (p : Spring). first_from mesh time p first second) spring-is ∙ ap (λ n. first_from mesh time s n second) a ∙ ap (λ n. first_from mesh time s (node_at cells s.a) n) b in
     let two : new-second ≡ second_stepped mesh time s cells =
-    new-second-is ∙ ap (λ (p : Spring). second_after p (mass_at mesh p.b) brought other) spring-is
-    ∙ ap (λ n. second_after s (mass_at mesh s.b) n other) (brought-is ∙ ap (brought_to time) a)
-    ∙ ap (λ n. second_after s (mass_at mesh s.b) (brought_to time (node_at cells s.a)) n) (other-is ∙ ap (brought_to time) b) in
+    new-second-is ∙ ap (λ (p : Spring). second_from mesh time p first second) spring-is ∙ ap (λ n. second_from mesh time s n second) a ∙ ap (λ n. second_from mesh time s (node_at cells s.a) n) b in
     same_effects
     (ap (λ (p : Spring). with_value (with_value bundle p.a new-first) p.b new-second) spring-is
     ∙ ap (λ n. with_value (with_value bundle s.a n) s.b new-second) one ∙ ap (λ n. with_value (with_value bundle s.a (first_stepped mesh time s cells)) s.b n) two

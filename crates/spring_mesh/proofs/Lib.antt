@@ -5,4 +5,5 @@ pub mod Wide
 pub mod Saturated
 pub mod Steps
 pub mod Held
+pub mod AtHome
 pub mod PairMeshes

@@ -49,14 +49,19 @@ pub record IsFitTask (mesh : MeshFile) (prio : ℕ) (body : Body) : Type 0 where
 abbrev pub ends_of : Spring → Accesses
 ends_of spring = put_access ((spring.a, Write) ∷ []) (spring.b, Write)
 
--- the ends of a spring after a step at a time
+-- the ends of a spring after a step at a time, where these are the ends before it
+abbrev pub first_from : MeshFile → ℕ → Spring → MeshNode → MeshNode → MeshNode
+first_from file time spring a b = first_after spring (mass_at file spring.a) (brought_to time a) (brought_to time b)
+
+abbrev pub second_from : MeshFile → ℕ → Spring → MeshNode → MeshNode → MeshNode
+second_from file time spring a b = second_after spring (mass_at file spring.b) (brought_to time a) (brought_to time b)
+
+-- the same among all cells
 abbrev pub first_stepped : MeshFile → ℕ → Spring → List MeshNode → MeshNode
-first_stepped file time spring cells =
-    first_after spring (mass_at file spring.a) (brought_to time (node_at cells spring.a)) (brought_to time (node_at cells spring.b))
+first_stepped file time spring cells = first_from file time spring (node_at cells spring.a) (node_at cells spring.b)
 
 abbrev pub second_stepped : MeshFile → ℕ → Spring → List MeshNode → MeshNode
-second_stepped file time spring cells =
-    second_after spring (mass_at file spring.b) (brought_to time (node_at cells spring.a)) (brought_to time (node_at cells spring.b))
+second_stepped file time spring cells = second_from file time spring (node_at cells spring.a) (node_at cells spring.b)
 
 -- the cells with these ends
 abbrev pub with_ends : Spring → MeshNode → MeshNode → List MeshNode → List MeshNode

@@ -1,14 +1,14 @@
-ghost use Rattle.std.specs.Prelude.{◌≡◌, ◌≢◌, ◌+◌, ◌<◌, ◌≤◌, ◌^◌, ◌++◌, length, IfOk, IfErr, OnOk};
+ghost use Rattle.std.specs.Prelude.{◌≡◌, ◌≢◌, ◌+◌, ◌<◌, ◌≤◌, ◌^◌, ◌++◌, length, IfOk, IfErr, OnOk, OnErr};
 ghost use Rattle.app_laws.specs.Applications.{AreFitStarts};
 ghost use Rattle.cell_store.specs.Values.{AreAllHome, values_of};
-ghost use Rattle.spring_mesh.specs.Files.{IsMesh, IsNode};
+ghost use Rattle.spring_mesh.specs.Files.{IsMesh, IsNode, IsSpring};
 ghost use Rattle.spring_mesh.specs.LineForms.{latest};
-ghost use Rattle.spring_mesh.specs.Meaning.{IsFitCells, children_of, ends_of, finals_of, first_step, mesh_steps, mass_at, node_line, spring_at, start_tasks, value_piece};
+ghost use Rattle.spring_mesh.specs.Meaning.{IsFitCells, children_of, ends_of, finals_of, first_from, first_step, mesh_steps, mass_at, node_line, second_from, spring_at, start_tasks, value_piece};
 
 use crate::motion::{brought_to, ends_after};
 use crate::{MeshFile, MeshNode, Spring};
-use app_laws::{App, Child, ChildList, Effect, SetAnswer, give_back};
-use cell_store::{Bundle, Held, Seen, Store, location_laws, return_laws, value_laws};
+use app_laws::{App, Child, ChildList, Effect, SetAnswer};
+use cell_store::{Bundle, Held, Seen, Store, home_laws, location_laws, value_laws};
 use kdg_text::{NoRoom, Steps, Text, push_i64, push_u64};
 use rw_sets::{Access, RwSet};
 use std::alloc::Global;
@@ -106,6 +106,29 @@ impl Mesh {
     {
         self.file.masses.items()[number as usize]
     }
+
+    /// The ends of a spring after a step at a time, where these are the ends before it.
+    #[inline(always)]
+    fn stepped(
+        &self,
+        time: u64,
+        spring: &Spring,
+        a: &MeshNode,
+        b: &MeshNode,
+    ) -> (MeshNode, MeshNode)
+        requires mesh { IsMesh self.now }
+        requires time { time ≤ latest }
+        requires spring { IsSpring (length self.now.nodes) spring.now }
+        requires a { IsNode a.now }
+        requires b { IsNode b.now }
+        ensures first { result.0 ≡ first_from self.now time spring.now a.now b.now }
+        ensures second { result.1 ≡ second_from self.now time spring.now a.now b.now }
+    {
+        let masses = (self.mass(spring.a), self.mass(spring.b));
+        let first = brought_to(a, time);
+        let second = brought_to(b, time);
+        ends_after(spring, masses, &first, &second)
+    }
 }
 
 /// The first steps of the springs, unless they would come after the end.
@@ -159,7 +182,8 @@ fn push_value(text: &mut Text, value: i64) -> Result<(), NoRoom>
 }
 
 impl App for Mesh {
-    ghost use Rattle.app_laws.specs.Applications.{IsFitTask, IsTaken, IsEffect};
+    ghost use Rattle.app_laws.specs.Applications.{IsFitTask, IsTaken, IsEffect, IsDoneAtHome};
+    ghost use Rattle.cell_store.specs.Cells.{AreHome, part_of};
     ghost use Rattle.spring_mesh.specs.Lawful as lawful;
     ghost use Rattle.spring_mesh.specs.Meaning.{mesh_steps};
 
@@ -213,11 +237,9 @@ impl App for Mesh {
         let Ok(children) = children(self.alloc, self.file.end, task, spring) else {
             return Err(bundle);
         };
-        let masses = (self.mass(spring.a), self.mass(spring.b));
         let mut bundle = bundle;
-        let first = brought_to(&bundle.value(spring.a), time);
-        let second = brought_to(&bundle.value(spring.b), time);
-        let (first, second) = ends_after(spring, masses, &first, &second);
+        let (a, b) = (bundle.value(spring.a), bundle.value(spring.b));
+        let (first, second) = self.stepped(time, spring, &a, &b);
         bundle.put(spring.a, first);
         bundle.put(spring.b, second);
         Ok(Effect {
@@ -233,10 +255,24 @@ impl App for Mesh {
         task: &Task,
         set: &RwSet,
         store: &mut Store<MeshNode>,
-    ) -> Result<(ChildList, Text), NoRoom> {
-        return_laws::<MeshNode>();
-        let bundle = store.take(set)?;
-        give_back(store, self.run(task, bundle))
+    ) -> Result<(ChildList, Text), NoRoom>
+        requires fit { IsFitTask (mesh_steps self.now) task.now }
+        requires home { AreHome store.old set.now }
+        requires cells { IsTaken (mesh_steps self.now) task.now (part_of store.old set.now) }
+        ensures done { IfOk result (λ made. IsDoneAtHome (mesh_steps self.now) task.now set.now store.old made.0 made.1 store.new) }
+        ensures unchanged { OnErr result (store.new ≡ store.old) }
+    {
+        location_laws::<MeshNode>();
+        value_laws::<MeshNode>();
+        home_laws::<MeshNode>();
+        let time = task.key.prio;
+        let spring = self.spring(&task.body);
+        let children = children(self.alloc, self.file.end, task, spring)?;
+        let (a, b) = (store.value(spring.a), store.value(spring.b));
+        let (first, second) = self.stepped(time, spring, a, b);
+        store.put(spring.a, first);
+        store.put(spring.b, second);
+        Ok((children, Text::new(self.alloc)))
     }
 
     ghost cells_are_counted = { lawful.cells_are_counted };
