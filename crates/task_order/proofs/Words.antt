@@ -3,10 +3,10 @@ use Rattle.std.specs.Cmp.Lexicographic.{slice_cmp, nat_list_cmp_total}
 use Rattle.std.specs.declared.cmp.Ordering.{Ordering}
 use Rattle.std.specs.declared.cmp.Ordering.TheVariants.{Less, Equal}
 use Rattle.std.specs.Ordering.{nat_cmp, ordering_then, ordering_reverse}
-use Rattle.std.proofs.Common.{◌≡◌, ℕ, zero, suc, ◌+◌, ◌*◌, ◌%◌, ◌<◌, ◌≤◌, List, [], ◌∷◌, ◌++◌, length, take, drop, get_or, refl, sym, ◌∙◌, ap, ◌≢◌, add-one, length-take, length-drop, length-append, arith}
+use Rattle.std.proofs.Common.{◌≡◌, ℕ, zero, suc, ◌+◌, ◌*◌, ◌<◌, ◌≤◌, List, [], ◌∷◌, ◌++◌, length, take, drop, get_or, refl, sym, ◌∙◌, ap, ◌≢◌, add-one, length-take, length-drop, arith}
 use Rattle.std.specs.Int.{from_be_bytes, w64}
 use Rattle.std.proofs.Math.Seq.{drop-cons}
-use Rattle.std.proofs.lemmas.List.{drop-drop, drop_all}
+use Rattle.std.proofs.lemmas.List.{drop_all}
 use Rattle.std.proofs.lemmas.Bool.Decides.{nat_tests}
 use Rattle.task_order.specs.PathCode.{number_of}
 use Rattle.task_order.specs.SharedBytes.{IsPadded}
@@ -98,7 +98,7 @@ slice_cmp-split (suc n) (x ∷ xs) [] us vs same = absurd (omega arith)
 slice_cmp-split (suc n) (x ∷ xs) (y ∷ ys) us vs same =
     ap (ordering_then (nat_cmp x y)) (slice_cmp-split n xs ys us vs (omega arith)) ∙ sym (then_assoc (nat_cmp x y) _ _)
 
--- ---- three words of eight
+-- ---- words of eight
 
 pub take-step : (n i next : ℕ) (s : List ℕ) → next ≡ i + 1 → i < length s → take (suc n) (drop i s) ≡ get_or s i 0 ∷ take n (drop next s)
 take-step n i next s is inside = rw (is, add-one) (ap (take (suc n)) (drop-cons s i 0 inside))
@@ -106,12 +106,6 @@ take-step n i next s is inside = rw (is, add-one) (ap (take (suc n)) (drop-cons 
 pub number_of-eight : (p q r s t u v w : ℕ) → from_be_bytes w64 (p ∷ q ∷ r ∷ s ∷ t ∷ u ∷ v ∷ w ∷ []) ≡ number_of 0 (p ∷ q ∷ r ∷ s ∷ t ∷ u ∷ v ∷ w ∷ [])
 unfolding number_of
 number_of-eight p q r s t u v w = omega arith
-
--- the last seven digits of eight, and one more behind them
-pub number_of-shifted : (p q r s t u v w n : ℕ) → q < 256 → r < 256 → s < 256 → t < 256 → u < 256 → v < 256 → w < 256
-    → number_of 0 (p ∷ q ∷ r ∷ s ∷ t ∷ u ∷ v ∷ w ∷ []) % 72057594037927936 * 256 + n ≡ number_of 0 (q ∷ r ∷ s ∷ t ∷ u ∷ v ∷ w ∷ n ∷ [])
-unfolding number_of
-number_of-shifted p q r s t u v w n q_small r_small s_small t_small u_small v_small w_small = omega arith
 
 pub take-eight : (s : List ℕ) (i : ℕ) → i + 8 ≤ length s
     → take 8 (drop i s) ≡ get_or s i 0 ∷ get_or s (i + 1) 0 ∷ get_or s (i + 2) 0 ∷ get_or s (i + 3) 0 ∷ get_or s (i + 4) 0 ∷ get_or s (i + 5) 0 ∷ get_or s (i + 6) 0 ∷ get_or s (i + 7) 0 ∷ []
@@ -125,42 +119,26 @@ take-eight s i inside =
     ∙ ap (λ (t : List ℕ). get_or s (i + 5) 0 ∷ t) (take-step 1 (i + 6) (i + 7) s (omega arith) (omega arith)
     ∙ ap (λ (t : List ℕ). get_or s (i + 6) 0 ∷ t) (take-step 0 (i + 7) (i + 8) s (omega arith) (omega arith))))))))
 
-pub drop-step : (s : List ℕ) (i : ℕ) → i < length s → drop i s ≡ get_or s i 0 ∷ drop (i + 1) s
-drop-step s i inside = rw add-one (drop-cons s i 0 inside)
-
-pub drop-seven : (s : List ℕ) → length s ≡ 23
-    → drop 16 s ≡ get_or s 16 0 ∷ get_or s 17 0 ∷ get_or s 18 0 ∷ get_or s 19 0 ∷ get_or s 20 0 ∷ get_or s 21 0 ∷ get_or s 22 0 ∷ []
-drop-seven s is =
-    drop-step s 16 (omega arith)
-    ∙ ap (λ (t : List ℕ). get_or s 16 0 ∷ t) (drop-step s 17 (omega arith)
-    ∙ ap (λ (t : List ℕ). get_or s 17 0 ∷ t) (drop-step s 18 (omega arith)
-    ∙ ap (λ (t : List ℕ). get_or s 18 0 ∷ t) (drop-step s 19 (omega arith)
-    ∙ ap (λ (t : List ℕ). get_or s 19 0 ∷ t) (drop-step s 20 (omega arith)
-    ∙ ap (λ (t : List ℕ). get_or s 20 0 ∷ t) (drop-step s 21 (omega arith)
-    ∙ ap (λ (t : List ℕ). get_or s 21 0 ∷ t) (drop-step s 22 (omega arith)
-    ∙ ap (λ (t : List ℕ). get_or s 22 0 ∷ t) (drop_all 23 s (omega arith))))))))
-
--- what is behind the first word, by the second word and then the last
-pub slice_cmp-behind_first : (a b : List ℕ) (m n : ℕ) → length a ≡ 23 → length b ≡ 23 → AreBytes a → AreBytes b → m < 256 → n < 256
-    → slice_cmp nat_cmp (drop 8 a ++ m ∷ []) (drop 8 b ++ n ∷ [])
-    ≡ ordering_then (nat_cmp (number_of 0 (take 8 (drop 8 a))) (number_of 0 (take 8 (drop 8 b)))) (nat_cmp (number_of 0 (drop 16 a ++ m ∷ [])) (number_of 0 (drop 16 b ++ n ∷ [])))
-slice_cmp-behind_first a b m n a_places b_places a_bytes b_bytes m_small n_small =
+-- what is behind the first word, by the second word and then the lengths
+slice_cmp-behind_first : (a b : List ℕ) (m n : ℕ) → length a ≡ 16 → length b ≡ 16 → AreBytes a → AreBytes b
+    → slice_cmp nat_cmp (drop 8 a ++ m ∷ []) (drop 8 b ++ n ∷ []) ≡ ordering_then (nat_cmp (number_of 0 (take 8 (drop 8 a))) (number_of 0 (take 8 (drop 8 b)))) (nat_cmp m n)
+slice_cmp-behind_first a b m n a_places b_places a_bytes b_bytes =
     let same : length (drop 8 a) ≡ length (drop 8 b) = simp length-drop (omega arith) in
     slice_cmp-split 8 (drop 8 a) (drop 8 b) (m ∷ []) (n ∷ []) same
-    ∙ rw (drop-drop 8 8 a, drop-drop 8 8 b) (
-    ap (λ (o : Ordering). ordering_then o (slice_cmp nat_cmp (drop 16 a ++ m ∷ []) (drop 16 b ++ n ∷ [])))
-    (slice_cmp-words (take 8 (drop 8 a)) (take 8 (drop 8 b)) (simp (length-take, length-drop) (omega arith)) (AreBytes-take 8 (drop 8 a) (AreBytes-drop 8 a a_bytes)) (AreBytes-take 8 (drop 8 b) (AreBytes-drop 8 b b_bytes)))
-    ∙ ap (ordering_then (nat_cmp (number_of 0 (take 8 (drop 8 a))) (number_of 0 (take 8 (drop 8 b)))))
-    (slice_cmp-words (drop 16 a ++ m ∷ []) (drop 16 b ++ n ∷ []) (simp (length-append, length-drop) (omega arith)) (AreBytes-push (drop 16 a) m (AreBytes-drop 16 a a_bytes) m_small) (AreBytes-push (drop 16 b) n (AreBytes-drop 16 b b_bytes) n_small)))
+    ∙ rw (drop_all 8 (drop 8 a) (simp length-drop (omega arith)), drop_all 8 (drop 8 b) (simp length-drop (omega arith)), then-Equal (nat_cmp m n)) (
+    ap (λ (o : Ordering). ordering_then o (nat_cmp m n))
+    (slice_cmp-words (take 8 (drop 8 a)) (take 8 (drop 8 b)) (simp (length-take, length-drop) (omega arith)) (AreBytes-take 8 (drop 8 a) (AreBytes-drop 8 a a_bytes)) (AreBytes-take 8 (drop 8 b) (AreBytes-drop 8 b b_bytes))))
 
--- bytes in place, by the first word and then what is behind it
-pub slice_cmp-in_place : (a b : List ℕ) (m n : ℕ) → length a ≡ 23 → length b ≡ 23 → AreBytes a → AreBytes b → m ≤ 23 → n ≤ 23 → IsPadded a m → IsPadded b n
-    → slice_cmp nat_cmp (take m a) (take n b) ≡ ordering_then (nat_cmp (number_of 0 (take 8 a)) (number_of 0 (take 8 b))) (slice_cmp nat_cmp (drop 8 a ++ m ∷ []) (drop 8 b ++ n ∷ []))
+-- bytes in place, by the first word, then the second and then the lengths
+pub slice_cmp-in_place : (a b : List ℕ) (m n : ℕ) → length a ≡ 16 → length b ≡ 16 → AreBytes a → AreBytes b → m ≤ 16 → n ≤ 16 → IsPadded a m → IsPadded b n
+    → slice_cmp nat_cmp (take m a) (take n b)
+    ≡ ordering_then (nat_cmp (number_of 0 (take 8 a)) (number_of 0 (take 8 b))) (ordering_then (nat_cmp (number_of 0 (take 8 (drop 8 a))) (number_of 0 (take 8 (drop 8 b)))) (nat_cmp m n))
 slice_cmp-in_place a b m n a_places b_places a_bytes b_bytes m_within n_within a_padded b_padded =
     sym (slice_cmp-padded a b m n m n (omega arith) (omega arith) (omega arith) a_padded b_padded (omega arith))
     ∙ slice_cmp-split 8 a b (m ∷ []) (n ∷ []) (omega arith)
     ∙ ap (λ (o : Ordering). ordering_then o (slice_cmp nat_cmp (drop 8 a ++ m ∷ []) (drop 8 b ++ n ∷ [])))
     (slice_cmp-words (take 8 a) (take 8 b) (simp length-take (omega arith)) (AreBytes-take 8 a a_bytes) (AreBytes-take 8 b b_bytes))
+    ∙ ap (ordering_then (nat_cmp (number_of 0 (take 8 a)) (number_of 0 (take 8 b)))) (slice_cmp-behind_first a b m n a_places b_places a_bytes b_bytes)
 
 -- ---- an order that is found in two steps
 

@@ -1,4 +1,4 @@
-ghost use Rattle.std.specs.Prelude.{◌≡◌, ◌+◌, ◌≤◌, [], ◌∷◌, ◌++◌, length, take, drop};
+ghost use Rattle.std.specs.Prelude.{◌≡◌, ◌+◌, ◌≤◌, length, take, drop};
 ghost use Rattle.std.specs.Cmp.Lexicographic.{slice_cmp};
 ghost use Rattle.std.specs.Ordering.{nat_cmp};
 ghost use Rattle.task_order.specs.PathCode.{number_of};
@@ -10,9 +10,9 @@ use std::cmp::Ordering;
 /// The bytes that a list keeps in place: so many from the first on, and zeros behind them.
 pub(super) type InPlace = [u8; IN_PLACE];
 
-/// How bytes in place compare: as words of eight bytes. Where one list begins as the other, the zeros
+/// How bytes in place compare: as two words of eight bytes. Where one list begins as the other, the zeros
 /// behind its end don't come later than what the other has there, and at last the lengths decide.
-pub(super) fn order_in_place(a: &InPlace, a_len: u8, b: &InPlace, b_len: u8) -> Ordering
+pub(super) fn order_in_place(a: &InPlace, a_len: usize, b: &InPlace, b_len: usize) -> Ordering
     requires a_within { a_len ≤ IN_PLACE }
     requires b_within { b_len ≤ IN_PLACE }
     requires a_padded { IsPadded a.now a_len }
@@ -20,17 +20,10 @@ pub(super) fn order_in_place(a: &InPlace, a_len: u8, b: &InPlace, b_len: u8) -> 
     ensures { result ≡ slice_cmp nat_cmp (take a_len a.now) (take b_len b.now) }
 {
     match word_at(a, 0).cmp(&word_at(b, 0)) {
-        Ordering::Equal => order_behind_first(a, a_len, b, b_len),
-        order => order,
-    }
-}
-
-/// How the bytes behind the first word and the lengths compare.
-fn order_behind_first(a: &InPlace, a_len: u8, b: &InPlace, b_len: u8) -> Ordering
-    ensures { result ≡ slice_cmp nat_cmp (drop 8 a.now ++ a_len ∷ []) (drop 8 b.now ++ b_len ∷ []) }
-{
-    match word_at(a, 8).cmp(&word_at(b, 8)) {
-        Ordering::Equal => last_word(a, a_len).cmp(&last_word(b, b_len)),
+        Ordering::Equal => match word_at(a, 8).cmp(&word_at(b, 8)) {
+            Ordering::Equal => a_len.cmp(&b_len),
+            order => order,
+        },
         order => order,
     }
 }
@@ -58,11 +51,4 @@ fn word_at(bytes: &InPlace, at: usize) -> u64
         bytes[at + 6],
         bytes[at + 7],
     ])
-}
-
-/// The bytes behind the second word, and the length: the word that ends with them has one byte more.
-fn last_word(bytes: &InPlace, len: u8) -> u64
-    ensures { result ≡ number_of 0 (drop 16 bytes.now ++ len ∷ []) }
-{
-    word_at(bytes, 15) % (1 << 56) * 256 + u64::from(len)
 }

@@ -14,10 +14,10 @@ use std::marker::Model;
 use std::sync::Arc;
 
 /// The most bytes that a list keeps in place.
-pub(super) const IN_PLACE: usize = 23;
+pub(super) const IN_PLACE: usize = 16;
 
 /// The bytes of a full node.
-const FULL_NODE: usize = 22 * IN_PLACE;
+const FULL_NODE: usize = 32 * IN_PLACE;
 
 /// The last of some nodes, or none.
 pub(super) type Chain = Option<Arc<Node>>;

@@ -18,7 +18,7 @@ pub(super) struct SharedBytes {
     nodes: Chain,
     // with zeros behind the end, so that they compare by words
     rest: InPlace,
-    rest_len: u8,
+    rest_len: usize,
     alloc: Global,
 }
 
@@ -50,13 +50,13 @@ impl SharedBytes {
     pub(super) fn push(&mut self, byte: u8) -> Result<(), NoRoom>
         ensures { OnOk result (self.new ≡ self.old ++ byte ∷ []) }
     {
-        if usize::from(self.rest_len) == IN_PLACE {
+        if self.rest_len == IN_PLACE {
             let node = grown(self.alloc, &self.nodes, &self.rest)?;
             self.nodes = Some(Arc::new(self.alloc, node)?);
             self.rest = [0; IN_PLACE];
             self.rest_len = 0;
         }
-        self.rest[usize::from(self.rest_len)] = byte;
+        self.rest[self.rest_len] = byte;
         self.rest_len += 1;
         Ok(())
     }
@@ -109,8 +109,8 @@ impl SharedBytes {
         ensures { result ≡ slice_cmp nat_cmp self.now other.now }
     {
         if len_of(&self.nodes) != len_of(&other.nodes) {
-            let rest = &self.rest[..usize::from(self.rest_len)];
-            let other_rest = &other.rest[..usize::from(other.rest_len)];
+            let rest = &self.rest[..self.rest_len];
+            let other_rest = &other.rest[..other.rest_len];
             return order_of(&self.nodes, rest, &other.nodes, other_rest);
         }
         match order_of_full(&self.nodes, &other.nodes) {
@@ -129,9 +129,7 @@ impl SharedBytes {
         if at < start {
             byte_of(&self.nodes, at)
         } else {
-            self.rest[..usize::from(self.rest_len)]
-                .get(at - start)
-                .copied()
+            self.rest[..self.rest_len].get(at - start).copied()
         }
     }
 }

@@ -50,11 +50,13 @@ fn paths_print_their_numbers(rt: HostRuntime) -> Result<(), Fail> {
 }
 
 /// Paths, and how each begins: as zeros where it has too few bytes, and as before where it goes on.
-const BEGINNINGS: [(u32, &[u32], u64); 5] = [
+const BEGINNINGS: [(u32, &[u32], u64); 7] = [
     (0, &[], 0),
     (7, &[], 0xf600_0000_0000_0000),
     (7, &[3, 0, 3, 258], 0xf6f2_e2ff_0000_0102),
     (7, &[3, 0, 3, 258, 9], 0xf6f2_e2ff_0000_0102),
+    (7, &[3; 15], 0xf6f2_f2f2_f2f2_f2f2),
+    (7, &[3; 16], 0xf6f2_f2f2_f2f2_f2f2),
     (7, &[3; 1_200], 0xf6f2_f2f2_f2f2_f2f2),
 ];
 

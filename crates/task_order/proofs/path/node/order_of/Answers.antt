@@ -2,6 +2,7 @@ use Rattle.std.proofs.Common.{◌≡◌, ◌≤◌, ◌<◌, ◌+◌, ◌++◌, 
 use Rattle.std.specs.Cmp.Lexicographic.{nat_list_cmp_total}
 use Rattle.std.specs.Ordering.{ordering_reverse}
 use Rattle.task_order.specs.SharedBytes.{chain}
+use Rattle.task_order.specs.declared.path.node.TheConstants.{IN_PLACE}
 use Rattle.task_order.specs.Comparing.{append-tied, append-decided, from_Less, from_Equal, from_Greater}
 use Rattle.task_order.proofs.SharedBytes.{order-deeper, some_behind}
 use Rattle.task_order.proofs.path.node.order_of.Goals as goal
@@ -13,7 +14,7 @@ returns-in-Less c =
     let lower : a.level < b.level = from_Less a.level b.level (sym c.cmp.ensures ∙ c.in-Less.is) in
     let a_length : length (chain c.args.a.now) ≡ length (chain a.before.now) + length a.bytes.now = ap length c.split_last-a_split.ensures.all ∙ length-append (chain a.before.now) a.bytes.now in
     let b_length : length (chain c.args.b.now) ≡ length (chain b.before.now) + length b.bytes.now = ap length c.split_last-b_split.ensures.all ∙ length-append (chain b.before.now) b.bytes.now in
-    let few : 23 ≤ length b.bytes.now = c.split_last-b_split.ensures.not_few (omega arith) in
+    let few : IN_PLACE ≤ length b.bytes.now = c.split_last-b_split.ensures.not_few (omega arith) in
     order-deeper (chain c.args.a.now) c.args.a_rest.now (chain a.before.now) a.bytes.now (chain c.args.b.now) c.args.b_rest.now c.order_below.result c.split_last-a_split.ensures.all
     (simp length-append (omega arith)) (some_behind (chain c.args.b.now) c.args.b_rest.now c.requires.b_goes_on (omega arith)) c.order_below.ensures
 
@@ -41,7 +42,7 @@ returns-in-Greater c =
     let lower : b.level < a.level = from_Greater a.level b.level (sym c.cmp.ensures ∙ c.in-Greater.is) in
     let a_length : length (chain c.args.a.now) ≡ length (chain a.before.now) + length a.bytes.now = ap length c.split_last-a_split.ensures.all ∙ length-append (chain a.before.now) a.bytes.now in
     let b_length : length (chain c.args.b.now) ≡ length (chain b.before.now) + length b.bytes.now = ap length c.split_last-b_split.ensures.all ∙ length-append (chain b.before.now) b.bytes.now in
-    let few : 23 ≤ length a.bytes.now = c.split_last-a_split.ensures.not_few (omega arith) in
+    let few : IN_PLACE ≤ length a.bytes.now = c.split_last-a_split.ensures.not_few (omega arith) in
     let turned = order-deeper (chain c.args.b.now) c.args.b_rest.now (chain b.before.now) b.bytes.now (chain c.args.a.now) c.args.a_rest.now c.order_below-in-Greater.result c.split_last-b_split.ensures.all
     (simp length-append (omega arith)) (some_behind (chain c.args.a.now) c.args.a_rest.now c.requires.a_goes_on (omega arith)) c.order_below-in-Greater.ensures in
     c.reverse.ensures ∙ ap ordering_reverse turned ∙ sym (nat_list_cmp_total.antisymm (chain c.args.a.now ++ c.args.a_rest.now) (chain c.args.b.now ++ c.args.b_rest.now))
