@@ -16,6 +16,7 @@ pub struct Key {
 impl Key {
     /// The key of the child with this number, counted from 0, of the task with this key. It comes
     /// after this key.
+    #[inline(always)]
     pub fn child(&self, number: u32, prio: u64) -> Result<Key, NoRoom>
         requires { self.now.prio ≤ prio }
         ensures key { IfOk result (λ key. key ≡ child_key self.now number prio) }

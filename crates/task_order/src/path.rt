@@ -59,6 +59,7 @@ impl Path {
     /// The path of the child with this number, counted from 0, of the task with this path. It takes
     /// time and memory that don't grow with the depth, and a child with number 0 takes none but its
     /// own place.
+    #[inline(always)]
     pub fn child(&self, number: u32) -> Result<Path, NoRoom>
         ensures { IfOk result (λ path. path ≡ self.now ++ number ∷ []) }
     {
