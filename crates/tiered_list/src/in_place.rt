@@ -22,7 +22,8 @@ pub(crate) fn put_among<T: Copy>(items: &mut [T; IN_PLACE], len: usize, place: u
     items[place] = item;
 }
 
-/// Takes the item at a place out of the first `len`.
+/// Takes the item at a place out of the first `len`. All behind it move, so that few moves of a known
+/// size do for the first place.
 #[inline(always)]
 pub(crate) fn take_from<T: Copy>(items: &mut [T; IN_PLACE], len: usize, place: usize) -> T
     requires inside { place < len }
@@ -32,7 +33,7 @@ pub(crate) fn take_from<T: Copy>(items: &mut [T; IN_PLACE], len: usize, place: u
     ensures size { length items.new ≡ in_place }
 {
     let item = items[place];
-    for at in place..len - 1 {
+    for at in place..IN_PLACE - 1 {
         items[at] = items[at + 1];
     }
     item
