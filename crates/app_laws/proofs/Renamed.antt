@@ -7,7 +7,7 @@ use Rattle.task_order.specs.declared.start.Start.{Start}
 use Rattle.task_order.specs.declared.task.Task.{Task}
 use Rattle.task_order.specs.Key.{end}
 use Rattle.task_order.specs.TaskList.{put_all}
-use Rattle.app_laws.specs.Applications.{Application, IsLawful, IsFitTask}
+use Rattle.app_laws.specs.Applications.{ActsIgnorePaths, Application, IsLawful, IsFitTask}
 use Rattle.app_laws.specs.Execution.{Outcome, Execution, children_from, acts, is_clear_before, run_to_end}
 use Rattle.app_laws.specs.Laws.{IsFitExecution}
 use Rattle.app_laws.specs.Names.{IsNaming, renamed}
@@ -50,11 +50,11 @@ module _ {name : List ℕ → List ℕ} {has_name : List ℕ → Bool} (naming :
   busy_renamed : {V : Type 0} (e : Execution V) (task : Task) (others : List Task) → e.pending ≡ task ∷ others → is_clear_before end (renamed_execution name e) ≡ false
   busy_renamed e task others is = busy_before_end (renamed_execution name e) (renamed name task) (map (renamed name) others) (ap (map (renamed name)) is)
 
-  module _ {V : Type 0} (app : Application V) (lawful : IsLawful app) where
+  module _ {V : Type 0} (app : Application V) (lawful : IsLawful app) (ignores : ActsIgnorePaths app) where
     acts_renamed : (e : Execution V) (task : Task) (others : List Task) → app.is_fit_cells e.cells → IsFitTask app task → HaveNames has_name (task ∷ others)
         → acts app.act (renamed_execution name e) (map (renamed name) (task ∷ others)) ≡ renamed_execution name (acts app.act e (task ∷ others))
     acts_renamed e task others fit_cells fit_task named =
-        ap (after_outcome (renamed_execution name e) (renamed name task) (map (renamed name) others)) (lawful.acts_ignore_paths task (name task.key.path) e.cells fit_cells fit_task)
+        ap (after_outcome (renamed_execution name e) (renamed name task) (map (renamed name) others)) (ignores task (name task.key.path) e.cells fit_cells fit_task)
         ∙ outcome_renamed e task others (app.act task e.cells) named
 
     -- by the first step, as long as tasks are pending
@@ -76,5 +76,5 @@ module _ {name : List ℕ → List ℕ} {has_name : List ℕ → Bool} (naming :
         ∙ run_renamed limit next next.pending refl next_fit (children_put_named task others (app.act task e.cells).children named)
         ∙ sym (ap (option_map (renamed_execution name)) (((runs_begin app.act e end).1 (busy_before_end e task others is)).1 limit ∙ ap (λ tasks. run_to_end app.act limit (acts app.act e tasks)) is))
 
-pub names_change_no_run : {V : Type 0} (app : Application V) → IsLawful app → NamesChangeNoRun app
-names_change_no_run app lawful name has_name naming e fit named limit = run_renamed naming app lawful limit e e.pending refl fit named
+pub names_change_no_run : {V : Type 0} (app : Application V) → IsLawful app → ActsIgnorePaths app → NamesChangeNoRun app
+names_change_no_run app lawful ignores name has_name naming e fit named limit = run_renamed naming app lawful ignores limit e e.pending refl fit named

@@ -25,16 +25,15 @@ pub at_none : (taken : Option Task) (P : Type 0) → ((task : Task) → taken �
 at_none None P never here = here
 at_none (Some task) P never here = absurd (never task refl)
 
--- whatever a fit task's path is, it does the same
-abbrev pub IgnoresPaths : {V : Type 0} → (List V → Type 0) → (ℕ → Body → Type 0) → Operator V → Type 0
-IgnoresPaths {V} is_fit_cells is_fit_task act = (task : Task) (path : List ℕ) (cells : List V) → is_fit_cells cells → is_fit_task task.key.prio task.body → act (with_path path task) cells ≡ act task cells
+-- a fit task does the same under its name
+abbrev pub SameUnder : {V : Type 0} → (List V → Type 0) → (ℕ → Body → Type 0) → Operator V → (List ℕ → List ℕ) → Type 0
+SameUnder {V} is_fit_cells is_fit_task act name = (task : Task) (cells : List V) → is_fit_cells cells → is_fit_task task.key.prio task.body → act (renamed name task) cells ≡ act task cells
 
 -- the laws of an application, and a fit start
 pub record IsRunning {V : Type 0} (is_fit_cells : List V → Type 0) (is_fit_task : ℕ → Body → Type 0) (act : Operator V) (cells : List V) (first : List Start) : Type 0 where
   pub lower : LowerLaws
   pub keeps : KeepsFit is_fit_cells is_fit_task act
   pub not_earlier : ChildrenNotEarlier is_fit_cells is_fit_task act
-  pub ignores_paths : IgnoresPaths is_fit_cells is_fit_task act
   pub fit_cells : is_fit_cells cells
   pub fit_first : AllFit is_fit_task first
 
@@ -44,11 +43,11 @@ fit_after {is_fit_cells} {is_fit_task} {act} {cells} {first} run =
     stays_fit is_fit_cells is_fit_task act run.keeps (start_of cells first) (start_fit is_fit_cells is_fit_task cells first run.fit_cells run.fit_first)
 
 -- at the start the pending tasks are under their own paths
-pub under_at_start : LowerLaws → {V : Type 0} (act : Operator V) (cells : List V) (first : List Start) (pending : List Task) → pending ≡ put_all (first_from 0 first) []
-    → AreUnderNames (after_steps act 0 (start_of cells first)).pending pending
-under_at_start lower act cells first pending puts =
+pub under_at_start : LowerLaws → {V : Type 0} (act : Operator V) (cells : List V) (first : List Start) (is_fit_cells : List V → Type 0) (is_fit_task : ℕ → Body → Type 0) (pending : List Task) → pending ≡ put_all (first_from 0 first) []
+    → AreUnderNames (SameUnder is_fit_cells is_fit_task act) (after_steps act 0 (start_of cells first)).pending pending
+under_at_start lower act cells first is_fit_cells is_fit_task pending puts =
     let tasks = put_all (first_from 0 first) [] in
-    rw (puts, after_none) (under_own_names tasks (spread_at_start lower first))
+    rw (puts, after_none) (under_own_names (λ task cells fit-cells fit-task. refl) tasks (spread_at_start lower first))
 
 module _ {V : Type 0} {is_fit_cells : List V → Type 0} {is_fit_task : ℕ → Body → Type 0} {act : Operator V} {start-cells cells : List V} {first : List Start} {budget count created : ℕ}
     (run : IsRunning is_fit_cells is_fit_task act start-cells first) (reached : IsReached act budget (start_of start-cells first) cells count created) where
@@ -56,7 +55,7 @@ module _ {V : Type 0} {is_fit_cells : List V → Type 0} {is_fit_task : ℕ → 
   cells_fit = subst is_fit_cells (sym reached.cells-are) (fit_after run count).cells
 
   -- the task that is taken is that of the exact execution, under its name
-  module _ {pending : List Task} (under : AreUnderNames (after_steps act count (start_of start-cells first)).pending pending) {task : Task} {others : List Task} (is : pending ≡ task ∷ others) where
+  module _ {pending : List Task} (under : AreUnderNames (SameUnder is_fit_cells is_fit_task act) (after_steps act count (start_of start-cells first)).pending pending) {task : Task} {others : List Task} (is : pending ≡ task ∷ others) where
     abbrev exact : IsNamedFirst under.name (after_steps act count (start_of start-cells first)).pending task others
     exact = exact_first under is
 
@@ -77,7 +76,7 @@ module _ {V : Type 0} {is_fit_cells : List V → Type 0} {is_fit_task : ℕ → 
 
     -- so it does the same
     same_outcome : act task cells ≡ act exact.first cells
-    same_outcome = ap (λ t. act t cells) exact.task_is ∙ run.ignores_paths exact.first (under.name exact.first.key.path) cells cells_fit exact_fit
+    same_outcome = ap (λ t. act t cells) exact.task_is ∙ under.may exact.first cells cells_fit exact_fit
 
     same_children : (act task cells).children ≡ (act exact.first cells).children
     same_children = ap (λ outcome. outcome.children) same_outcome
@@ -97,14 +96,14 @@ module _ {V : Type 0} {is_fit_cells : List V → Type 0} {is_fit_task : ℕ → 
         (many ∙ ap (λ starts. created + length starts) same_children) within
 
     under_names_next : (pending' : List Task) → pending' ≡ put_all (children_from task.key 0 (act task cells).children) others
-        → AreUnderNames (after_steps act (count + 1) (start_of start-cells first)).pending pending'
+        → AreUnderNames (SameUnder is_fit_cells is_fit_task act) (after_steps act (count + 1) (start_of start-cells first)).pending pending'
     under_names_next pending' puts =
         rw (puts, pending_next reached exact.first exact.rest exact.parts, sym same_children) (under_next under is run.lower (act task cells).children none_earlier)
 
     -- the run after this task
     pub stepped : (cells' : List V) (pending' : List Task) (created' : ℕ) → cells' ≡ (act task cells).cells → pending' ≡ put_all (children_from task.key 0 (act task cells).children) others
         → created' ≡ created + length (act task cells).children → created' ≤ budget
-        → IsReached act budget (start_of start-cells first) cells' (count + 1) created' × AreUnderNames (after_steps act (count + 1) (start_of start-cells first)).pending pending'
+        → IsReached act budget (start_of start-cells first) cells' (count + 1) created' × AreUnderNames (SameUnder is_fit_cells is_fit_task act) (after_steps act (count + 1) (start_of start-cells first)).pending pending'
     stepped cells' pending' created' cells-are puts many within = (running_next cells' created' cells-are many within, under_names_next pending' puts)
 
     pub text_written : joined_texts (after_steps act (count + 1) (start_of start-cells first)).log ≡ joined_texts (after_steps act count (start_of start-cells first)).log ++ (act task cells).text
@@ -113,7 +112,7 @@ module _ {V : Type 0} {is_fit_cells : List V → Type 0} {is_fit_task : ℕ → 
         ∙ ap (λ outcome. joined_texts (after_steps act count (start_of start-cells first)).log ++ outcome.text) (sym same_outcome)
 
   -- as many tasks are pending, and where none is, none is in the exact execution
-  module _ {pending : List Task} (under : AreUnderNames (after_steps act count (start_of start-cells first)).pending pending) where
+  module _ {pending : List Task} (under : AreUnderNames (SameUnder is_fit_cells is_fit_task act) (after_steps act count (start_of start-cells first)).pending pending) where
     pub few_pending : count + length pending ≤ budget
     few_pending = omega (arith, count_within reached refl, ap length under.are, length-map (after_steps act count (start_of start-cells first)).pending (renamed under.name))
 

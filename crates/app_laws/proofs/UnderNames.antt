@@ -1,5 +1,5 @@
 -- Lists of pending tasks under names, as their first task acts and as they are numbered anew.
-use Rattle.std.proofs.Common.{◌≡◌, ℕ, Bool, true, List, [], ◌∷◌, ◌++◌, ◌&&◌, map, refl, sym, ap, ◌∙◌, subst, ⊎_elim}
+use Rattle.std.proofs.Common.{◌≡◌, ◌⊎◌, ℕ, Bool, true, List, [], ◌∷◌, ◌++◌, ◌&&◌, map, refl, sym, ap, ◌∙◌, subst, ⊎_elim}
 use Rattle.std.proofs.lemmas.Bool.{and_from, and_parts}
 use Rattle.std.proofs.lemmas.List.{map-id}
 use Rattle.std.proofs.lemmas.Simd.{map-map}
@@ -15,14 +15,15 @@ use Rattle.app_laws.specs.Renumbering.{AreRenumbered, MayBeRenumbered}
 use Rattle.app_laws.proofs.Ordered.{IsSpread, spread_at_start, spread_next}
 use Rattle.app_laws.proofs.Renamed.{children_put, children_put_named}
 
--- the pending tasks are those of the exact list, with names in place of their paths
-pub record AreUnderNames (exact pending : List Task) : Type 0 where
+-- the pending tasks are those of the exact list, with names in place of their paths that may be
+pub record AreUnderNames (May : (List ℕ → List ℕ) → Type 0) (exact pending : List Task) : Type 0 where
   pub name : List ℕ → List ℕ
   pub has_name : List ℕ → Bool
   pub naming : IsNaming name has_name
   pub have_names : HaveNames has_name exact
   pub are : pending ≡ map (renamed name) exact
   pub spread : IsSpread pending
+  pub may : May name
 
 -- ---- at the start each path is its own name
 
@@ -30,8 +31,9 @@ all_named : (tasks : List Task) → HaveNames (λ path. true) tasks
 all_named [] = tt
 all_named (task ∷ tasks) = (refl, all_named tasks)
 
-pub under_own_names : (tasks : List Task) → IsSpread tasks → AreUnderNames tasks tasks
-under_own_names tasks spread = record {
+pub under_own_names : {May : (List ℕ → List ℕ) → Type 0} → May (λ path. path) → (tasks : List Task) → IsSpread tasks → AreUnderNames May tasks tasks
+under_own_names may tasks spread = record {
+  may = may;
   name = λ path. path;
   has_name = λ path. true;
   naming = record { have_too = λ path number has. refl; go_on = λ path number has. refl; in_order = λ path other has other_has. refl };
@@ -60,7 +62,7 @@ named_first name (first ∷ rest) task others are = record {
   others_are = cc;
 }
 
-module _ {exact pending : List Task} (under : AreUnderNames exact pending) {task : Task} {others : List Task} (is : pending ≡ task ∷ others) where
+module _ {May : (List ℕ → List ℕ) → Type 0} {exact pending : List Task} (under : AreUnderNames May exact pending) {task : Task} {others : List Task} (is : pending ≡ task ∷ others) where
   pub exact_first : IsNamedFirst under.name exact task others
   exact_first = named_first under.name exact task others (sym is ∙ under.are)
 
@@ -69,12 +71,13 @@ module _ {exact pending : List Task} (under : AreUnderNames exact pending) {task
 
   -- the first task gives way to its children
   pub under_next : LowerLaws → (children : List Start) → NoneEarlier task.key.prio children
-      → AreUnderNames (put_all (children_from exact_first.first.key 0 children) exact_first.rest) (put_all (children_from task.key 0 children) others)
+      → AreUnderNames May (put_all (children_from exact_first.first.key 0 children) exact_first.rest) (put_all (children_from task.key 0 children) others)
   under_next lower children not_earlier =
       let first = exact_first.first in
       let rest = exact_first.rest in
       let named = subst (HaveNames under.has_name) exact_first.parts under.have_names in
       record {
+        may = under.may;
         name = under.name;
         has_name = under.has_name;
         naming = under.naming;
@@ -120,10 +123,11 @@ module _ {name : List ℕ → List ℕ} {has_name : List ℕ → Bool} (naming :
   have_both (task ∷ tasks) named named' =
       (and_from (has_name task.key.path) (has_name' (name task.key.path)) named.0 named'.0, have_both tasks named.1 named'.1)
 
-under_new_names : LowerLaws → (exact pending renumbered : List Task) → AreUnderNames exact pending → AreRenumbered pending renumbered → AreUnderNames exact renumbered
-under_new_names lower exact pending renumbered under anew =
+under_new_names : {May : (List ℕ → List ℕ) → Type 0} → ((name : List ℕ → List ℕ) → May name) → LowerLaws → (exact pending renumbered : List Task) → AreUnderNames May exact pending → AreRenumbered pending renumbered → AreUnderNames May exact renumbered
+under_new_names all lower exact pending renumbered under anew =
     let named = anew.named in
     record {
+      may = all (λ path. named.name (under.name path));
       name = λ path. named.name (under.name path);
       has_name = has_both under.naming named.naming;
       naming = names_of_names under.naming named.naming;
@@ -132,9 +136,13 @@ under_new_names lower exact pending renumbered under anew =
       spread = subst IsSpread (sym anew.are) (spread_at_start lower anew.first);
     }
 
-pub still_under_names : LowerLaws → (exact pending left : List Task) → AreUnderNames exact pending → MayBeRenumbered pending left → AreUnderNames exact left
-still_under_names lower exact pending left under maybe =
+pub still_under_names : {May : (List ℕ → List ℕ) → Type 0} {P : Type 0} → (P → (name : List ℕ → List ℕ) → May name) → LowerLaws → (exact pending left : List Task) → AreUnderNames May exact pending
+    → (left ≡ pending) ⊎ (P × MayBeRenumbered pending left) → AreUnderNames May exact left
+still_under_names {May} {P} all lower exact pending left under maybe =
     ⊎_elim
-    (λ same. subst (AreUnderNames exact) (sym same) under)
-    (under_new_names lower exact pending left under)
+    (λ same. subst (AreUnderNames May exact) (sym same) under)
+    (λ anew. ⊎_elim
+    (λ same. subst (AreUnderNames May exact) (sym same) under)
+    (under_new_names (all anew.0) lower exact pending left under)
+    anew.1)
     maybe

@@ -1,6 +1,6 @@
 -- What an ordered application means to those who execute it, and what is asked of it.
 use Rattle.std.specs.Prelude.{◌≡◌, ◌≢◌, ℕ, ◌<◌, ◌≤◌, ◌^◌, List, [], ◌∷◌, ◌++◌, length, map, slice_get, Bool, true, IsSome, IsFalse}
-use Rattle.std.specs.List.{AllByRecursion}
+use Rattle.std.specs.List.{AllByRecursion, filter}
 use Rattle.std.specs.declared.cmp.Ordering.TheVariants.{Less}
 use Rattle.task_order.specs.declared.start.Start.{Start}
 use Rattle.task_order.specs.declared.task.Body.{Body}
@@ -12,7 +12,7 @@ use Rattle.rw_sets.specs.Accesses.{Accesses, access_at, writes, merged, Conflict
 use Rattle.cell_store.specs.declared.cell.Cell.{Cell}
 use Rattle.cell_store.specs.declared.cell.Cell.TheVariants.{Out}
 use Rattle.cell_store.specs.Part.{Part}
-use Rattle.cell_store.specs.Cells.{cell_at, part_of, cells_taken, cells_given}
+use Rattle.cell_store.specs.Cells.{AreHome, cell_at, part_of, cells_taken, cells_given}
 use Rattle.cell_store.specs.Values.{homes}
 pub use Rattle.cell_store.specs.Values.{AgreesWith}
 use Rattle.app_laws.specs.declared.child.Child.{Child}
@@ -20,19 +20,17 @@ use Rattle.app_laws.specs.declared.app.Effect.{Effect}
 use Rattle.app_laws.specs.declared.app.SetAnswer.{SetAnswer}
 use Rattle.app_laws.specs.declared.app.SetAnswer.TheVariants as answer
 use Rattle.app_laws.specs.Execution.{Operator, Outcome, children_from}
-use Rattle.app_laws.specs.Names.{renamed, with_path}
+use Rattle.app_laws.specs.Names.{HaveNames, IsNaming, renamed, with_path}
 
 -- an application: how many cells it works on, which lists of values are its cells, which pairs of a priority and a body
--- are its tasks, the set that a body declares in the cells, what finding that set out needs of cells that may be out,
--- whether it needs none, so that the set never moves, what a task does, and whether a task may run although these earlier
--- ones are pending
+-- are its tasks, the set that a body declares in the cells, what finding that set out needs of cells that may be out, what a
+-- task does, and whether a task may run although these earlier ones are pending
 pub record Application (V : Type 0) : Type 1 where
   pub count : ℕ
   pub is_fit_cells : List V → Type 0
   pub is_fit_task : ℕ → Body → Type 0
   pub set_of : Body → List V → Accesses
   pub walk : Body → List (Cell V) → SetAnswer
-  pub sets_are_fixed : Bool
   pub act : Operator V
   pub is_safe : Task → List Task → Bool
 
@@ -86,12 +84,27 @@ module _ {V : Type 0} (app : Application V) where
   abbrev pub IsEffect : Task → Part V → Effect V → Type 0
   IsEffect task bundle effect = (cells : List V) → app.is_fit_cells cells → bundle ≡ part_of (homes cells) (set_in cells task) → effect ≡ effect_of task cells
 
+  -- the cells of the set are home among these, and are cells that the task takes
+  pub record IsReady (task : Task) (cells : List (Cell V)) (set : Accesses) : Type 0 where
+    pub home : AreHome cells set
+    pub taken : IsTaken task (part_of cells set)
+
   -- these children and this text are what the task makes of the part of the old cells that the set names, and the new cells
   -- are the old ones where that part was taken and is given back as the task leaves it
   pub record IsDoneAtHome (task : Task) (set : Accesses) (old : List (Cell V)) (children : List Child) (text : List ℕ) (new : List (Cell V)) : Type 0 where
     pub bundle : Part V
     pub effect : IsEffect task (part_of old set) (record { bundle = bundle; children = children; text = text })
     pub given : new ≡ cells_given (cells_taken old set) bundle
+
+  -- in some cells of the application none of the earlier tasks conflicts with the task
+  pub record IsSource (task : Task) (earlier : List Task) : Type 0 where
+    pub cells : List V
+    pub fit : app.is_fit_cells cells
+    pub apart : AllByRecursion (λ other. ¬ Conflicts (set_in cells other) (set_in cells task)) earlier
+
+  -- whatever the cells, these are those of the tasks that write each location
+  abbrev pub AreWriters : (ℕ → List Task) → List Task → Type 0
+  AreWriters writers tasks = (cells : List V) (loc : ℕ) → app.is_fit_cells cells → writers loc ≡ filter (λ task. writes (set_in cells task) loc) tasks
 
   -- Laws. Each speaks of the application's own cells and tasks alone.
 
@@ -159,18 +172,19 @@ module _ {V : Type 0} (app : Application V) where
   WalksAreTrue = (task : Task) (cells : List (Cell V)) (values : List V) → app.is_fit_cells values → IsFitTask task →
       AgreesWith cells values → IsTrueAnswer (set_in values task) cells (app.walk task.body cells)
 
-  -- where the sets are fixed, a walk finds the declared set, whatever the cells hold
+  -- sets are fixed: a walk finds the declared set, whatever the cells hold
   abbrev pub FixedSetsAreKnown : Type 0
-  FixedSetsAreKnown = app.sets_are_fixed ≡ true → (task : Task) (cells : List (Cell V)) (values : List V) → app.is_fit_cells values → IsFitTask task →
+  FixedSetsAreKnown = (task : Task) (cells : List (Cell V)) (values : List V) → app.is_fit_cells values → IsFitTask task →
       app.walk task.body cells ≡ answer.Known (set_in values task)
 
   -- where nothing earlier is pending, each task is safe
   abbrev pub IsSafeAlone : Type 0
   IsSafeAlone = (task : Task) → IsFitTask task → app.is_safe task [] ≡ true
 
-  -- whatever the paths of a task and of those before it are, it is as safe
+  -- under names in the same order a task is as safe
   abbrev pub SafetyIgnoresPaths : Type 0
-  SafetyIgnoresPaths = (task : Task) (earlier : List Task) (name : List ℕ → List ℕ) → IsFitTask task → AreFitTasks earlier →
+  SafetyIgnoresPaths = (task : Task) (earlier : List Task) (name : List ℕ → List ℕ) (has_name : List ℕ → Bool) → IsNaming name has_name →
+      HaveNames has_name (task ∷ earlier) → IsFitTask task → AreFitTasks earlier →
       app.is_safe (renamed name task) (map (renamed name) earlier) ≡ app.is_safe task earlier
 
   -- none of the children conflicts with the task, and it is safe against them and the other earlier tasks
@@ -193,11 +207,13 @@ module _ {V : Type 0} (app : Application V) where
     pub acts_are_fit : ActsAreFit
     pub sets_are_local : SetsAreLocal
     pub acts_are_local : ActsAreLocal
-    pub acts_ignore_paths : ActsIgnorePaths
     pub children_come_no_earlier : ChildrenComeNoEarlier
     pub sets_stay_within : SetsStayWithin
     pub walks_are_true : WalksAreTrue
-    pub fixed_sets_are_known : FixedSetsAreKnown
     pub safe_alone : IsSafeAlone
     pub safe_tasks_stay_safe : SafeTasksStaySafe
-    pub safety_ignores_paths : SafetyIgnoresPaths
+
+  -- paths give tasks their order and tell nothing else
+  pub record PathsAreIgnored : Type 0 where
+    pub acts : ActsIgnorePaths
+    pub safety : SafetyIgnoresPaths

@@ -1,6 +1,7 @@
 -- Tasks under other paths, where nothing else is another.
 use Rattle.std.specs.Prelude.{◌≡◌, ℕ, Bool, true, List, [], ◌∷◌, ◌++◌, map}
 use Rattle.std.specs.Cmp.Lexicographic.{slice_cmp}
+use Rattle.std.specs.List.{AllByRecursion}
 use Rattle.std.specs.List.Sorted.{IsPermutation}
 use Rattle.std.specs.Ordering.{nat_cmp}
 use Rattle.std.specs.declared.cmp.Ordering.TheVariants.{Less}
@@ -21,6 +22,10 @@ pub record IsNaming (name : List ℕ → List ℕ) (has_name : List ℕ → Bool
   pub have_too : (path : List ℕ) (number : ℕ) → has_name path ≡ true → has_name (path ++ number ∷ []) ≡ true
   pub go_on : (path : List ℕ) (number : ℕ) → has_name path ≡ true → name (path ++ number ∷ []) ≡ name path ++ number ∷ []
   pub in_order : (path other : List ℕ) → has_name path ≡ true → has_name other ≡ true → slice_cmp nat_cmp (name path) (name other) ≡ slice_cmp nat_cmp path other
+
+-- the tasks have paths that have names
+abbrev pub HaveNames : (List ℕ → Bool) → List Task → Type 0
+HaveNames has_name tasks = AllByRecursion (λ task. has_name task.key.path ≡ true) tasks
 
 -- the priority and the body of a task
 abbrev pub start_of_task : Task → Start

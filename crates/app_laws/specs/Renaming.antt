@@ -10,11 +10,8 @@ use Rattle.app_laws.specs.Applications.{Application}
 use Rattle.app_laws.specs.Execution.{Execution, first_from, run_to_end}
 use Rattle.app_laws.specs.Laws.{IsFitExecution}
 use Rattle.app_laws.specs.Names.{AreListed, IsNaming, renamed}
+pub use Rattle.app_laws.specs.Names.{HaveNames}
 use Rattle.app_laws.specs.Order.{AreApart, Pairwise}
-
--- the tasks have paths that have names
-abbrev pub HaveNames : (List ℕ → Bool) → List Task → Type 0
-HaveNames has_name tasks = AllByRecursion (λ task. has_name task.key.path ≡ true) tasks
 
 -- the entry with the name of its task's path in place of it
 abbrev pub renamed_entry : (List ℕ → List ℕ) → Entry → Entry

@@ -1,11 +1,13 @@
-ghost use Rattle.std.specs.Prelude.{◌≡◌, ◌+◌, length, ℕ, List, Ok, Err, IfOk, IfErr, OnErr};
+ghost use Rattle.std.specs.Prelude.{◌≡◌, ◌+◌, length, ℕ, List, Ok, Err, IfOk, IfErr, OnErr, IsTrue, ◌∷◌, ◌++◌};
 ghost use Rattle.cell_store.specs.Cells.{AreHome, AreWrittenOut, part_of, cells_given};
+ghost use Rattle.app_laws.specs.Applications.{IsDoneAtHome, IsFitTask, IsTaken};
 ghost use Rattle.cell_store.specs.Part.{Part};
 
 use crate::ChildList;
-use cell_store::{Bundle, Held, Store};
+use cell_store::{Bundle, Held, Store, return_laws};
 use kdg_text::{NoRoom, Steps, Text};
 use rw_sets::RwSet;
+use std::alloc::Global;
 use std::sync::ledger::Ledger;
 use task_order::{Body, PendingTasks, Task};
 
@@ -31,13 +33,23 @@ pub enum SetAnswer {
 pub trait App {
     ghost use Rattle.task_order.specs.declared.task.Body.{Body};
     ghost use Rattle.task_order.specs.declared.task.Task.{Task};
-    ghost use Rattle.app_laws.specs.Applications.{Application, AgreesWith, AreFitTasks, IsFitTask, IsTaken, IsEffect, IsDoneAtHome, tasks_before, CellsAreCounted, SetsAreInRange, ActsAreFit, SetsAreLocal, ActsAreLocal, ActsIgnorePaths, ChildrenComeNoEarlier, SetsStayWithin, WalksAreTrue, FixedSetsAreKnown, IsSafeAlone, SafeTasksStaySafe, SafetyIgnoresPaths};
+    ghost use Rattle.rw_sets.specs.Accesses.{Accesses};
+    ghost use Rattle.app_laws.specs.Applications.{Application, AgreesWith, AreFitTasks, IsFitTask, IsTaken, IsEffect, IsReady, IsDoneAtHome, tasks_before, FixedSetsAreKnown, PathsAreIgnored, IsLawful, IsSource, AreWriters};
+    ghost use Rattle.task_order.specs.TaskList.{put_in};
+    ghost use Rattle.std.specs.Prelude.{Bool, false};
 
     /// What a cell holds.
     type Val: Held;
 
     /// What the application means: its cells and tasks, their sets, and what they do.
     ghost meaning: { Self → Application Self.Val };
+
+    /// What `safe` keeps of the pending tasks from one call to the next; `()` where it looks at the
+    /// earliest one alone, or at none.
+    type Horizon: Drop + Send;
+
+    /// What a horizon tells is so of these pending tasks.
+    ghost tells: { Self → Self.Horizon → List Task → Type 0 };
 
     /// How many cells there are.
     fn cells(&self) -> u32
@@ -56,10 +68,22 @@ pub trait App {
         ensures answer { IfOk result (λ answer. answer ≡ (meaning self.now).walk body.now store.now) }
         ensures step { steps.new ≡ steps.old + 1 };
 
+    /// What `sets_are_fixed` tells.
+    ghost has_fixed_sets: { Self → Bool } = { λ _. false };
+
     /// Whether each task's declared set is one and the same, whatever the cells hold. Then it isn't
     /// asked for again.
     fn sets_are_fixed(&self) -> bool
-        ensures { result ≡ (meaning self.now).sets_are_fixed };
+        ensures told { result ≡ has_fixed_sets self.now }
+        ensures known { IsTrue result → FixedSetsAreKnown (meaning self.now) };
+
+    /// Whether paths give tasks their order and tell nothing else. Then tasks may get other paths in
+    /// the same order.
+    fn ignores_paths(&self) -> bool
+        ensures { IsTrue result → PathsAreIgnored (meaning self.now) }
+    {
+        false
+    }
 
     /// Whether a task has so little to do that it is performed sooner than it is handed to another
     /// thread. No contract rests on it.
@@ -67,12 +91,32 @@ pub trait App {
         false
     }
 
+    /// A horizon that knows nothing.
+    fn horizon(&self, alloc: Global) -> Result<Self::Horizon, NoRoom>
+        ensures { IfOk result (λ horizon. (tasks : List Task) → tells self.now horizon tasks) };
+
+    /// A task with this body came to the pending ones, or went.
+    fn touch(&self, horizon: &mut Self::Horizon, body: &Body)
+        requires fit { (prio : ℕ) × (meaning self.now).is_fit_task prio body.now }
+        ensures came { (task : Task) (tasks : List Task) → task.body ≡ body.now → tells self.now horizon.old tasks → tells self.now horizon.new (put_in task tasks) }
+        ensures went { (task : Task) (before after : List Task) → task.body ≡ body.now → tells self.now horizon.old (before ++ task ∷ after) → tells self.now horizon.new (before ++ after) };
+
     /// Whether a task may run although those of the pending tasks that are earlier haven't run yet:
-    /// what they and their children may still do must not touch it.
-    fn safe<P: PendingTasks>(&self, task: &Task, pending: &P) -> bool
+    /// what they and their children may still do must not touch it. It is asked only where none of those
+    /// conflicts with it.
+    fn safe<P: PendingTasks>(
+        &self,
+        task: &Task,
+        pending: &P,
+        horizon: &mut Self::Horizon,
+    ) -> bool
         requires fit { IsFitTask (meaning self.now) task.now }
         requires pending { AreFitTasks (meaning self.now) (P.tasks pending.now) }
-        ensures { result ≡ (meaning self.now).is_safe task.now (tasks_before task.now.key (P.tasks pending.now)) };
+        requires told { tells self.now horizon.old (P.tasks pending.now) }
+        requires apart { IsSource (meaning self.now) task.now (tasks_before task.now.key (P.tasks pending.now)) }
+        requires writers { FixedSetsAreKnown (meaning self.now) → AreWriters (meaning self.now) (P.writers pending.now) (P.tasks pending.now) }
+        ensures told { tells self.now horizon.new (P.tasks pending.now) }
+        ensures answer { result ≡ (meaning self.now).is_safe task.now (tasks_before task.now.key (P.tasks pending.now)) };
 
     /// Does what the task does, on its bundle alone. Where memory runs out, the bundle comes back
     /// as it was.
@@ -86,60 +130,30 @@ pub trait App {
         ensures effect { IfOk result (IsEffect (meaning self.now) task.now bundle) }
         ensures returned { IfErr result (λ back. back ≡ bundle) };
 
+    /// Whether `run_at_home` is to be called. No contract rests on it.
+    fn works_at_home(&self) -> bool {
+        false
+    }
+
     /// Does what the task does on cells that are home, and leaves them there: as where the bundle of
-    /// its set is taken, `run` works on it, and it is given back. An application may do so without a
-    /// bundle, which takes less time. Where memory runs out, the cells are as they were.
+    /// its set is taken, `run` works on it, and it is given back. It finds its cells itself. Where memory
+    /// runs out, the cells are as they were.
     fn run_at_home(
         &self,
         task: &Task,
-        set: &RwSet,
         store: &mut Store<Self::Val>,
     ) -> Result<(ChildList, Text), NoRoom>
         requires fit { IsFitTask (meaning self.now) task.now }
-        requires home { AreHome store.old set.now }
-        requires cells { IsTaken (meaning self.now) task.now (part_of store.old set.now) }
-        ensures done { IfOk result (λ made. IsDoneAtHome (meaning self.now) task.now set.now store.old made.0 made.1 store.new) }
-        ensures unchanged { OnErr result (store.new ≡ store.old) };
+        requires ready { (set : Accesses) × IsReady (meaning self.now) task.now store.old set }
+        ensures done { (set : Accesses) → IsReady (meaning self.now) task.now store.old set → IfOk result (λ made. IsDoneAtHome (meaning self.now) task.now set store.old made.0 made.1 store.new) }
+        ensures unchanged { OnErr result (store.new ≡ store.old) }
+    {
+        let (_, _) = (task, store);
+        Err(NoRoom)
+    }
 
-    /// The application's cells have one value for each location.
-    ghost cells_are_counted: { (app : Self) → CellsAreCounted (meaning app) };
-
-    /// A declared set names locations of the application.
-    ghost sets_are_in_range: { (app : Self) → SetsAreInRange (meaning app) };
-
-    /// What a task makes is the application's own: cells, fewer than 2^32 children, whole lines.
-    ghost acts_are_fit: { (app : Self) → ActsAreFit (meaning app) };
-
-    /// A declared set depends on nothing but the cells that it names.
-    ghost sets_are_local: { (app : Self) → SetsAreLocal (meaning app) };
-
-    /// A task changes only what its set writes, and depends on nothing but the cells of its set.
-    ghost acts_are_local: { (app : Self) → ActsAreLocal (meaning app) };
-
-    /// What a task does is not told by its path.
-    ghost acts_ignore_paths: { (app : Self) → ActsIgnorePaths (meaning app) };
-
-    /// No child is earlier than its parent.
-    ghost children_come_no_earlier: { (app : Self) → ChildrenComeNoEarlier (meaning app) };
-
-    /// Where a task acts, another one's set moves only within the merge of the two.
-    ghost sets_stay_within: { (app : Self) → SetsStayWithin (meaning app) };
-
-    /// What `sets` finds is the declared set, and the cell at which it stops lies in it.
-    ghost walks_are_true: { (app : Self) → WalksAreTrue (meaning app) };
-
-    /// Where the sets are fixed, `sets` finds the declared set in all cells, also in those that are
-    /// out.
-    ghost fixed_sets_are_known: { (app : Self) → FixedSetsAreKnown (meaning app) };
-
-    /// A task with nothing earlier is safe.
-    ghost safe_alone: { (app : Self) → IsSafeAlone (meaning app) };
-
-    /// A safe task stays safe where an earlier one acts that it doesn't conflict with.
-    ghost safe_tasks_stay_safe: { (app : Self) → SafeTasksStaySafe (meaning app) };
-
-    /// Nor is it told by paths whether a task is safe.
-    ghost safety_ignores_paths: { (app : Self) → SafetyIgnoresPaths (meaning app) };
+    /// What is asked of an application.
+    ghost lawful: { (app : Self) → IsLawful (meaning app) };
 }
 
 /// Gives back the bundle that a task left, or that came back from it as it was where memory ran out.
@@ -170,4 +184,44 @@ pub fn give_back<V: Held>(
             Err(NoRoom)
         }
     }
+}
+
+/// Does what the task does on cells that are home, and leaves them there, in the application's own way
+/// or by its bundle.
+#[inline(always)]
+pub fn act_at_home<A: App>(
+    app: &A,
+    task: &Task,
+    set: &RwSet,
+    store: &mut Store<A::Val>,
+) -> Result<(ChildList, Text), NoRoom>
+    requires fit { IsFitTask (A.meaning app.now) task.now }
+    requires home { AreHome store.old set.now }
+    requires cells { IsTaken (A.meaning app.now) task.now (part_of store.old set.now) }
+    ensures done { IfOk result (λ made. IsDoneAtHome (A.meaning app.now) task.now set.now store.old made.0 made.1 store.new) }
+    ensures unchanged { OnErr result (store.new ≡ store.old) }
+{
+    if app.works_at_home() {
+        return app.run_at_home(task, store);
+    }
+    act_by_bundle(app, task, set, store)
+}
+
+/// Does what the task does on cells that are home, by its bundle.
+#[inline(always)]
+pub fn act_by_bundle<A: App>(
+    app: &A,
+    task: &Task,
+    set: &RwSet,
+    store: &mut Store<A::Val>,
+) -> Result<(ChildList, Text), NoRoom>
+    requires fit { IsFitTask (A.meaning app.now) task.now }
+    requires home { AreHome store.old set.now }
+    requires cells { IsTaken (A.meaning app.now) task.now (part_of store.old set.now) }
+    ensures done { IfOk result (λ made. IsDoneAtHome (A.meaning app.now) task.now set.now store.old made.0 made.1 store.new) }
+    ensures unchanged { OnErr result (store.new ≡ store.old) }
+{
+    return_laws::<A::Val>();
+    let bundle = store.take(set)?;
+    give_back(store, app.run(task, bundle))
 }

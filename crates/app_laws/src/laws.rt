@@ -1,7 +1,7 @@
 ghost use Rattle.std.specs.Prelude.{List, ℕ};
 ghost use Rattle.task_order.specs.declared.start.Start.{Start};
 ghost use Rattle.app_laws.specs.Execution.{Operator, Execution, start_of, after_steps};
-ghost use Rattle.app_laws.specs.Applications.{IsLawful, AreFitStarts};
+ghost use Rattle.app_laws.specs.Applications.{IsLawful, AreFitStarts, ActsIgnorePaths};
 ghost use Rattle.app_laws.specs.Laws.{IsFitExecution, StopsWhenClear, LogsEachStep, CreatedNeverFalls, EndsWithinLimit, StepsAdd, RunsBeginWithAStep, GreaterLimitsAgree, LogsGrowAtTheEnd, BoundedRunsLogAPart};
 ghost use Rattle.app_laws.specs.Order.{IsOrderly};
 ghost use Rattle.app_laws.specs.Renaming.{ListedTasksAreNamed, NamesChangeNoRun};
@@ -49,7 +49,7 @@ pub fn orderly_laws<A: App>()
 /// Paths give tasks their order and tell nothing else: under other paths in the same order an execution
 /// comes to the same.
 pub fn renaming_laws<A: App>()
-    ensures { (app : A) → NamesChangeNoRun (A.meaning app) }
+    ensures { (app : A) → ActsIgnorePaths (A.meaning app) → NamesChangeNoRun (A.meaning app) }
 {
     lawful::<A>();
 }

@@ -8,7 +8,7 @@ mod laws;
 mod listing;
 mod serial_run;
 
-pub use app::{App, Effect, SetAnswer, give_back};
+pub use app::{App, Effect, SetAnswer, act_at_home, act_by_bundle, give_back};
 pub use child::{Child, ChildList};
 pub use family::family_laws;
 pub use laws::{execution_laws, lawful, naming_laws, orderly_laws, renaming_laws};

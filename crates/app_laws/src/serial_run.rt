@@ -1,15 +1,15 @@
-ghost use Rattle.std.specs.Prelude.{◌≡◌, ◌<◌, ◌≤◌, ◌^◌, ◌++◌, [], length, map, IfOk, IfErr, OnOk};
+ghost use Rattle.std.specs.Prelude.{◌≡◌, ◌<◌, ◌≤◌, ◌^◌, ◌++◌, [], length, map, IfOk, IfErr, OnOk, ◌⊎◌};
 ghost use Rattle.std.specs.List.{AllByRecursion};
 ghost use Rattle.task_order.specs.TaskList.{IsNewKey, put_in, put_all};
 ghost use Rattle.cell_store.specs.Values.{homes, values_of};
-ghost use Rattle.app_laws.specs.Applications.{AreFitStarts, IsFitTask, handed, starts_of};
+ghost use Rattle.app_laws.specs.Applications.{PathsAreIgnored, AreFitStarts, IsFitTask, handed, starts_of};
 ghost use Rattle.app_laws.specs.Execution.{start_of, children_from, first_from};
 ghost use Rattle.app_laws.specs.Lower.{LowerLaws};
 ghost use Rattle.app_laws.specs.Order.{AreApart, Pairwise};
 ghost use Rattle.app_laws.specs.Renumbering.{AreRenumbered, MayBeRenumbered};
 ghost use Rattle.app_laws.specs.Serial.{IsRun, IsFault};
 
-use crate::{App, Child, ChildList, SetAnswer, lawful, naming_laws, starts_by_path};
+use crate::{App, Child, ChildList, SetAnswer, act_by_bundle, lawful, naming_laws, starts_by_path};
 use cell_store::{Held, Store, value_laws};
 use kdg_text::{NoRoom, Steps, Text};
 use std::alloc::Global;
@@ -113,7 +113,7 @@ fn counted_run<A: App, L: Ledger>(
         put_children(&mut pending, &task.key, made)?;
         append(&mut text, &written)?;
         count += 1;
-        since = shortened(alloc, &mut pending, since + 1)?;
+        since = shortened_where_ignored(alloc, app, &mut pending, since + 1)?;
     }
     Ok(Finals { store, text, count })
 }
@@ -136,6 +136,25 @@ fn shortened(alloc: Global, pending: &mut TaskList, since: u64) -> Result<u64, N
     let tasks = mem::replace(pending, TaskList::new(alloc));
     *pending = renamed(alloc, tasks)?;
     Ok(0)
+}
+
+/// The pending tasks with short paths, where the application ignores paths and that is due.
+#[inline(always)]
+fn shortened_where_ignored<A: App>(
+    alloc: Global,
+    app: &A,
+    pending: &mut TaskList,
+    since: u64,
+) -> Result<u64, NoRoom>
+    requires few { length pending.old < 2 ^ 32 }
+    requires apart { Pairwise (λ task other. AreApart task.key.path other.key.path) pending.old }
+    ensures pending { OnOk result ((pending.new ≡ pending.old) ⊎ (PathsAreIgnored (A.meaning app.now) × MayBeRenumbered pending.old pending.new)) }
+    ensures since { IfOk result (λ left. left ≤ since) }
+{
+    if !app.ignores_paths() {
+        return Ok(0);
+    }
+    shortened(alloc, pending, since)
 }
 
 /// Whether so many tasks are enough that new paths for the pending ones take little beside them.
@@ -232,11 +251,14 @@ fn act<A: App, L: Ledger>(
 {
     lawful::<A>();
     value_laws::<A::Val>();
+    if app.works_at_home() {
+        return app.run_at_home(task, store);
+    }
     let set = match app.sets(&task.body, store, steps)? {
         SetAnswer::Known(set) => set,
         SetAnswer::Out(_) => unreachable!(),
     };
-    app.run_at_home(task, &set, store)
+    act_by_bundle(app, task, &set, store)
 }
 
 /// The first tasks, with their keys.

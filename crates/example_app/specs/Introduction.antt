@@ -96,6 +96,5 @@ introductions people = record {
   set_of = set_among;
   walk = walk_among;
   act = λ task contacts. meeting_of task (slice_index contacts task.body.at) (slice_index contacts task.body.arg) contacts;
-  sets_are_fixed = false;
   is_safe = λ task others. true;
 }

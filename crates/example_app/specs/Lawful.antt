@@ -23,7 +23,7 @@ use Rattle.cell_store.specs.declared.cell.Cell.TheVariants.{Home, Out}
 use Rattle.cell_store.specs.Home.{IsHome}
 use Rattle.cell_store.specs.Cells.{cell_at}
 use Rattle.cell_store.specs.Values.{AgreesWith}
-use Rattle.app_laws.specs.Applications.{AgreeOn, IsFitTask, IsWholeLines, set_in, CellsAreCounted, SetsAreInRange, ActsAreFit, SetsAreLocal, IsSameOutcome, ActsAreLocal, ActsIgnorePaths, ChildrenComeNoEarlier, SetsStayWithin, IsTrueAnswer, WalksAreTrue, FixedSetsAreKnown, IsSafeAlone, SafeTasksStaySafe, SafetyIgnoresPaths}
+use Rattle.app_laws.specs.Applications.{AgreeOn, IsFitTask, IsWholeLines, set_in, CellsAreCounted, SetsAreInRange, ActsAreFit, SetsAreLocal, IsSameOutcome, ActsAreLocal, ActsIgnorePaths, ChildrenComeNoEarlier, SetsStayWithin, IsTrueAnswer, WalksAreTrue, IsSafeAlone, SafeTasksStaySafe, SafetyIgnoresPaths, PathsAreIgnored, IsLawful}
 use Rattle.app_laws.specs.Execution.{children_from}
 use Rattle.example_app.specs.Introduction.{AreContacts, IsMeeting, meeting_set, set_asked, introduced, contact_after, meetings_after, meeting_of, introductions}
 use Rattle.example_app.specs.Sets.{ascending_one, access_put, access_of, access_among, is_some_among, writes_among, some_from_writes, clash_grows, clash_where_written}
@@ -368,9 +368,6 @@ module _ (people : ℕ) where
       walk_is_true cells contacts task.body.at task.body.arg (omega (arith, fit.one_each, meeting.first)) (omega (arith, fit.one_each, meeting.second)) agrees
       (cell_at cells task.body.at) (cell_at cells task.body.arg) refl refl
 
-  pub fixed_sets_are_known : FixedSetsAreKnown (introductions people)
-  fixed_sets_are_known fixed = absurd (true≢false (sym fixed))
-
   pub safe_alone : IsSafeAlone (introductions people)
   safe_alone task meeting = refl
 
@@ -498,3 +495,20 @@ module _ (people : ℕ) where
 
   pub safety_ignores_paths : SafetyIgnoresPaths (introductions people)
   safety_ignores_paths task earlier name meeting fit-others = refl
+
+  pub paths_are_ignored : PathsAreIgnored (introductions people)
+  paths_are_ignored = record { acts = acts_ignore_paths; safety = safety_ignores_paths }
+
+  pub are_lawful : IsLawful (introductions people)
+  are_lawful = record {
+    cells_are_counted = cells_are_counted;
+    sets_are_in_range = sets_are_in_range;
+    acts_are_fit = acts_are_fit;
+    sets_are_local = sets_are_local;
+    acts_are_local = acts_are_local;
+    children_come_no_earlier = children_come_no_earlier;
+    sets_stay_within = sets_stay_within;
+    walks_are_true = walks_are_true;
+    safe_alone = safe_alone;
+    safe_tasks_stay_safe = safe_tasks_stay_safe;
+  }

@@ -1,5 +1,7 @@
-ghost use Rattle.std.specs.Prelude.{◌≡◌, ◌+◌, ◌<◌, ◌^◌, IfOk, IfErr};
-ghost use Rattle.example_app.specs.Introduction.{children_of, contact_after, line_of, meeting_set};
+ghost use Rattle.std.specs.Prelude.{◌≡◌, ◌+◌, ◌<◌, ◌^◌, IfOk, IfErr, OnErr};
+ghost use Rattle.cell_store.specs.Cells.{AreHome, part_of};
+ghost use Rattle.app_laws.specs.Applications.{IsFitTask, IsTaken, IsDoneAtHome, IsEffect};
+ghost use Rattle.example_app.specs.Introduction.{introductions, children_of, contact_after, line_of, meeting_set};
 
 use app_laws::{App, Child, ChildList, Effect, SetAnswer, give_back};
 use cell_store::{Bundle, Seen, Store, location_laws, return_laws, value_laws};
@@ -41,16 +43,36 @@ impl Introductions {
     {
         Introductions { alloc, people }
     }
+
+    /// The task on this set, by its bundle.
+    fn met(
+        &self,
+        task: &Task,
+        set: &RwSet,
+        store: &mut Store<u64>,
+    ) -> Result<(ChildList, Text), NoRoom>
+        requires fit { IsFitTask (introductions self.now) task.now }
+        requires home { AreHome store.old set.now }
+        requires cells { IsTaken (introductions self.now) task.now (part_of store.old set.now) }
+        ensures done { IfOk result (λ made. IsDoneAtHome (introductions self.now) task.now set.now store.old made.0 made.1 store.new) }
+        ensures unchanged { OnErr result (store.new ≡ store.old) }
+    {
+        return_laws::<u64>();
+        let bundle = store.take(set)?;
+        give_back(store, self.run(task, bundle))
+    }
 }
 
 impl App for Introductions {
-    ghost use Rattle.app_laws.specs.Applications.{IsFitTask, IsTaken, IsEffect};
-    ghost use Rattle.example_app.specs.Introduction.{introductions};
     ghost use Rattle.example_app.specs.Lawful as lawful;
 
     type Val = u64;
 
+    type Horizon = ();
+
     ghost meaning = { introductions };
+
+    ghost tells = { λ app horizon tasks. Unit {0} };
 
     fn cells(&self) -> u32 {
         self.people
@@ -77,11 +99,17 @@ impl App for Introductions {
         Ok(SetAnswer::Known(set))
     }
 
-    fn sets_are_fixed(&self) -> bool {
-        false
+    fn ignores_paths(&self) -> bool {
+        true
     }
 
-    fn safe<P: PendingTasks>(&self, _task: &Task, _pending: &P) -> bool {
+    fn horizon(&self, _alloc: Global) -> Result<(), NoRoom> {
+        Ok(())
+    }
+
+    fn touch(&self, _horizon: &mut (), _body: &Body) {}
+
+    fn safe<P: PendingTasks>(&self, _task: &Task, _pending: &P, _horizon: &mut ()) -> bool {
         true
     }
 
@@ -112,42 +140,26 @@ impl App for Introductions {
         })
     }
 
+    fn works_at_home(&self) -> bool {
+        true
+    }
+
     fn run_at_home(
         &self,
         task: &Task,
-        set: &RwSet,
         store: &mut Store<u64>,
     ) -> Result<(ChildList, Text), NoRoom> {
-        return_laws::<u64>();
-        let bundle = store.take(set)?;
-        give_back(store, self.run(task, bundle))
+        location_laws::<u64>();
+        value_laws::<u64>();
+        let alloc = self.alloc;
+        let (first, second) = (task.body.at, task.body.arg as u32);
+        let guest = *store.value(first) as u32;
+        let other = *store.value(second) as u32;
+        let set = meeting_set(alloc, (first, second), (guest, other))?;
+        self.met(task, &set, store)
     }
 
-    ghost cells_are_counted = { lawful.cells_are_counted };
-
-    ghost sets_are_in_range = { lawful.sets_are_in_range };
-
-    ghost acts_are_fit = { lawful.acts_are_fit };
-
-    ghost sets_are_local = { lawful.sets_are_local };
-
-    ghost acts_are_local = { lawful.acts_are_local };
-
-    ghost acts_ignore_paths = { lawful.acts_ignore_paths };
-
-    ghost children_come_no_earlier = { lawful.children_come_no_earlier };
-
-    ghost sets_stay_within = { lawful.sets_stay_within };
-
-    ghost walks_are_true = { lawful.walks_are_true };
-
-    ghost fixed_sets_are_known = { lawful.fixed_sets_are_known };
-
-    ghost safe_alone = { lawful.safe_alone };
-
-    ghost safe_tasks_stay_safe = { lawful.safe_tasks_stay_safe };
-
-    ghost safety_ignores_paths = { lawful.safety_ignores_paths };
+    ghost lawful = { lawful.are_lawful };
 }
 
 /// The set of a meeting of these hosts, whose contacts are these guests.

@@ -22,7 +22,6 @@ running g lower app lawful cells first fit-cells fit-first = record {
   lower = lower;
   keeps = keeps_fit (g.A.App.meaning app) lawful;
   not_earlier = not_earlier (g.A.App.meaning app) lawful;
-  ignores_paths = lawful.acts_ignore_paths;
   fit_cells = fit-cells;
   fit_first = fit-first;
 }
@@ -39,7 +38,7 @@ loop-task-init g c =
     record {
       reached = subst (λ cells. IsReached (g.A.App.meaning c.args.app.now).act c.args.budget (start_of c.args.cells.items c.args.first) cells 0 c.in_ok-created.created) (sym values)
           (reached_at_start _ _ _ _ _ (c.in_ok-created.ensures.ok.0 ∙ ap length c.items-starts.ensures) (rw c.in_ok-created.ensures.ok.0 c.in_ok-created.ensures.ok.1));
-      under = under_at_start c.lower_laws.ensures (g.A.App.meaning c.args.app.now).act c.args.cells.items c.args.first c.in_ok-pending.pending
+      under = under_at_start c.lower_laws.ensures (g.A.App.meaning c.args.app.now).act c.args.cells.items c.args.first _ _ c.in_ok-pending.pending
           (c.in_ok-pending.ensures.tasks ∙ ap (λ first. put_all (first_from 0 first) []) c.items-starts.ensures);
       home = c.in_ok-store.ensures ∙ ap homes (sym values);
       text = c.new-text.ensures ∙ sym (ap (λ e. joined_texts e.log) (after_none _ _));
@@ -96,8 +95,8 @@ pub overflow_add-since : goal.overflow_add-since
 overflow_add-since g c =
     omega (arith, c.loop-task.invariant.since, still_below (running g c.lower_laws.ensures c.args.app.now (c.lawful.ensures c.args.app.now) c.args.cells.items c.args.first c.requires.fit_cells c.requires.fit_first) c.loop-task.invariant.reached c.loop-task.invariant.under c.in-Some.ensures.first, c.requires.budget)
 
-pub shortened-requires-clause-few : goal.shortened-requires-clause-few
-shortened-requires-clause-few g c =
+pub shortened_where_ignored-requires-clause-few : goal.shortened_where_ignored-requires-clause-few
+shortened_where_ignored-requires-clause-few g c =
     let app = g.A.App.meaning c.args.app.now in
     let outcome = app.act c.in-Some.task (values_of c.loop-task.store) in
     let values : values_of c.act.new.store ≡ outcome.cells = ap values_of c.in_ok-children.ensures.store ∙ c.value_laws.ensures.values.values_of_homes outcome.cells in
@@ -110,8 +109,8 @@ shortened-requires-clause-few g c =
     (rw c.in_ok-created-2.ensures.ok.0 c.in_ok-created-2.ensures.ok.1) in
     omega (arith, few_pending (running g c.lower_laws.ensures c.args.app.now (c.lawful.ensures c.args.app.now) c.args.cells.items c.args.first c.requires.fit_cells c.requires.fit_first) next.0 next.1, c.requires.budget)
 
-pub shortened-requires-clause-apart : goal.shortened-requires-clause-apart
-shortened-requires-clause-apart g c =
+pub shortened_where_ignored-requires-clause-apart : goal.shortened_where_ignored-requires-clause-apart
+shortened_where_ignored-requires-clause-apart g c =
     let app = g.A.App.meaning c.args.app.now in
     let outcome = app.act c.in-Some.task (values_of c.loop-task.store) in
     let values : values_of c.act.new.store ≡ outcome.cells = ap values_of c.in_ok-children.ensures.store ∙ c.value_laws.ensures.values.values_of_homes outcome.cells in
@@ -122,7 +121,7 @@ shortened-requires-clause-apart g c =
     (c.in_ok-put_children.ensures.put ∙ ap (λ starts. put_all (children_from c.in-Some.task.key 0 starts) c.take_first.new.self) (ap starts_of children ∙ starts_of_handed app outcome.cells outcome.children))
     (c.in_ok-created-2.ensures.ok.0 ∙ ap (λ (n : ℕ). c.loop-task.created + n) (ap length children ∙ length-handed app outcome.cells outcome.children))
     (rw c.in_ok-created-2.ensures.ok.0 c.in_ok-created-2.ensures.ok.1) in
-    next.1.spread.apart
+    λ κs lives. next.1.spread.apart
 
 pub loop-task-preserved : goal.loop-task-preserved
 loop-task-preserved g c =
@@ -138,7 +137,7 @@ loop-task-preserved g c =
     (rw c.in_ok-created-2.ensures.ok.0 c.in_ok-created-2.ensures.ok.1) in
     record {
       reached = next.0;
-      under = still_under_names c.lower_laws.ensures _ c.put_children.new.pending c.shortened.new.pending next.1 c.in_ok-since.ensures.pending;
+      under = still_under_names (λ ignored name task cells fit-cells fit-task. ignored.acts task (name task.key.path) cells fit-cells fit-task) c.lower_laws.ensures _ c.put_children.new.pending c.shortened_where_ignored.new.pending next.1 c.in_ok-since.ensures.pending;
       home = c.in_ok-children.ensures.store ∙ ap homes (sym values);
       text =
           c.in_ok-append.ensures
