@@ -48,6 +48,11 @@ IsWholeLines (byte ∷ next ∷ text) = IsWholeLines (next ∷ text)
 abbrev pub starts_of : List Child → List Start
 starts_of children = map (λ child. record { prio = child.prio; body = child.body }) children
 
+-- what is so of tasks is so of them under names in the same order
+abbrev pub IgnoresNames : (List Task → Type 0) → Type 0
+IgnoresNames IsSo = (tasks : List Task) (name : List ℕ → List ℕ) (has_name : List ℕ → Bool) → IsNaming name has_name →
+    HaveNames has_name tasks → IsSo tasks → IsSo (map (renamed name) tasks)
+
 module _ {V : Type 0} (app : Application V) where
   abbrev pub IsFitTask : Task → Type 0
   IsFitTask task = app.is_fit_task task.key.prio task.body

@@ -34,7 +34,7 @@ pub trait App {
     ghost use Rattle.task_order.specs.declared.task.Body.{Body};
     ghost use Rattle.task_order.specs.declared.task.Task.{Task};
     ghost use Rattle.rw_sets.specs.Accesses.{Accesses};
-    ghost use Rattle.app_laws.specs.Applications.{Application, AgreesWith, AreFitTasks, IsFitTask, IsTaken, IsEffect, IsReady, IsDoneAtHome, tasks_before, FixedSetsAreKnown, PathsAreIgnored, IsLawful, IsSource, AreWriters};
+    ghost use Rattle.app_laws.specs.Applications.{Application, AgreesWith, AreFitTasks, IsFitTask, IsTaken, IsEffect, IsReady, IsDoneAtHome, tasks_before, FixedSetsAreKnown, PathsAreIgnored, IgnoresNames, IsLawful, IsSource, AreWriters};
     ghost use Rattle.task_order.specs.TaskList.{put_in};
     ghost use Rattle.std.specs.Prelude.{Bool, false};
 
@@ -80,7 +80,8 @@ pub trait App {
     /// Whether paths give tasks their order and tell nothing else. Then tasks may get other paths in
     /// the same order.
     fn ignores_paths(&self) -> bool
-        ensures { IsTrue result → PathsAreIgnored (meaning self.now) }
+        ensures known { IsTrue result → PathsAreIgnored (meaning self.now) }
+        ensures horizon { IsTrue result → (horizon : Self.Horizon) → IgnoresNames (tells self.now horizon) }
     {
         false
     }

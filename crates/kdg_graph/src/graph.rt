@@ -229,8 +229,14 @@ impl Graph {
 impl PendingTasks for Graph {
     ghost tasks = { tasks_of };
 
+    ghost writers = { λ nodes loc. [] };
+
     fn earliest(&self) -> Option<&Task> {
         let least = self.least()?;
         Some(self.task(least))
+    }
+
+    fn earliest_writing(&self, _loc: u32) -> Option<&Task> {
+        None
     }
 }
