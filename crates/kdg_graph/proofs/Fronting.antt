@@ -78,7 +78,7 @@ filter_within p q within (node ∷ nodes) = filter_within_by p q node nodes (p n
 pub writers_within : (loc : ℕ) (access : Access) (nodes : List Node) → clashing_at loc Read (clashing_at loc access nodes) ≡ clashing_at loc Read nodes
 writers_within loc access nodes = filter_within (clashes_at loc Read) (clashes_at loc access) (λ node is. write_clashes access (access_at node.set loc) is) nodes
 
-reads_by : (found : Option Access) → clash (Some Read) found ≡ allows_write found
+pub reads_by : (found : Option Access) → clash (Some Read) found ≡ allows_write found
 reads_by None = refl
 reads_by (Some Read) = refl
 reads_by (Some Write) = refl

@@ -26,6 +26,7 @@ pub mod Shelving
 pub mod Filing
 pub mod Blocking
 pub mod Fronting
+pub mod Writing
 pub mod Earliest
 pub mod Walking
 pub mod Ordered

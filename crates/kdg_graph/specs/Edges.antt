@@ -1,10 +1,10 @@
 -- Which nodes stand in the way of which.
-use Rattle.std.specs.Prelude.{Bool, not, ◌&&◌, List}
+use Rattle.std.specs.Prelude.{ℕ, Bool, not, ◌&&◌, List}
 use Rattle.std.specs.List.{filter, list_any}
 use Rattle.kdg_graph.specs.declared.node_id.NodeId.{NodeId}
 use Rattle.kdg_graph.specs.Node.{Node}
 use Rattle.kdg_graph.specs.Nodes.{ids_of, earlier_than, later_than}
-use Rattle.rw_sets.specs.Accesses.{conflicts_with}
+use Rattle.rw_sets.specs.Accesses.{conflicts_with, writes}
 
 -- whether the recorded set of some earlier node conflicts with that of the node
 abbrev pub is_blocked : List Node → Node → Bool
@@ -21,3 +21,7 @@ sources_of nodes = ids_of (filter (is_source nodes) nodes)
 -- the later nodes whose recorded sets conflict with that of the node, in key order
 abbrev pub laters_of : List Node → Node → List NodeId
 laters_of nodes node = ids_of (filter (λ other. conflicts_with node.set other.set) (later_than node.task.key nodes))
+
+-- the nodes whose recorded sets write the location, in key order
+abbrev pub writers_of : List Node → ℕ → List Node
+writers_of nodes loc = filter (λ node. writes node.set loc) nodes

@@ -3,7 +3,7 @@ ghost use Rattle.std.specs.Option.{option_map};
 ghost use Rattle.task_order.specs.TaskList.{IsNewKey};
 ghost use Rattle.kdg_graph.specs.Node.{new_node};
 ghost use Rattle.kdg_graph.specs.Nodes.{IsGraph, HasNode, least_of, node_at, node_with_key, put_node, running_at, set_at, started, task_at, tasks_of};
-ghost use Rattle.kdg_graph.specs.Edges.{laters_of, sources_of};
+ghost use Rattle.kdg_graph.specs.Edges.{laters_of, sources_of, writers_of};
 ghost use Rattle.kdg_graph.specs.Rewrite.{AreChangesOf, HaveNewKeys, IsRewritten};
 
 use crate::entry::Entry;
@@ -157,6 +157,16 @@ impl Graph {
         self.nodes.least()
     }
 
+    /// The earliest node whose recorded set writes a location, which is the first of those that the
+    /// location keeps in order. No other node is looked at.
+    pub fn earliest_writing(&self, loc: u32) -> Option<NodeId>
+        ensures earliest { result ≡ least_of (writers_of self.now loc) }
+        ensures there { IfSome result (λ id. HasNode self.now id) }
+        ensures graph { IsGraph self.now }
+    {
+        self.nodes.locations().first_writer(loc)
+    }
+
     /// The node whose task has the key. This goes over all nodes, unless the graph keeps their order.
     pub fn find(&self, key: &Key) -> Option<NodeId>
         ensures found { result ≡ option_map (λ node. node.id) (node_with_key self.now key.now) }
@@ -229,14 +239,15 @@ impl Graph {
 impl PendingTasks for Graph {
     ghost tasks = { tasks_of };
 
-    ghost writers = { λ nodes loc. [] };
+    ghost writers = { λ nodes loc. tasks_of (writers_of nodes loc) };
 
     fn earliest(&self) -> Option<&Task> {
         let least = self.least()?;
         Some(self.task(least))
     }
 
-    fn earliest_writing(&self, _loc: u32) -> Option<&Task> {
-        None
+    fn earliest_writing(&self, loc: u32) -> Option<&Task> {
+        let writer = Graph::earliest_writing(self, loc)?;
+        Some(self.task(writer))
     }
 }

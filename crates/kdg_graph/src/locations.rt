@@ -1,4 +1,4 @@
-ghost use Rattle.std.specs.Prelude.{◌≡◌, ◌==◌, ◌-◌, ◌≤◌, ◌<◌, ◌+◌, ℕ, List, [], take, drop, filter, length, slice_index_or, true, false, Some, OnOk, IfNone, IfSome};
+ghost use Rattle.std.specs.Prelude.{◌≡◌, ◌==◌, ◌-◌, ◌≤◌, ◌<◌, ◌+◌, ℕ, List, [], take, drop, filter, length, slice_get, slice_index_or, true, false, Some, OnOk, IfNone, IfSome};
 ghost use Rattle.std.specs.List.{AllByRecursion};
 ghost use Rattle.rw_sets.specs.declared.access.Access.TheVariants.{Read};
 ghost use Rattle.rw_sets.specs.Accesses.{access_at, conflicts_with};
@@ -273,6 +273,13 @@ impl Locations {
         if start > 0 {
             return self.first_after(nodes, loc, Access::Read, key);
         }
+        self.first_writer(loc)
+    }
+
+    /// The first of all nodes that write a location.
+    pub(crate) fn first_writer(&self, loc: u32) -> Option<NodeId>
+        ensures { result ≡ slice_get (lane_of self.now.locations.items loc Read) 0 }
+    {
         let writers = self.lane(loc, Access::Read)?;
         writers.get(0)
     }
