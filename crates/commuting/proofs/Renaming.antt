@@ -1,4 +1,4 @@
--- Rounds under names, and what is left of an execution where its pending tasks are listed.
+-- Where paths are ignored: rounds under names, and what is left of an execution where its pending tasks are listed.
 use Rattle.std.proofs.Common.{◌≡◌, ℕ, zero, suc, Bool, true, not, List, [], ◌∷◌, length, map, Option, Some, None, refl, sym, ap, subst, ◌∙◌}
 use Rattle.std.specs.Prelude.{◌&&◌, ◌||◌}
 use Rattle.std.specs.List.{AllByRecursion, Contains, list_any}
@@ -9,7 +9,7 @@ use Rattle.std.proofs.lemmas.Simd.{map-map}
 use Rattle.task_order.specs.declared.task.Task.{Task}
 use Rattle.task_order.specs.TaskList.{put_all, tasks_before, without}
 use Rattle.rw_sets.specs.Accesses.{conflicts_with}
-use Rattle.app_laws.specs.Applications.{Application, AreFitTasks, IsFitTask, set_in}
+use Rattle.app_laws.specs.Applications.{Application, AreFitTasks, IsFitTask, PathsAreIgnored, set_in}
 use Rattle.app_laws.specs.Execution.{Execution, Outcome, children_from}
 use Rattle.app_laws.specs.Names.{IsNaming, renamed}
 use Rattle.app_laws.specs.Renaming.{HaveNames, ListedTasksAreNamed, NamesChangeNoRun, renamed_entry, renamed_execution}
@@ -29,7 +29,7 @@ same_texts : {V : Type 0} (name : List ℕ → List ℕ) (run : Option (Executio
 same_texts name None = tt
 same_texts name (Some e) = record { cells_are = refl; texts_are = sym (map-map (λ entry. entry.1) (renamed_entry name) e.log) }
 
-module _ {V : Type 0} {app : Application V} (basis : Basis app) where
+module _ {V : Type 0} {app : Application V} (basis : Basis app) (ignored : PathsAreIgnored app) where
   module _ {name : List ℕ → List ℕ} {has_name : List ℕ → Bool} (naming : IsNaming name has_name) where
     -- a task of the application that has a name
     record IsNamedTask (task : Task) : Type 0 where
@@ -64,7 +64,7 @@ module _ {V : Type 0} {app : Application V} (basis : Basis app) where
         let earlier_fit : AreFitTasks app earlier = all-filter (IsFitTask app) _ state.pending named.ready.tasks in
         ap (λ tasks. not (list_any Test tasks) && app.is_safe (renamed name task) tasks) (tasks_before-renamed naming task state.pending one.has named.have)
         ∙ ap (λ found. not found && app.is_safe (renamed name task) (map (renamed name) earlier)) (any_renamed state.cells task earlier)
-        ∙ ap (λ safe. not (list_any Test earlier) && safe) (basis.lawful.safety_ignores_paths task earlier name one.fit earlier_fit)
+        ∙ ap (λ safe. not (list_any Test earlier) && safe) (ignored.safety task earlier name has_name naming (one.has, all-filter (λ other. has_name other.key.path ≡ true) _ state.pending named.have) one.fit earlier_fit)
 
     clear_tasks_renamed : (state : State V) → IsNamedState state → clear_tasks app (renamed_state name state) ≡ map (renamed name) (clear_tasks app state)
     clear_tasks_renamed state named =
@@ -84,7 +84,7 @@ module _ {V : Type 0} {app : Application V} (basis : Basis app) where
         let After = λ (outcome : Outcome V) (new others : List Task). state_of outcome.cells (put_all new others) in
         let others_renamed = without (renamed name task).key (map (renamed name) state.pending) in
         ap (λ outcome. After outcome (children_from (renamed name task).key 0 outcome.children) others_renamed)
-        (basis.lawful.acts_ignore_paths task (name task.key.path) state.cells named.ready.cells one.fit)
+        (ignored.acts task (name task.key.path) state.cells named.ready.cells one.fit)
         ∙ ap (λ new. After outcome new others_renamed) (children-renamed naming task 0 outcome.children one.has)
         ∙ ap (After outcome (map (renamed name) children)) (without-renamed naming task state.pending one.has named.have)
         ∙ ap (state_of outcome.cells)

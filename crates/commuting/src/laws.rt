@@ -1,3 +1,4 @@
+ghost use Rattle.app_laws.specs.Applications.{PathsAreIgnored};
 ghost use Rattle.commuting.specs.Commuting.{ClearTasksMayActAtOnce, ClearTasksStayClearInTurn, ClearTasksActInAnyOrder, ClearTasksMayAllActAtOnce};
 ghost use Rattle.commuting.specs.Independent.{StaysReady, IndependentTasksCommute, IndependentTasksLeaveAlone, ClearTasksStayClear, ClearTasksAreIndependent, EarliestIsClear};
 ghost use Rattle.commuting.specs.Basis.{LowerLaws, Basis};
@@ -106,11 +107,11 @@ pub fn round_laws<A: App>()
     basis::<A>();
 }
 
-/// Where pending tasks are first tasks in the order of their paths, what is left of an execution comes to the same, in as
-/// many rounds.
+/// Where an application ignores paths, and pending tasks are first tasks in the order of their paths, what
+/// is left of an execution comes to the same, in as many rounds.
 pub fn listed_tasks_come_to_same<A: App>()
-    ensures rounds { (app : A) → NamesChangeNoRounds (A.meaning app) }
-    ensures same { (app : A) → ListedTasksComeToSame (A.meaning app) }
+    ensures rounds { (app : A) → PathsAreIgnored (A.meaning app) → NamesChangeNoRounds (A.meaning app) }
+    ensures same { (app : A) → PathsAreIgnored (A.meaning app) → ListedTasksComeToSame (A.meaning app) }
 {
     basis::<A>();
     renaming_laws::<A>();

@@ -2,7 +2,7 @@ use Rattle.commuting.proofs.Renaming.{names_change_no_rounds, listed_tasks_come_
 use Rattle.commuting.proofs.laws.listed_tasks_come_to_same.Goals as goal
 
 pub returns-clause-rounds : goal.returns-clause-rounds
-returns-clause-rounds g c = λ app. names_change_no_rounds (c.basis.ensures app)
+returns-clause-rounds g c = λ app ignored. names_change_no_rounds (c.basis.ensures app) ignored
 
 pub returns-clause-same : goal.returns-clause-same
-returns-clause-same g c = λ app. listed_tasks_come_to_same (c.basis.ensures app) (c.renaming_laws.ensures app) c.naming_laws.ensures
+returns-clause-same g c = λ app ignored. listed_tasks_come_to_same (c.basis.ensures app) ignored (c.renaming_laws.ensures app ignored.acts) c.naming_laws.ensures
