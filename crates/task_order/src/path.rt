@@ -85,7 +85,7 @@ impl Path {
     }
 
     /// The same path.
-    pub(crate) fn copy(&self) -> Result<Path, NoRoom>
+    pub fn copy(&self) -> Result<Path, NoRoom>
         ensures { IfOk result (λ path. path ≡ self.now) }
     {
         Ok(Path {
