@@ -11,7 +11,7 @@ use Rattle.app_laws.specs.Laws.{NoneEarlier}
 use Rattle.app_laws.specs.Lower.{LowerLaws}
 use Rattle.app_laws.specs.Names.{IsNaming, renamed}
 use Rattle.app_laws.specs.Renaming.{HaveNames}
-use Rattle.app_laws.specs.Renumbering.{AreRenumbered, MayBeRenumbered}
+use Rattle.app_laws.specs.Renumbering.{AreRenumbered}
 use Rattle.app_laws.proofs.Ordered.{IsSpread, spread_at_start, spread_next}
 use Rattle.app_laws.proofs.Renamed.{children_put, children_put_named}
 
@@ -137,12 +137,9 @@ under_new_names all lower exact pending renumbered under anew =
     }
 
 pub still_under_names : {May : (List ℕ → List ℕ) → Type 0} {P : Type 0} → (P → (name : List ℕ → List ℕ) → May name) → LowerLaws → (exact pending left : List Task) → AreUnderNames May exact pending
-    → (left ≡ pending) ⊎ (P × MayBeRenumbered pending left) → AreUnderNames May exact left
+    → (left ≡ pending) ⊎ (P × AreRenumbered pending left) → AreUnderNames May exact left
 still_under_names {May} {P} all lower exact pending left under maybe =
     ⊎_elim
     (λ same. subst (AreUnderNames May exact) (sym same) under)
-    (λ anew. ⊎_elim
-    (λ same. subst (AreUnderNames May exact) (sym same) under)
-    (under_new_names (all anew.0) lower exact pending left under)
-    anew.1)
+    (λ anew. under_new_names (all anew.0) lower exact pending left under anew.1)
     maybe

@@ -1,5 +1,5 @@
 -- Pending tasks that were numbered anew.
-use Rattle.std.specs.Prelude.{◌≡◌, ◌⊎◌, List, []}
+use Rattle.std.specs.Prelude.{◌≡◌, List, []}
 use Rattle.task_order.specs.declared.start.Start.{Start}
 use Rattle.task_order.specs.declared.task.Task.{Task}
 use Rattle.task_order.specs.TaskList.{put_all}
@@ -11,7 +11,3 @@ pub record AreRenumbered (pending renumbered : List Task) : Type 0 where
   pub first : List Start
   pub named : AreNamed pending first
   pub are : renumbered ≡ put_all (first_from 0 first) []
-
--- the pending tasks, or those in their place
-abbrev pub MayBeRenumbered : List Task → List Task → Type 0
-MayBeRenumbered pending left = (left ≡ pending) ⊎ AreRenumbered pending left

@@ -105,12 +105,7 @@ pub trait App {
     /// Whether a task may run although those of the pending tasks that are earlier haven't run yet:
     /// what they and their children may still do must not touch it. It is asked only where none of those
     /// conflicts with it.
-    fn safe<P: PendingTasks>(
-        &self,
-        task: &Task,
-        pending: &P,
-        horizon: &mut Self::Horizon,
-    ) -> bool
+    fn safe<P: PendingTasks>(&self, task: &Task, pending: &P, horizon: &mut Self::Horizon) -> bool
         requires fit { IsFitTask (meaning self.now) task.now }
         requires pending { AreFitTasks (meaning self.now) (P.tasks pending.now) }
         requires told { tells self.now horizon.old (P.tasks pending.now) }

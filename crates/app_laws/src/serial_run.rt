@@ -1,4 +1,4 @@
-ghost use Rattle.std.specs.Prelude.{◌≡◌, ◌<◌, ◌≤◌, ◌^◌, ◌++◌, [], length, map, IfOk, IfErr, OnOk, ◌⊎◌};
+ghost use Rattle.std.specs.Prelude.{◌≡◌, ◌<◌, ◌≤◌, ◌+◌, ◌/◌, ◌^◌, ◌++◌, ◌↔◌, [], length, map, IfOk, IfErr, IsTrue, OnOk, ◌⊎◌};
 ghost use Rattle.std.specs.List.{AllByRecursion};
 ghost use Rattle.task_order.specs.TaskList.{IsNewKey, put_in, put_all};
 ghost use Rattle.cell_store.specs.Values.{homes, values_of};
@@ -6,7 +6,7 @@ ghost use Rattle.app_laws.specs.Applications.{PathsAreIgnored, AreFitStarts, IsF
 ghost use Rattle.app_laws.specs.Execution.{start_of, children_from, first_from};
 ghost use Rattle.app_laws.specs.Lower.{LowerLaws};
 ghost use Rattle.app_laws.specs.Order.{AreApart, Pairwise};
-ghost use Rattle.app_laws.specs.Renumbering.{AreRenumbered, MayBeRenumbered};
+ghost use Rattle.app_laws.specs.Renumbering.{AreRenumbered};
 ghost use Rattle.app_laws.specs.Serial.{IsRun, IsFault};
 
 use crate::{App, Child, ChildList, SetAnswer, act_by_bundle, lawful, naming_laws, starts_by_path};
@@ -113,34 +113,15 @@ fn counted_run<A: App, L: Ledger>(
         put_children(&mut pending, &task.key, made)?;
         append(&mut text, &written)?;
         count += 1;
-        since = shortened_where_ignored(alloc, app, &mut pending, since + 1)?;
+        since = shortened(alloc, app, &mut pending, since + 1)?;
     }
     Ok(Finals { store, text, count })
 }
 
-/// Gives the pending tasks short paths where that is due, when so many tasks ran since it was last asked
-/// for the earliest one's path. Answers how many that are then.
+/// Gives the pending tasks short paths where that pays, when so many tasks ran since it was last looked
+/// whether the earliest one's path is long, and the application ignores paths. Answers how many ran since.
 #[inline(always)]
-fn shortened(alloc: Global, pending: &mut TaskList, since: u64) -> Result<u64, NoRoom>
-    requires few { length pending.old < 2 ^ 32 }
-    requires apart { Pairwise (λ task other. AreApart task.key.path other.key.path) pending.old }
-    ensures pending { OnOk result (MayBeRenumbered pending.old pending.new) }
-    ensures since { IfOk result (λ left. left ≤ since) }
-{
-    if !are_enough(since, pending) {
-        return Ok(since);
-    }
-    if !begins_long(pending) {
-        return Ok(0);
-    }
-    let tasks = mem::replace(pending, TaskList::new(alloc));
-    *pending = renamed(alloc, tasks)?;
-    Ok(0)
-}
-
-/// The pending tasks with short paths, where the application ignores paths and that is due.
-#[inline(always)]
-fn shortened_where_ignored<A: App>(
+fn shortened<A: App>(
     alloc: Global,
     app: &A,
     pending: &mut TaskList,
@@ -148,26 +129,37 @@ fn shortened_where_ignored<A: App>(
 ) -> Result<u64, NoRoom>
     requires few { length pending.old < 2 ^ 32 }
     requires apart { Pairwise (λ task other. AreApart task.key.path other.key.path) pending.old }
-    ensures pending { OnOk result ((pending.new ≡ pending.old) ⊎ (PathsAreIgnored (A.meaning app.now) × MayBeRenumbered pending.old pending.new)) }
+    ensures pending { OnOk result ((pending.new ≡ pending.old) ⊎ (PathsAreIgnored (A.meaning app.now) × AreRenumbered pending.old pending.new)) }
     ensures since { IfOk result (λ left. left ≤ since) }
 {
-    if !app.ignores_paths() {
-        return Ok(0);
+    if !new_paths_pay(since, pending.len()) {
+        return Ok(since);
     }
-    shortened(alloc, pending, since)
+    if app.ignores_paths() && begins_long(pending) {
+        let tasks = mem::replace(pending, TaskList::new(alloc));
+        *pending = renamed(alloc, tasks)?;
+    }
+    Ok(0)
 }
 
-/// Whether so many tasks are enough that new paths for the pending ones take little beside them.
+/// Whether new paths for so many pending tasks take little beside what so many tasks took that ran.
+///
+/// Each pending task gets a new path and is put into a new list, which takes about as long as to put in a
+/// child. Where 32 tasks ran for each of them, that is a small part of their time, while no path has grown
+/// by more than those tasks. The 4 is for what new paths take however few are pending: where one task
+/// follows another, 160 run from one time to the next.
 #[inline(always)]
-fn are_enough(tasks: u64, pending: &TaskList) -> bool {
-    tasks / 32 >= 4 + pending.len() as u64
+pub fn new_paths_pay(ran: u64, pending: usize) -> bool
+    ensures { IsTrue result ↔ (pending + 4 ≤ ran / 32) }
+{
+    ran / 32 >= (pending as u64).saturating_add(4)
 }
 
-/// Whether the earliest task's path is kept as eight bytes or more.
+/// Whether the earliest task's path is long.
 #[inline(never)]
 fn begins_long(pending: &TaskList) -> bool {
     match pending.first() {
-        Some(task) => task.key.path.beginning() % 256 != 0,
+        Some(task) => task.key.path.is_long(),
         None => false,
     }
 }

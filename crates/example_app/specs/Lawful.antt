@@ -4,7 +4,7 @@ use Rattle.std.specs.List.{AllByRecursion, filter}
 use Rattle.std.specs.Option.{is_some}
 use Rattle.std.specs.Fmt.{decimal}
 use Rattle.std.proofs.Common.{arith, inl, inr, ◌⊎◌, length-set, lit<, sym, ap, ◌∙◌, subst}
-use Rattle.std.proofs.lemmas.Bool.{true≢false, cases_Bool, cases_eq, cases_lt, or_cases, or_left, or_right, or_parts, eq-eqb, ne_eqb, eqb-true, eqb-false, cond_both, false_from_ne_true}
+use Rattle.std.proofs.lemmas.Bool.{cases_Bool, cases_eq, cases_lt, or_cases, or_left, or_right, or_parts, eq-eqb, ne_eqb, eqb-true, eqb-false, cond_both, false_from_ne_true}
 use Rattle.std.proofs.lemmas.List.{get_or-set_same, get_or-set_other, get_or_past, get_or-map}
 use Rattle.std.proofs.lemmas.List.Elements.{All-set, All-get_or}
 use Rattle.std.proofs.lemmas.Option.{slice_get-get_or, slice_get_past, same_Some}
@@ -23,7 +23,7 @@ use Rattle.cell_store.specs.declared.cell.Cell.TheVariants.{Home, Out}
 use Rattle.cell_store.specs.Home.{IsHome}
 use Rattle.cell_store.specs.Cells.{cell_at}
 use Rattle.cell_store.specs.Values.{AgreesWith}
-use Rattle.app_laws.specs.Applications.{AgreeOn, IsFitTask, IsWholeLines, set_in, CellsAreCounted, SetsAreInRange, ActsAreFit, SetsAreLocal, IsSameOutcome, ActsAreLocal, ActsIgnorePaths, ChildrenComeNoEarlier, SetsStayWithin, IsTrueAnswer, WalksAreTrue, IsSafeAlone, SafeTasksStaySafe, SafetyIgnoresPaths, PathsAreIgnored, IsLawful}
+use Rattle.app_laws.specs.Applications.{AgreeOn, IsFitTask, IsWholeLines, set_in, CellsAreCounted, SetsAreInRange, ActsAreFit, SetsAreLocal, IsSameOutcome, ActsAreLocal, ChildrenComeNoEarlier, SetsStayWithin, IsTrueAnswer, WalksAreTrue, IsSafeAlone, SafeTasksStaySafe, IsLawful}
 use Rattle.app_laws.specs.Execution.{children_from}
 use Rattle.example_app.specs.Introduction.{AreContacts, IsMeeting, meeting_set, set_asked, introduced, contact_after, meetings_after, meeting_of, introductions}
 use Rattle.example_app.specs.Sets.{ascending_one, access_put, access_of, access_among, is_some_among, writes_among, some_from_writes, clash_grows, clash_where_written}
@@ -262,9 +262,6 @@ module _ (people : ℕ) where
         (subst (λ g. IsSameOutcome (introductions people) set (meeting_of task guest other contacts) (meeting_of task g other others)) same.0 alike);
   }
 
-  pub acts_ignore_paths : ActsIgnorePaths (introductions people)
-  acts_ignore_paths task path cells fit meeting = refl
-
   pub children_come_no_earlier : ChildrenComeNoEarlier (introductions people)
   children_come_no_earlier task contacts fit meeting =
       cond_both (task.body.kind == 0) [] _ (AllByRecursion (λ (child : Start). task.key.prio ≤ child.prio)) (λ none. tt) (λ some. (omega arith, (omega arith, tt)))
@@ -492,12 +489,6 @@ module _ (people : ℕ) where
       children-apart child within conflict =
           apart (conflicts_grow (set_in (introductions people) now child) acted-set (set_in (introductions people) contacts task) within
           (subst (Conflicts (set_in (introductions people) now child)) same-set conflict))
-
-  pub safety_ignores_paths : SafetyIgnoresPaths (introductions people)
-  safety_ignores_paths task earlier name meeting fit-others = refl
-
-  pub paths_are_ignored : PathsAreIgnored (introductions people)
-  paths_are_ignored = record { acts = acts_ignore_paths; safety = safety_ignores_paths }
 
   pub are_lawful : IsLawful (introductions people)
   are_lawful = record {

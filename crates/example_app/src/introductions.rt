@@ -1,10 +1,9 @@
-ghost use Rattle.std.specs.Prelude.{◌≡◌, ◌+◌, ◌<◌, ◌^◌, IfOk, IfErr, OnErr};
-ghost use Rattle.cell_store.specs.Cells.{AreHome, part_of};
-ghost use Rattle.app_laws.specs.Applications.{IsFitTask, IsTaken, IsDoneAtHome, IsEffect};
+ghost use Rattle.std.specs.Prelude.{◌≡◌, ◌+◌, ◌<◌, ◌^◌, IfOk, IfErr};
+ghost use Rattle.app_laws.specs.Applications.{IsFitTask, IsTaken, IsEffect};
 ghost use Rattle.example_app.specs.Introduction.{introductions, children_of, contact_after, line_of, meeting_set};
 
-use app_laws::{App, Child, ChildList, Effect, SetAnswer, give_back};
-use cell_store::{Bundle, Seen, Store, location_laws, return_laws, value_laws};
+use app_laws::{App, Child, ChildList, Effect, SetAnswer};
+use cell_store::{Bundle, Seen, Store, location_laws, value_laws};
 use kdg_text::{NoRoom, Steps, Text, push_u64};
 use rw_sets::{Access, RwSet};
 use std::alloc::Global;
@@ -43,24 +42,6 @@ impl Introductions {
     {
         Introductions { alloc, people }
     }
-
-    /// The task on this set, by its bundle.
-    fn met(
-        &self,
-        task: &Task,
-        set: &RwSet,
-        store: &mut Store<u64>,
-    ) -> Result<(ChildList, Text), NoRoom>
-        requires fit { IsFitTask (introductions self.now) task.now }
-        requires home { AreHome store.old set.now }
-        requires cells { IsTaken (introductions self.now) task.now (part_of store.old set.now) }
-        ensures done { IfOk result (λ made. IsDoneAtHome (introductions self.now) task.now set.now store.old made.0 made.1 store.new) }
-        ensures unchanged { OnErr result (store.new ≡ store.old) }
-    {
-        return_laws::<u64>();
-        let bundle = store.take(set)?;
-        give_back(store, self.run(task, bundle))
-    }
 }
 
 impl App for Introductions {
@@ -97,6 +78,10 @@ impl App for Introductions {
         };
         let set = meeting_set(alloc, (first, second), (guest, other))?;
         Ok(SetAnswer::Known(set))
+    }
+
+    fn sets_are_fixed(&self) -> bool {
+        false
     }
 
     fn ignores_paths(&self) -> bool {
@@ -138,25 +123,6 @@ impl App for Introductions {
             children,
             text,
         })
-    }
-
-    fn works_at_home(&self) -> bool {
-        true
-    }
-
-    fn run_at_home(
-        &self,
-        task: &Task,
-        store: &mut Store<u64>,
-    ) -> Result<(ChildList, Text), NoRoom> {
-        location_laws::<u64>();
-        value_laws::<u64>();
-        let alloc = self.alloc;
-        let (first, second) = (task.body.at, task.body.arg as u32);
-        let guest = *store.value(first) as u32;
-        let other = *store.value(second) as u32;
-        let set = meeting_set(alloc, (first, second), (guest, other))?;
-        self.met(task, &set, store)
     }
 
     ghost lawful = { lawful.are_lawful };

@@ -1,4 +1,4 @@
-ghost use Rattle.std.specs.Prelude.{◌≡◌, [], ◌∷◌, ◌++◌, Some, IfOk, nat_eq, refl};
+ghost use Rattle.std.specs.Prelude.{◌≡◌, ◌≢◌, ◌↔◌, ◌%◌, [], ◌∷◌, ◌++◌, Some, IfOk, IsTrue, nat_eq, refl};
 ghost use Rattle.std.specs.Ordering.{nat_cmp};
 ghost use Rattle.std.specs.Cmp.{partial_equiv_from_equiv};
 ghost use Rattle.std.specs.Cmp.Lexicographic.{pointwise, slice_cmp, nat_list_eq_equiv, nat_list_cmp_total, texts_ties, texts_po};
@@ -76,8 +76,16 @@ impl Path {
         self.bytes.beginning()
     }
 
+    /// Whether the eighth of the bytes that the path is kept as isn't 0, so that they are eight or more and
+    /// take longer to compare. It is a hint, on which no contract rests.
+    pub fn is_long(&self) -> bool
+        ensures { IsTrue result ↔ (path_beginning self.now % 256 ≢ 0) }
+    {
+        self.beginning() % 256 != 0
+    }
+
     /// The same path.
-    pub(crate) fn copy(&self) -> Result<Path, NoRoom>
+    pub fn copy(&self) -> Result<Path, NoRoom>
         ensures { IfOk result (λ path. path ≡ self.now) }
     {
         Ok(Path {

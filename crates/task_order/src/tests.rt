@@ -1,7 +1,7 @@
 ghost use Rattle.std.specs.Bool.{OnTrue};
 ghost use Rattle.task_order.specs.TaskList.{IsNewKey};
 
-use crate::{Body, Key, Path, PendingTasks, Start, StartList, Task, TaskList};
+use crate::{Body, Key, Path, Start, StartList, Task, TaskList};
 use kdg_text::NoRoom;
 use std::alloc::Global;
 use std::process::Abort;
@@ -178,24 +178,5 @@ fn keys_are_sorted_by_priority_and_path(rt: HostRuntime) -> Result<(), Fail> {
         format!(in rt.alloc(); "{keys:?}")?.as_str(),
         "[Key { prio: 2, path: [7] }, Key { prio: 3, path: [0] }, Key { prio: 3, path: [1] }]"
     );
-    Ok(())
-}
-
-/// The priority of the earliest of some pending tasks, whatever keeps them.
-fn earliest_prio<P: PendingTasks>(pending: &P) -> Option<u64> {
-    Some(pending.earliest()?.key.prio)
-}
-
-#[test]
-fn earliest_pending_task_is_seen_through_the_bound(rt: HostRuntime) -> Result<(), Fail> {
-    let alloc = rt.alloc();
-    let mut tasks = TaskList::new(alloc);
-    assert_eq!(rt; earliest_prio(&tasks), None);
-    for prio in [5, 3] {
-        let path = Path::root(alloc, 1)?;
-        let key = Key { prio, path };
-        put(&rt, &mut tasks, Task { key, body: BODY })?;
-    }
-    assert_eq!(rt; earliest_prio(&tasks), Some(3));
     Ok(())
 }

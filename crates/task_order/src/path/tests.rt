@@ -70,6 +70,13 @@ fn paths_begin_with_their_first_numbers(rt: HostRuntime) -> Result<(), Fail> {
 }
 
 #[test]
+fn paths_of_eight_bytes_are_long(rt: HostRuntime) -> Result<(), Fail> {
+    assert!(rt; !path(rt.alloc(), 7, &[3; 6])?.is_long());
+    assert!(rt; path(rt.alloc(), 7, &[3; 7])?.is_long());
+    Ok(())
+}
+
+#[test]
 fn long_paths_print_each_number(rt: HostRuntime) -> Result<(), Fail> {
     let long = path(rt.alloc(), 7, &[3; 1_200])?;
     assert_eq!(rt; format!(in rt.alloc(); "{long:?}")?.len(), 3_603);

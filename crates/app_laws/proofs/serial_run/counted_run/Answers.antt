@@ -95,8 +95,8 @@ pub overflow_add-since : goal.overflow_add-since
 overflow_add-since g c =
     omega (arith, c.loop-task.invariant.since, still_below (running g c.lower_laws.ensures c.args.app.now (c.lawful.ensures c.args.app.now) c.args.cells.items c.args.first c.requires.fit_cells c.requires.fit_first) c.loop-task.invariant.reached c.loop-task.invariant.under c.in-Some.ensures.first, c.requires.budget)
 
-pub shortened_where_ignored-requires-clause-few : goal.shortened_where_ignored-requires-clause-few
-shortened_where_ignored-requires-clause-few g c =
+pub shortened-requires-clause-few : goal.shortened-requires-clause-few
+shortened-requires-clause-few g c =
     let app = g.A.App.meaning c.args.app.now in
     let outcome = app.act c.in-Some.task (values_of c.loop-task.store) in
     let values : values_of c.act.new.store ≡ outcome.cells = ap values_of c.in_ok-children.ensures.store ∙ c.value_laws.ensures.values.values_of_homes outcome.cells in
@@ -109,8 +109,8 @@ shortened_where_ignored-requires-clause-few g c =
     (rw c.in_ok-created-2.ensures.ok.0 c.in_ok-created-2.ensures.ok.1) in
     omega (arith, few_pending (running g c.lower_laws.ensures c.args.app.now (c.lawful.ensures c.args.app.now) c.args.cells.items c.args.first c.requires.fit_cells c.requires.fit_first) next.0 next.1, c.requires.budget)
 
-pub shortened_where_ignored-requires-clause-apart : goal.shortened_where_ignored-requires-clause-apart
-shortened_where_ignored-requires-clause-apart g c =
+pub shortened-requires-clause-apart : goal.shortened-requires-clause-apart
+shortened-requires-clause-apart g c =
     let app = g.A.App.meaning c.args.app.now in
     let outcome = app.act c.in-Some.task (values_of c.loop-task.store) in
     let values : values_of c.act.new.store ≡ outcome.cells = ap values_of c.in_ok-children.ensures.store ∙ c.value_laws.ensures.values.values_of_homes outcome.cells in
@@ -137,7 +137,7 @@ loop-task-preserved g c =
     (rw c.in_ok-created-2.ensures.ok.0 c.in_ok-created-2.ensures.ok.1) in
     record {
       reached = next.0;
-      under = still_under_names (λ ignored name task cells fit-cells fit-task. ignored.acts task (name task.key.path) cells fit-cells fit-task) c.lower_laws.ensures _ c.put_children.new.pending c.shortened_where_ignored.new.pending next.1 c.in_ok-since.ensures.pending;
+      under = still_under_names (λ ignored name task cells fit-cells fit-task. ignored.acts task (name task.key.path) cells fit-cells fit-task) c.lower_laws.ensures _ c.put_children.new.pending c.shortened.new.pending next.1 c.in_ok-since.ensures.pending;
       home = c.in_ok-children.ensures.store ∙ ap homes (sym values);
       text =
           c.in_ok-append.ensures
