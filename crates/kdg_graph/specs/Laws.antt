@@ -1,17 +1,19 @@
 -- What holds of the nodes of a graph, its sources, and what a change leaves.
-use Rattle.std.specs.Prelude.{◌≡◌, ◌≢◌, ◌⊎◌, ◌↔◌, Bool, true, false, if◌then◌else◌, List, [], map, filter, Some, None, Contains}
+use Rattle.std.specs.Prelude.{◌≡◌, ◌≢◌, ◌⊎◌, ◌↔◌, ℕ, Bool, true, false, if◌then◌else◌, List, [], map, filter, Some, None, Contains}
+use Rattle.std.specs.List.{AllByRecursion}
 use Rattle.std.specs.Option.{option_map}
 use Rattle.std.specs.declared.cmp.Ordering.TheVariants.{Less}
 use Rattle.task_order.specs.declared.key.Key.{Key}
+use Rattle.task_order.specs.declared.task.Task.{Task}
 use Rattle.task_order.specs.Key.{key_cmp}
 use Rattle.task_order.specs.TaskList.{IsNewKey, put_all, put_in, without as tasks_without}
-use Rattle.rw_sets.specs.Accesses.{Conflicts}
+use Rattle.rw_sets.specs.Accesses.{Accesses, Conflicts, writes}
 use Rattle.kdg_graph.specs.declared.node_id.NodeId.{NodeId}
 use Rattle.kdg_graph.specs.declared.change.SetChange.{SetChange}
 use Rattle.kdg_graph.specs.declared.change.Fresh.{Fresh}
 use Rattle.kdg_graph.specs.Node.{Node, new_node}
 use Rattle.kdg_graph.specs.Nodes.{HasNode, IsGraph, ids_of, is_at, least_of, node_at, node_with_key, put_node, started, tasks_of}
-use Rattle.kdg_graph.specs.Edges.{laters_of, sources_of}
+use Rattle.kdg_graph.specs.Edges.{laters_of, sources_of, writers_of}
 use Rattle.kdg_graph.specs.Rewrite.{AreChangesOf, HaveNewKeys, IsRewritten, fresh_tasks, set_after}
 
 -- ---- look-ups
@@ -71,6 +73,10 @@ LatersAreInConflict = (nodes : List Node) (node : Node) (id : NodeId) (later : N
 -- a rewrite that ends a node may change the sets of just these
 abbrev pub LatersMayChange : Type 0
 LatersMayChange = (nodes : List Node) (ended : NodeId) (node : Node) (changes : List SetChange) → IsGraph nodes → node_at nodes ended ≡ Some node → map (λ change. change.node) changes ≡ laters_of nodes node → AreChangesOf nodes ended changes
+
+-- where the tasks determine the recorded sets, the tasks of those that write a location are the ones whose sets do
+abbrev pub WritersAreOfTasks : Type 0
+WritersAreOfTasks = (nodes : List Node) (set_of : Task → Accesses) (loc : ℕ) → AllByRecursion (λ node. node.set ≡ set_of node.task) nodes → tasks_of (writers_of nodes loc) ≡ filter (λ task. writes (set_of task) loc) (tasks_of nodes)
 
 -- ---- a node that is put in, and one that starts
 

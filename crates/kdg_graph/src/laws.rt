@@ -1,4 +1,4 @@
-ghost use Rattle.kdg_graph.specs.Laws.{NodesHaveIds, NodesHaveKeys, IdsFindNodes, KeysFindNodes, NewKeysFindNone, IdsFindTheirNodes, LeastIsEarliest, NoneIsLeastOfNone, SourcesAreNodes, SourcesAreUnblocked, RunningNodesAreNoSources, LatersAreNodes, LatersAreInConflict, LatersMayChange, PutsAddOneNode, PutsAddTasks, StartsMarkOneNode, StartsKeepTasks, RewritesKeepNodes, RewritesAddNodes, RewritesAddNoOther, RewritesReplaceTasks, RewritesEndNodes};
+ghost use Rattle.kdg_graph.specs.Laws.{NodesHaveIds, NodesHaveKeys, IdsFindNodes, KeysFindNodes, NewKeysFindNone, IdsFindTheirNodes, LeastIsEarliest, NoneIsLeastOfNone, SourcesAreNodes, SourcesAreUnblocked, RunningNodesAreNoSources, LatersAreNodes, LatersAreInConflict, LatersMayChange, WritersAreOfTasks, PutsAddOneNode, PutsAddTasks, StartsMarkOneNode, StartsKeepTasks, RewritesKeepNodes, RewritesAddNodes, RewritesAddNoOther, RewritesReplaceTasks, RewritesEndNodes};
 
 use rw_sets::conflict_laws;
 use task_order::{key_order, without_laws};
@@ -34,6 +34,12 @@ pub fn later_laws()
 {
     conflict_laws();
 }
+
+/// The nodes that write a location are those whose tasks do, where the tasks determine the recorded
+/// sets.
+pub fn writer_laws()
+    ensures { WritersAreOfTasks }
+{}
 
 /// A node that is put in is one more, and one that starts is marked; no other changes.
 pub fn put_laws()

@@ -22,6 +22,6 @@ mod sources;
 pub use change::{Fresh, SetChange};
 pub use graph::Graph;
 pub use laters::Laters;
-pub use laws::{later_laws, node_laws, put_laws, rewrite_laws, source_laws};
+pub use laws::{later_laws, node_laws, put_laws, rewrite_laws, source_laws, writer_laws};
 pub use node_id::NodeId;
 pub use sources::Sources;
