@@ -12,7 +12,7 @@ use Rattle.cell_store.specs.Part.{Part}
 use Rattle.cell_store.specs.Cells.{AreHome, cell_at, cells_given, cells_taken, part_of, with_value}
 use Rattle.cell_store.specs.Laws.{GivesBackWhatWasTaken, PartsByLocation, WritesAtHome}
 use Rattle.app_laws.specs.declared.child.Child.{Child}
-use Rattle.app_laws.specs.Applications.{IsDoneAtHome, IsTaken}
+use Rattle.app_laws.specs.Applications.{IsDoneAtHome, IsReady}
 use Rattle.logic_sim.specs.Bundles.{child_of, computed_from, held_at_home, held_in, value_of, values_held}
 use Rattle.logic_sim.specs.Circuit.{IsFitChange, IsFitEval, IsFitTask}
 use Rattle.logic_sim.specs.Event.{Simulation, change_text, eval_at, next_changes, plan_place, time_of, value_place}
@@ -120,48 +120,51 @@ module _ (c : Simulation) (laws : HomeLaws) (task : Task) where
             ∙ ap (λ (idle : Bool). cells_given (cells_taken old set) (left_part old set place value idle)) test;
       }
 
-module _ (c : Simulation) (task : Task) (set : Accesses) (old : List (Cell ℕ)) (fit : IsFitTask c task.key.prio task.body) where
-  taken_set : (kind : ℕ) → IsTaken (simulation c) task (part_of old set) → task.body.kind ≡ kind → set ≡ set_for c.deck kind task.body.at
-  taken_set kind taken is = ap (λ (part : Part ℕ). part.set) taken.is ∙ ap (λ (k : ℕ). set_for c.deck k task.body.at) is
+module _ (c : Simulation) {task : Task} {set : Accesses} {old : List (Cell ℕ)} (fit : IsFitTask c task.key.prio task.body) (ready : IsReady (simulation c) task old set) where
+  -- whatever set it is ready on, it is the one that it declares
+  ready_set : (kind : ℕ) → task.body.kind ≡ kind → set ≡ set_for c.deck kind task.body.at
+  ready_set kind is = ap (λ (part : Part ℕ). part.set) ready.taken.is ∙ ap (λ (k : ℕ). set_for c.deck k task.body.at) is
 
   evaluation_kind : task.body.kind ≢ 0 → task.body.kind ≡ 1
   evaluation_kind kind = (evaluation_fit c task.key.prio task.body fit kind).kind
 
+  evaluation_set : task.body.kind ≢ 0 → set ≡ eval_set c.deck task.body.at
+  evaluation_set kind = ready_set 1 (evaluation_kind kind)
+
   -- what an evaluation reads and writes is home
-  pub fan_in_home : task.body.kind ≢ 0 → AreHome old set → IsTaken (simulation c) task (part_of old set)
-      → AllByRecursion (λ signal. IsHome (cell_at old (value_place signal))) (fan_in_of (signal_at c.deck.signals task.body.at).form)
-  fan_in_home kind home taken = each (fan_in_of (signal_at c.deck.signals task.body.at).form)
-      (subst (λ (s : Accesses). AllByRecursion (λ signal. IsSome (access_at s (value_place signal))) (fan_in_of (signal_at c.deck.signals task.body.at).form)) (sym (taken_set 1 taken (evaluation_kind kind)))
+  pub fan_in_home : task.body.kind ≢ 0 → AllByRecursion (λ signal. IsHome (cell_at old (value_place signal))) (fan_in_of (signal_at c.deck.signals task.body.at).form)
+  fan_in_home kind = each (fan_in_of (signal_at c.deck.signals task.body.at).form)
+      (subst (λ (s : Accesses). AllByRecursion (λ signal. IsSome (access_at s (value_place signal))) (fan_in_of (signal_at c.deck.signals task.body.at).form)) (sym (evaluation_set kind))
       (fan_in_named c task.body.at))
     where
       each : (fan_in : List ℕ) → AllByRecursion (λ signal. IsSome (access_at set (value_place signal))) fan_in → AllByRecursion (λ signal. IsHome (cell_at old (value_place signal))) fan_in
       each [] named = tt
-      each (signal ∷ fan_in) named = (home (value_place signal) named.0, each fan_in named.1)
+      each (signal ∷ fan_in) named = (ready.home (value_place signal) named.0, each fan_in named.1)
 
-  plan_found : task.body.kind ≢ 0 → IsTaken (simulation c) task (part_of old set) → IsSome (access_at set (plan_place task.body.at))
-  plan_found kind taken = subst (λ (s : Accesses). IsSome (access_at s (plan_place task.body.at))) (sym (taken_set 1 taken (evaluation_kind kind))) (plan_named c task.body.at)
+  plan_found : task.body.kind ≢ 0 → IsSome (access_at set (plan_place task.body.at))
+  plan_found kind = subst (λ (s : Accesses). IsSome (access_at s (plan_place task.body.at))) (sym (evaluation_set kind)) (plan_named c task.body.at)
 
-  pub plan_home : task.body.kind ≢ 0 → AreHome old set → IsTaken (simulation c) task (part_of old set) → IsHome (cell_at old (plan_place task.body.at))
-  plan_home kind home taken = home (plan_place task.body.at) (plan_found kind taken)
+  pub plan_home : task.body.kind ≢ 0 → IsHome (cell_at old (plan_place task.body.at))
+  plan_home kind = ready.home (plan_place task.body.at) (plan_found kind)
 
-  pub plan_below : task.body.kind ≢ 0 → AreHome old set → IsTaken (simulation c) task (part_of old set) → PartsByLocation ℕ → plan_place task.body.at < length old
-  plan_below kind home taken parts = parts.in_range old set home (plan_place task.body.at) (plan_found kind taken)
+  pub plan_below : task.body.kind ≢ 0 → PartsByLocation ℕ → plan_place task.body.at < length old
+  plan_below kind parts = parts.in_range old set ready.home (plan_place task.body.at) (plan_found kind)
 
   module _ (laws : HomeLaws) where
-    pub change_done : task.body.kind ≡ 0 → AreHome old set → IsTaken (simulation c) task (part_of old set) → (new : List (Cell ℕ)) (children : List Child) (text : List ℕ)
+    pub change_done : task.body.kind ≡ 0 → (new : List (Cell ℕ)) (children : List Child) (text : List ℕ)
         → new ≡ (if held_at_home old (value_place task.body.at) == task.body.arg then old else slice_set old (value_place task.body.at) (Home task.body.arg))
         → children ≡ (if held_at_home old (value_place task.body.at) == task.body.arg then [] else map (child_of c) (map (eval_at (time_of task.key.prio)) (readers_of c.deck.signals task.body.at)))
         → text ≡ (if held_at_home old (value_place task.body.at) == task.body.arg then [] else change_text c.deck (time_of task.key.prio) task.body.at task.body.arg)
         → IsDoneAtHome (simulation c) task set old children text new
-    change_done kind home taken new children text =
-        change_done_on c laws task set old new children text home (taken_set 0 taken kind) kind (change_fit c task.key.prio task.body fit kind).at_signal
+    change_done kind new children text =
+        change_done_on c laws task set old new children text ready.home (ready_set 0 kind) kind (change_fit c task.key.prio task.body fit kind).at_signal
 
-    pub evaluation_done : task.body.kind ≢ 0 → AreHome old set → IsTaken (simulation c) task (part_of old set) → (new : List (Cell ℕ)) (children : List Child) (text : List ℕ)
+    pub evaluation_done : task.body.kind ≢ 0 → (new : List (Cell ℕ)) (children : List Child) (text : List ℕ)
         → (let value = computed_from (held_at_home old) (signal_at c.deck.signals task.body.at).form in
         new ≡ (if held_at_home old (plan_place task.body.at) == value then old else slice_set old (plan_place task.body.at) (Home value)))
         → (let value = computed_from (held_at_home old) (signal_at c.deck.signals task.body.at).form in
         children ≡ (if held_at_home old (plan_place task.body.at) == value then [] else map (child_of c) (next_changes c (time_of task.key.prio) task.body.at value)))
         → text ≡ [] → IsDoneAtHome (simulation c) task set old children text new
-    evaluation_done kind home taken new children text =
-        evaluation_done_on c laws task set old new children text _ home (taken_set 1 taken (evaluation_kind kind)) (evaluation_kind kind)
+    evaluation_done kind new children text =
+        evaluation_done_on c laws task set old new children text _ ready.home (evaluation_set kind) (evaluation_kind kind)
         (evaluation_fit c task.key.prio task.body fit kind).in_range refl

@@ -23,7 +23,7 @@ use Rattle.rw_sets.specs.AccessLaws.{access_first, access_other, ascending_cons,
 use Rattle.rw_sets.specs.LookupLaws.{merges_hold_both}
 use Rattle.rw_sets.specs.MergeLaws.{ascending_merged}
 use Rattle.rw_sets.specs.PairLaws.{pairs_are_named, pairs_are_written}
-use Rattle.app_laws.specs.Applications.{AgreeOn, IsFitTask as IsTaskOf, IsInRange, IsWholeLines, set_in, tasks_before, CellsAreCounted, SetsAreInRange, ActsAreFit, SetsAreLocal, IsSameOutcome, ActsAreLocal, ActsIgnorePaths, ChildrenComeNoEarlier, SetsStayWithin, WalksAreTrue, FixedSetsAreKnown, IsSafeAlone, SafeTasksStaySafe, SafetyIgnoresPaths}
+use Rattle.app_laws.specs.Applications.{AgreeOn, IsFitTask as IsTaskOf, IsInRange, IsWholeLines, set_in, tasks_before, CellsAreCounted, SetsAreInRange, ActsAreFit, SetsAreLocal, IsSameOutcome, ActsAreLocal, ActsIgnorePaths, ChildrenComeNoEarlier, SetsStayWithin, WalksAreTrue, FixedSetsAreKnown, IsSafeAlone, SafeTasksStaySafe, SafetyIgnoresPaths, IsLawful, PathsAreIgnored}
 use Rattle.app_laws.specs.Execution.{Outcome, children_from}
 use Rattle.app_laws.specs.Names.{renamed}
 use Rattle.logic_sim.specs.Circuit.{IsFitCells, IsFitTask}
@@ -290,7 +290,7 @@ module _ (c : Simulation) where
   walks_are_true task cells values fit fit-task agrees = refl
 
   pub fixed_sets_are_known : FixedSetsAreKnown (simulation c)
-  fixed_sets_are_known fixed task cells values fit fit-task = refl
+  fixed_sets_are_known task cells values fit fit-task = refl
 
   pub safe_alone : IsSafeAlone (simulation c)
   safe_alone task fit-task = refl
@@ -334,4 +334,21 @@ module _ (c : Simulation) where
       later = subst (λ prio. AllLater prio ((simulation c).act acted cells).children) (eqb-true acted.key.prio task.key.prio acted-parts.0) (act_of-later acted cells acted-fit)
 
   pub safety_ignores_paths : SafetyIgnoresPaths (simulation c)
-  safety_ignores_paths task earlier name fit-task fit-others = list_all-map (λ other. other.key.prio == task.key.prio) (renamed name) earlier
+  safety_ignores_paths task earlier name has_name naming have_names fit-task fit-others = list_all-map (λ other. other.key.prio == task.key.prio) (renamed name) earlier
+
+  pub paths_are_ignored : PathsAreIgnored (simulation c)
+  paths_are_ignored = record { acts = acts_ignore_paths; safety = safety_ignores_paths }
+
+  pub are_lawful : IsLawful (simulation c)
+  are_lawful = record {
+    cells_are_counted = cells_are_counted;
+    sets_are_in_range = sets_are_in_range;
+    acts_are_fit = acts_are_fit;
+    sets_are_local = sets_are_local;
+    acts_are_local = acts_are_local;
+    children_come_no_earlier = children_come_no_earlier;
+    sets_stay_within = sets_stay_within;
+    walks_are_true = walks_are_true;
+    safe_alone = safe_alone;
+    safe_tasks_stay_safe = safe_tasks_stay_safe;
+  }

@@ -1,5 +1,5 @@
 -- Circuits as ordered applications: which cells the events read and write, and when one may come before others.
-use Rattle.std.specs.Prelude.{ℕ, ◌*◌, ◌==◌, if◌then◌else◌, Bool, true, List, [], ◌∷◌, ◌++◌, length, map}
+use Rattle.std.specs.Prelude.{ℕ, ◌*◌, ◌==◌, if◌then◌else◌, Bool, List, [], ◌∷◌, ◌++◌, length, map}
 use Rattle.std.specs.List.{list_all}
 use Rattle.bench_reader.specs.declared.deck.Deck.{Deck}
 use Rattle.task_order.specs.declared.task.Task.{Task}
@@ -43,6 +43,5 @@ simulation c = record {
   set_of = λ body cells. set_for c.deck body.kind body.at;
   walk = λ body cells. answer.Known (set_for c.deck body.kind body.at);
   act = act_of c;
-  sets_are_fixed = true;
   is_safe = is_safe;
 }

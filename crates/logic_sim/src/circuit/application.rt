@@ -1,7 +1,6 @@
-ghost use Rattle.std.specs.Prelude.{◌≡◌, ◌==◌, ◌+◌, ◌-◌, ◌*◌, ◌^◌, ◌<◌, ◌≤◌, [], ◌∷◌, ◌++◌, All, length, map, if◌then◌else◌, IfOk, IfErr, OnOk, OnErr};
+ghost use Rattle.std.specs.Prelude.{true, ◌≡◌, ◌==◌, ◌+◌, ◌-◌, ◌*◌, ◌^◌, ◌<◌, ◌≤◌, [], ◌∷◌, ◌++◌, All, length, map, if◌then◌else◌, IfOk, IfErr, OnOk, OnErr};
 ghost use Rattle.std.specs.List.{AllByRecursion};
-ghost use Rattle.app_laws.specs.Applications.{IsFitTask as IsTaskOf, IsTaken, IsEffect, IsDoneAtHome};
-ghost use Rattle.cell_store.specs.Cells.{AreHome, part_of};
+ghost use Rattle.app_laws.specs.Applications.{IsFitTask as IsTaskOf, IsTaken, IsEffect};
 ghost use Rattle.logic_sim.specs.Bundles.{IsEffectOn, child_of, computed_from};
 ghost use Rattle.logic_sim.specs.Event.{change_of, change_text, eval_at, eval_of, next_changes, plan_place, value_place};
 ghost use Rattle.logic_sim.specs.Meaning.{change_set, eval_set, simulation};
@@ -24,7 +23,11 @@ impl App for Circuit {
 
     type Val = u8;
 
+    type Horizon = ();
+
     ghost meaning = { simulation };
+
+    ghost tells = { λ app horizon tasks. Unit {0} };
 
     fn cells(&self) -> u32 {
         2 * self.deck.signals.items().len() as u32
@@ -46,7 +49,13 @@ impl App for Circuit {
         Ok(SetAnswer::Known(set))
     }
 
+    ghost has_fixed_sets = { λ app. true };
+
     fn sets_are_fixed(&self) -> bool {
+        true
+    }
+
+    fn ignores_paths(&self) -> bool {
         true
     }
 
@@ -54,7 +63,13 @@ impl App for Circuit {
         true
     }
 
-    fn safe<P: PendingTasks>(&self, task: &Task, pending: &P) -> bool {
+    fn horizon(&self, _alloc: Global) -> Result<(), NoRoom> {
+        Ok(())
+    }
+
+    fn touch(&self, _horizon: &mut (), _body: &Body) {}
+
+    fn safe<P: PendingTasks>(&self, task: &Task, pending: &P, _horizon: &mut ()) -> bool {
         match pending.earliest() {
             Some(first) => first.key.prio >= task.key.prio,
             None => true,
@@ -77,19 +92,12 @@ impl App for Circuit {
         }
     }
 
+    fn works_at_home(&self) -> bool {
+        true
+    }
+
     #[inline(always)]
-    fn run_at_home(
-        &self,
-        task: &Task,
-        set: &RwSet,
-        store: &mut Store<u8>,
-    ) -> Result<(ChildList, Text), NoRoom>
-        requires fit { IsTaskOf (simulation self.now) task.now }
-        requires home { AreHome store.old set.now }
-        requires cells { IsTaken (simulation self.now) task.now (part_of store.old set.now) }
-        ensures done { IfOk result (λ made. IsDoneAtHome (simulation self.now) task.now set.now store.old made.0 made.1 store.new) }
-        ensures unchanged { OnErr result (store.new ≡ store.old) }
-    {
+    fn run_at_home(&self, task: &Task, store: &mut Store<u8>) -> Result<(ChildList, Text), NoRoom> {
         location_laws::<u8>();
         value_laws::<u8>();
         return_laws::<u8>();
@@ -103,31 +111,7 @@ impl App for Circuit {
         }
     }
 
-    ghost cells_are_counted = { lawful.cells_are_counted };
-
-    ghost sets_are_in_range = { lawful.sets_are_in_range };
-
-    ghost acts_are_fit = { lawful.acts_are_fit };
-
-    ghost sets_are_local = { lawful.sets_are_local };
-
-    ghost acts_are_local = { lawful.acts_are_local };
-
-    ghost acts_ignore_paths = { lawful.acts_ignore_paths };
-
-    ghost children_come_no_earlier = { lawful.children_come_no_earlier };
-
-    ghost sets_stay_within = { lawful.sets_stay_within };
-
-    ghost walks_are_true = { lawful.walks_are_true };
-
-    ghost fixed_sets_are_known = { lawful.fixed_sets_are_known };
-
-    ghost safe_alone = { lawful.safe_alone };
-
-    ghost safe_tasks_stay_safe = { lawful.safe_tasks_stay_safe };
-
-    ghost safety_ignores_paths = { lawful.safety_ignores_paths };
+    ghost lawful = { lawful.are_lawful };
 }
 
 impl Circuit {
