@@ -18,55 +18,49 @@ use Rattle.app_laws.proofs.Lists.{length-put_all}
 use Rattle.app_laws.proofs.Steps.{after_none, after_one_more, stops_when_clear, none_before_end, created_by_task, logs_while_pending, created_never_falls, ends_within_limit}
 
 -- the execution after count steps, each of which had a task to run
-pub record IsReached {V : Type 0} (act : Operator V) (budget : ℕ) (start : Execution V) (cells : List V) (count created : ℕ) : Type 0 where
+pub record IsReached {V : Type 0} (act : Operator V) (budget : ℕ) (start : Execution V) (cells : List V) (count : ℕ) : Type 0 where
   pub cells-are : cells ≡ (after_steps act count start).cells
-  pub created-are : created ≡ created_after act count start
-  pub within : created ≤ budget
+  pub within : created_after act count start ≤ budget
   pub busy : (fewer : ℕ) → fewer < count → (after_steps act fewer start).pending ≢ []
 
-pub reached_at_start : {V : Type 0} (act : Operator V) (budget : ℕ) (cells : List V) (first : List Start) (created : ℕ)
-    → created ≡ length first → created ≤ budget
-    → IsReached act budget (start_of cells first) cells 0 created
-reached_at_start act budget cells first created many within =
+pub reached_at_start : {V : Type 0} (act : Operator V) (budget : ℕ) (cells : List V) (first : List Start) → length first ≤ budget
+    → IsReached act budget (start_of cells first) cells 0
+reached_at_start act budget cells first within =
     let start = start_of cells first in
     let same = after_none act start in
     record {
       cells-are = sym (ap (λ e. e.cells) same);
-      created-are = rw after_none (omega (arith, length-put_all (first_from 0 first) [], length-first_from 0 first));
-      within = within;
+      within = rw after_none (omega (arith, length-put_all (first_from 0 first) [], length-first_from 0 first));
       busy = λ fewer below. absurd (omega arith);
     }
 
 not_empty : (task : Task) (tasks : List Task) → task ∷ tasks ≢ []
 not_empty task tasks same = absurd (cc)
 
-module _ {V : Type 0} {act : Operator V} {budget : ℕ} {start : Execution V} {cells : List V} {count created : ℕ} (reached : IsReached act budget start cells count created) where
+module _ {V : Type 0} {act : Operator V} {budget : ℕ} {start : Execution V} {cells : List V} {count : ℕ} (reached : IsReached act budget start cells count) where
   -- the task that acts next
   step_is : (task : Task) (others : List Task) → (after_steps act count start).pending ≡ task ∷ others → after_steps act (suc count) start ≡ acts act (after_steps act count start) (task ∷ others)
   step_is task others is = after_one_more act count start ∙ ap (acts act (after_steps act count start)) is
 
-  created_next : (task : Task) (others : List Task) → (after_steps act count start).pending ≡ task ∷ others → created_after act (suc count) start ≡ created + length (act task cells).children
+  created_next : (task : Task) (others : List Task) → (after_steps act count start).pending ≡ task ∷ others → created_after act (suc count) start ≡ created_after act count start + length (act task cells).children
   created_next task others is =
       let e = after_steps act count start in
       omega (
         arith,
         ap created_by (step_is task others is),
         created_by_task act e task others,
-        reached.created-are,
         ap length is,
         ap (λ cs. length (act task cs).children) reached.cells-are,
       )
 
-  pub reached_next : (task : Task) (others : List Task) (cells' : List V) (created' : ℕ) → (after_steps act count start).pending ≡ task ∷ others
-      → cells' ≡ (act task cells).cells
-      → created' ≡ created + length (act task cells).children → created' ≤ budget
-      → IsReached act budget start cells' (count + 1) created'
-  reached_next task others cells' created' is cells-are created-are within =
+  pub reached_next : (task : Task) (others : List Task) (cells' : List V) → (after_steps act count start).pending ≡ task ∷ others
+      → cells' ≡ (act task cells).cells → created_after act count start + length (act task cells).children ≤ budget
+      → IsReached act budget start cells' (count + 1)
+  reached_next task others cells' is cells-are within =
       let next = step_is task others is in
       rw add-one (record {
         cells-are = cells-are ∙ ap (λ cs. (act task cs).cells) reached.cells-are ∙ sym (ap (λ x. x.cells) next);
-        created-are = created-are ∙ sym (created_next task others is);
-        within = within;
+        within = rw (created_next task others is) within;
         busy = λ fewer below.
             ⊎_elim
             (λ before. reached.busy fewer before)
@@ -96,8 +90,12 @@ module _ {V : Type 0} {act : Operator V} {budget : ℕ} {start : Execution V} {c
       ∙ sym (flat_map_more (λ (entry : Entry). entry.1) [] (after_steps act count start).log (task.key, (act task cells).text))
 
   module _ (fresh : length start.log ≡ 0) where
+    -- as many are created as have acted and are pending
+    pub created_is : created_after act count start ≡ count + length (after_steps act count start).pending
+    created_is = omega (arith, logs_while_pending act start count reached.busy)
+
     pub count_within : count + length (after_steps act count start).pending ≤ budget
-    count_within = omega (arith, logs_while_pending act start count reached.busy, reached.created-are, reached.within)
+    count_within = omega (arith, created_is, reached.within)
 
     -- a task that is pending can still run
     pub count_below : (task : Task) (others : List Task) → (after_steps act count start).pending ≡ task ∷ others → count < budget
@@ -105,7 +103,7 @@ module _ {V : Type 0} {act : Operator V} {budget : ℕ} {start : Execution V} {c
 
     -- the first time that there are too many
     pub over_budget : (task : Task) (others : List Task) (created' : ℕ) → (after_steps act count start).pending ≡ task ∷ others
-        → created' ≡ created + length (act task cells).children → budget < created'
+        → created' ≡ created_after act count start + length (act task cells).children → budget < created'
         → IsOverBudget act budget start created' budget
     over_budget task others created' is many over =
         let after = created_next task others is in
@@ -118,7 +116,7 @@ module _ {V : Type 0} {act : Operator V} {budget : ℕ} {start : Execution V} {c
             passes = over;
             first = λ fewer below.
                 let up_to : fewer + (count - fewer) ≡ count = omega arith in
-                omega (arith, created_never_falls act start fewer (count - fewer), ap (λ n. created_after act n start) up_to, reached.created-are, reached.within);
+                omega (arith, created_never_falls act start fewer (count - fewer), ap (λ n. created_after act n start) up_to, reached.within);
           };
         }
 

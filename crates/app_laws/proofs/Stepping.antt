@@ -8,7 +8,7 @@ use Rattle.task_order.specs.declared.task.Body.{Body}
 use Rattle.task_order.specs.declared.task.Task.{Task}
 use Rattle.task_order.specs.TaskList.{IsNewKey, put_all}
 use Rattle.output_log.specs.Entries.{joined_texts}
-use Rattle.app_laws.specs.Execution.{Operator, children_from, first_from, start_of, after_steps, run_to_end}
+use Rattle.app_laws.specs.Execution.{Operator, children_from, first_from, start_of, after_steps, run_to_end, created_after}
 use Rattle.app_laws.specs.Laws.{AllFit, NoneEarlier, IsFit}
 use Rattle.app_laws.specs.Lower.{LowerLaws}
 use Rattle.app_laws.specs.Names.{renamed, with_path}
@@ -16,7 +16,7 @@ use Rattle.app_laws.specs.Serial.{IsOverBudget}
 use Rattle.app_laws.proofs.Apart.{TasksApart}
 use Rattle.app_laws.proofs.Lists.{All-weaker}
 use Rattle.app_laws.proofs.Ordered.{KeepsFit, ChildrenNotEarlier, IsSpread, children_apart_from_others, new_key_from_apart, spread_at_start, start_fit, stays_fit}
-use Rattle.app_laws.proofs.Reached.{IsReached, count_below, count_within, ends_here, over_budget, pending_next, reached_next, text_next}
+use Rattle.app_laws.proofs.Reached.{IsReached, count_below, count_within, created_is, ends_here, over_budget, pending_next, reached_next, text_next}
 use Rattle.app_laws.proofs.Steps.{after_none}
 use Rattle.app_laws.proofs.UnderNames.{AreUnderNames, IsNamedFirst, exact_first, none_under, under_next, under_own_names}
 
@@ -49,8 +49,8 @@ under_at_start lower act cells first is_fit_cells is_fit_task pending puts =
     let tasks = put_all (first_from 0 first) [] in
     rw (puts, after_none) (under_own_names (λ task cells fit-cells fit-task. refl) tasks (spread_at_start lower first))
 
-module _ {V : Type 0} {is_fit_cells : List V → Type 0} {is_fit_task : ℕ → Body → Type 0} {act : Operator V} {start-cells cells : List V} {first : List Start} {budget count created : ℕ}
-    (run : IsRunning is_fit_cells is_fit_task act start-cells first) (reached : IsReached act budget (start_of start-cells first) cells count created) where
+module _ {V : Type 0} {is_fit_cells : List V → Type 0} {is_fit_task : ℕ → Body → Type 0} {act : Operator V} {start-cells cells : List V} {first : List Start} {budget count : ℕ}
+    (run : IsRunning is_fit_cells is_fit_task act start-cells first) (reached : IsReached act budget (start_of start-cells first) cells count) where
   pub cells_fit : is_fit_cells cells
   cells_fit = subst is_fit_cells (sym reached.cells-are) (fit_after run count).cells
 
@@ -84,16 +84,19 @@ module _ {V : Type 0} {is_fit_cells : List V → Type 0} {is_fit_task : ℕ → 
     pub still_below : count < budget
     still_below = count_below reached refl exact.first exact.rest exact.parts
 
-    pub over_next : (created' : ℕ) → created' ≡ created + length (act task cells).children → budget < created'
-        → IsOverBudget act budget (start_of start-cells first) created' budget
-    over_next created' many over =
-        over_budget reached refl exact.first exact.rest created' exact.parts (many ∙ ap (λ starts. created + length starts) same_children) over
+    -- how many are created, those that the task creates too
+    created_now : created_after act count (start_of start-cells first) + length (act exact.first cells).children ≡ count + 1 + length others + length (act task cells).children
+    created_now =
+        omega (arith, created_is reached refl, ap length exact.parts, ap length exact.others_are, length-map exact.rest (renamed under.name), ap length same_children)
 
-    running_next : (cells' : List V) (created' : ℕ) → cells' ≡ (act task cells).cells → created' ≡ created + length (act task cells).children → created' ≤ budget
-        → IsReached act budget (start_of start-cells first) cells' (count + 1) created'
-    running_next cells' created' cells-are many within =
-        reached_next reached exact.first exact.rest cells' created' exact.parts (cells-are ∙ ap (λ outcome. outcome.cells) same_outcome)
-        (many ∙ ap (λ starts. created + length starts) same_children) within
+    pub over_next : (created : ℕ) → created ≡ count + 1 + length others + length (act task cells).children → budget < created
+        → IsOverBudget act budget (start_of start-cells first) created budget
+    over_next created many over = over_budget reached refl exact.first exact.rest created exact.parts (many ∙ sym created_now) over
+
+    running_next : (cells' : List V) → cells' ≡ (act task cells).cells → count + 1 + length others + length (act task cells).children ≤ budget
+        → IsReached act budget (start_of start-cells first) cells' (count + 1)
+    running_next cells' cells-are within =
+        reached_next reached exact.first exact.rest cells' exact.parts (cells-are ∙ ap (λ outcome. outcome.cells) same_outcome) (rw created_now within)
 
     under_names_next : (pending' : List Task) → pending' ≡ put_all (children_from task.key 0 (act task cells).children) others
         → AreUnderNames (SameUnder is_fit_cells is_fit_task act) (after_steps act (count + 1) (start_of start-cells first)).pending pending'
@@ -101,10 +104,10 @@ module _ {V : Type 0} {is_fit_cells : List V → Type 0} {is_fit_task : ℕ → 
         rw (puts, pending_next reached exact.first exact.rest exact.parts, sym same_children) (under_next under is run.lower (act task cells).children none_earlier)
 
     -- the run after this task
-    pub stepped : (cells' : List V) (pending' : List Task) (created' : ℕ) → cells' ≡ (act task cells).cells → pending' ≡ put_all (children_from task.key 0 (act task cells).children) others
-        → created' ≡ created + length (act task cells).children → created' ≤ budget
-        → IsReached act budget (start_of start-cells first) cells' (count + 1) created' × AreUnderNames (SameUnder is_fit_cells is_fit_task act) (after_steps act (count + 1) (start_of start-cells first)).pending pending'
-    stepped cells' pending' created' cells-are puts many within = (running_next cells' created' cells-are many within, under_names_next pending' puts)
+    pub stepped : (cells' : List V) (pending' : List Task) → cells' ≡ (act task cells).cells → pending' ≡ put_all (children_from task.key 0 (act task cells).children) others
+        → count + 1 + length others + length (act task cells).children ≤ budget
+        → IsReached act budget (start_of start-cells first) cells' (count + 1) × AreUnderNames (SameUnder is_fit_cells is_fit_task act) (after_steps act (count + 1) (start_of start-cells first)).pending pending'
+    stepped cells' pending' cells-are puts within = (running_next cells' cells-are within, under_names_next pending' puts)
 
     pub text_written : joined_texts (after_steps act (count + 1) (start_of start-cells first)).log ≡ joined_texts (after_steps act count (start_of start-cells first)).log ++ (act task cells).text
     text_written =

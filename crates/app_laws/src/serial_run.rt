@@ -100,7 +100,7 @@ fn counted_run<A: App, L: Ledger>(
     value_laws::<A::Val>();
     let mut steps = Steps::<L>::new(blank);
     let starts = first.items();
-    let mut created = within(starts.len() as u64, budget)?;
+    within(starts.len() as u64, budget)?;
     let mut pending = first_tasks(alloc, starts)?;
     let mut store = store_of(alloc, app, cells)?;
     let mut text = Text::new(alloc);
@@ -108,11 +108,11 @@ fn counted_run<A: App, L: Ledger>(
     let mut since = 0u64;
     while let Some(task) = pending.take_first() {
         let (children, written) = act(app, &task, &mut store, &mut steps)?;
+        count += 1;
         let made = children.items();
-        created = within(created + made.len() as u64, budget)?;
+        within(count + pending.len() as u64 + made.len() as u64, budget)?;
         put_children(&mut pending, &task.key, made)?;
         append(&mut text, &written)?;
-        count += 1;
         since = shortened(alloc, app, &mut pending, since + 1)?;
     }
     Ok(Finals { store, text, count })
@@ -200,14 +200,14 @@ pub(crate) fn lower_laws()
     put_in_laws();
 }
 
-/// That number of created tasks, where it is within the limit.
+/// Refuses a number of created tasks that is above the limit.
 #[inline(always)]
-fn within(created: u64, limit: u64) -> Result<u64, SerialFault>
-    ensures ok { IfOk result (λ same. (same ≡ created) × (created ≤ limit)) }
+fn within(created: u64, limit: u64) -> Result<(), SerialFault>
+    ensures ok { OnOk result (created ≤ limit) }
     ensures over { IfErr result (λ fault. (fault ≡ SerialFault.Budget created limit) × (limit < created)) }
 {
     if created <= limit {
-        Ok(created)
+        Ok(())
     } else {
         Err(SerialFault::Budget { created, limit })
     }

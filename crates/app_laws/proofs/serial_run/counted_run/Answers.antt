@@ -26,9 +26,9 @@ running g lower app lawful cells first fit-cells fit-first = record {
   fit_first = fit-first;
 }
 
-pub returns-in_err-created-clause-fault : goal.returns-in_err-created-clause-fault
-returns-in_err-created-clause-fault g c =
-    let over = c.in_err-created.ensures.over in
+pub returns-in_err-within-clause-fault : goal.returns-in_err-within-clause-fault
+returns-in_err-within-clause-fault g c =
+    let over = c.in_err-within.ensures.over in
     let e = err_from_is_err_and c.from_residual.result c.from_residual.ensures.1 in
     rw (e.1, e.2, over.0) (over_at_start _ _ _ _ _ (ap length c.items-starts.ensures) over.1)
 
@@ -36,8 +36,8 @@ pub loop-task-init : goal.loop-task-init
 loop-task-init g c =
     let values : values_of c.in_ok-store.store ≡ c.args.cells.items = ap values_of c.in_ok-store.ensures ∙ c.value_laws.ensures.values.values_of_homes c.args.cells.items in
     record {
-      reached = subst (λ cells. IsReached (g.A.App.meaning c.args.app.now).act c.args.budget (start_of c.args.cells.items c.args.first) cells 0 c.in_ok-created.created) (sym values)
-          (reached_at_start _ _ _ _ _ (c.in_ok-created.ensures.ok.0 ∙ ap length c.items-starts.ensures) (rw c.in_ok-created.ensures.ok.0 c.in_ok-created.ensures.ok.1));
+      reached = subst (λ cells. IsReached (g.A.App.meaning c.args.app.now).act c.args.budget (start_of c.args.cells.items c.args.first) cells 0) (sym values)
+          (reached_at_start (g.A.App.meaning c.args.app.now).act c.args.budget c.args.cells.items c.args.first (omega (arith, ap length c.items-starts.ensures, c.in_ok-within.ensures.ok)));
       under = under_at_start c.lower_laws.ensures (g.A.App.meaning c.args.app.now).act c.args.cells.items c.args.first _ _ c.in_ok-pending.pending
           (c.in_ok-pending.ensures.tasks ∙ ap (λ first. put_all (first_from 0 first) []) c.items-starts.ensures);
       home = c.in_ok-store.ensures ∙ ap homes (sym values);
@@ -57,15 +57,15 @@ pub returns-clause-fit : goal.returns-clause-fit
 returns-clause-fit g c =
     cells_fit (running g c.lower_laws.ensures c.args.app.now (c.lawful.ensures c.args.app.now) c.args.cells.items c.args.first c.requires.fit_cells c.requires.fit_first) c.loop-task.invariant.reached
 
-pub returns-in_err-created-2-clause-fault : goal.returns-in_err-created-2-clause-fault
-returns-in_err-created-2-clause-fault g c =
-    let over = c.in_err-created-2.ensures.over in
-    let e = err_from_is_err_and c.from_residual-in_err-created-2.result c.from_residual-in_err-created-2.ensures.1 in
+pub returns-in_err-within-2-clause-fault : goal.returns-in_err-within-2-clause-fault
+returns-in_err-within-2-clause-fault g c =
+    let over = c.in_err-within-2.ensures.over in
+    let e = err_from_is_err_and c.from_residual-in_err-within-2.result c.from_residual-in_err-within-2.ensures.1 in
     let app = g.A.App.meaning c.args.app.now in
     let outcome = app.act c.in-Some.task (values_of c.loop-task.store) in
     rw (e.1, e.2, over.0)
     (over_next (running g c.lower_laws.ensures c.args.app.now (c.lawful.ensures c.args.app.now) c.args.cells.items c.args.first c.requires.fit_cells c.requires.fit_first) c.loop-task.invariant.reached c.loop-task.invariant.under c.in-Some.ensures.first _
-    (ap (λ (n : ℕ). c.loop-task.created + n) (ap length (c.items-made.ensures.all ∙ c.in_ok-children.ensures.children) ∙ length-handed app outcome.cells outcome.children)) over.1)
+    (omega (arith, ap length (c.items-made.ensures.all ∙ c.in_ok-children.ensures.children), length-handed app outcome.cells outcome.children)) over.1)
 
 pub put_children-requires-clause-not_earlier : goal.put_children-requires-clause-not_earlier
 put_children-requires-clause-not_earlier g c =
@@ -87,6 +87,14 @@ pub overflow_add-count : goal.overflow_add-count
 overflow_add-count g c =
     omega (arith, still_below (running g c.lower_laws.ensures c.args.app.now (c.lawful.ensures c.args.app.now) c.args.cells.items c.args.first c.requires.fit_cells c.requires.fit_first) c.loop-task.invariant.reached c.loop-task.invariant.under c.in-Some.ensures.first, c.requires.budget)
 
+pub overflow_add-count-in-Some : goal.overflow_add-count-in-Some
+overflow_add-count-in-Some g c =
+    omega (arith, still_below (running g c.lower_laws.ensures c.args.app.now (c.lawful.ensures c.args.app.now) c.args.cells.items c.args.first c.requires.fit_cells c.requires.fit_first) c.loop-task.invariant.reached c.loop-task.invariant.under c.in-Some.ensures.first, c.requires.budget)
+
+pub overflow_add-count-in-Some-2 : goal.overflow_add-count-in-Some-2
+overflow_add-count-in-Some-2 g c =
+    omega (arith, still_below (running g c.lower_laws.ensures c.args.app.now (c.lawful.ensures c.args.app.now) c.args.cells.items c.args.first c.requires.fit_cells c.requires.fit_first) c.loop-task.invariant.reached c.loop-task.invariant.under c.in-Some.ensures.first, c.requires.budget)
+
 pub loop-task-smaller : goal.loop-task-smaller
 loop-task-smaller g c =
     omega (arith, still_below (running g c.lower_laws.ensures c.args.app.now (c.lawful.ensures c.args.app.now) c.args.cells.items c.args.first c.requires.fit_cells c.requires.fit_first) c.loop-task.invariant.reached c.loop-task.invariant.under c.in-Some.ensures.first)
@@ -103,10 +111,9 @@ shortened-requires-clause-few g c =
     let children = c.items-made.ensures.all ∙ c.in_ok-children.ensures.children in
     let next =
     stepped (running g c.lower_laws.ensures c.args.app.now (c.lawful.ensures c.args.app.now) c.args.cells.items c.args.first c.requires.fit_cells c.requires.fit_first) c.loop-task.invariant.reached c.loop-task.invariant.under c.in-Some.ensures.first
-    (values_of c.act.new.store) c.put_children.new.pending c.in_ok-created-2.created values
+    (values_of c.act.new.store) c.put_children.new.pending values
     (c.in_ok-put_children.ensures.put ∙ ap (λ starts. put_all (children_from c.in-Some.task.key 0 starts) c.take_first.new.self) (ap starts_of children ∙ starts_of_handed app outcome.cells outcome.children))
-    (c.in_ok-created-2.ensures.ok.0 ∙ ap (λ (n : ℕ). c.loop-task.created + n) (ap length children ∙ length-handed app outcome.cells outcome.children))
-    (rw c.in_ok-created-2.ensures.ok.0 c.in_ok-created-2.ensures.ok.1) in
+    (omega (arith, c.in_ok-within-2.ensures.ok, ap length children, length-handed app outcome.cells outcome.children)) in
     omega (arith, few_pending (running g c.lower_laws.ensures c.args.app.now (c.lawful.ensures c.args.app.now) c.args.cells.items c.args.first c.requires.fit_cells c.requires.fit_first) next.0 next.1, c.requires.budget)
 
 pub shortened-requires-clause-apart : goal.shortened-requires-clause-apart
@@ -117,10 +124,9 @@ shortened-requires-clause-apart g c =
     let children = c.items-made.ensures.all ∙ c.in_ok-children.ensures.children in
     let next =
     stepped (running g c.lower_laws.ensures c.args.app.now (c.lawful.ensures c.args.app.now) c.args.cells.items c.args.first c.requires.fit_cells c.requires.fit_first) c.loop-task.invariant.reached c.loop-task.invariant.under c.in-Some.ensures.first
-    (values_of c.act.new.store) c.put_children.new.pending c.in_ok-created-2.created values
+    (values_of c.act.new.store) c.put_children.new.pending values
     (c.in_ok-put_children.ensures.put ∙ ap (λ starts. put_all (children_from c.in-Some.task.key 0 starts) c.take_first.new.self) (ap starts_of children ∙ starts_of_handed app outcome.cells outcome.children))
-    (c.in_ok-created-2.ensures.ok.0 ∙ ap (λ (n : ℕ). c.loop-task.created + n) (ap length children ∙ length-handed app outcome.cells outcome.children))
-    (rw c.in_ok-created-2.ensures.ok.0 c.in_ok-created-2.ensures.ok.1) in
+    (omega (arith, c.in_ok-within-2.ensures.ok, ap length children, length-handed app outcome.cells outcome.children)) in
     λ κs lives. next.1.spread.apart
 
 pub loop-task-preserved : goal.loop-task-preserved
@@ -131,10 +137,9 @@ loop-task-preserved g c =
     let children = c.items-made.ensures.all ∙ c.in_ok-children.ensures.children in
     let next =
     stepped (running g c.lower_laws.ensures c.args.app.now (c.lawful.ensures c.args.app.now) c.args.cells.items c.args.first c.requires.fit_cells c.requires.fit_first) c.loop-task.invariant.reached c.loop-task.invariant.under c.in-Some.ensures.first
-    (values_of c.act.new.store) c.put_children.new.pending c.in_ok-created-2.created values
+    (values_of c.act.new.store) c.put_children.new.pending values
     (c.in_ok-put_children.ensures.put ∙ ap (λ starts. put_all (children_from c.in-Some.task.key 0 starts) c.take_first.new.self) (ap starts_of children ∙ starts_of_handed app outcome.cells outcome.children))
-    (c.in_ok-created-2.ensures.ok.0 ∙ ap (λ (n : ℕ). c.loop-task.created + n) (ap length children ∙ length-handed app outcome.cells outcome.children))
-    (rw c.in_ok-created-2.ensures.ok.0 c.in_ok-created-2.ensures.ok.1) in
+    (omega (arith, c.in_ok-within-2.ensures.ok, ap length children, length-handed app outcome.cells outcome.children)) in
     record {
       reached = next.0;
       under = still_under_names (λ ignored name task cells fit-cells fit-task. ignored.acts task (name task.key.path) cells fit-cells fit-task) c.lower_laws.ensures _ c.put_children.new.pending c.shortened.new.pending next.1 c.in_ok-since.ensures.pending;

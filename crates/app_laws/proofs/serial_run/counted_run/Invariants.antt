@@ -9,7 +9,7 @@ use Rattle.app_laws.proofs.serial_run.counted_run.Given as goal
 
 abbrev pub invariant-loop-task : goal.invariant-loop-task
 invariant-loop-task g l = record {
-  reached : IsReached (g.A.App.meaning l.app).act l.budget (start_of l.fn.cells.items l.fn.first) (values_of l.store) l.count l.created;
+  reached : IsReached (g.A.App.meaning l.app).act l.budget (start_of l.fn.cells.items l.fn.first) (values_of l.store) l.count;
   under : AreUnderNames (SameUnder (g.A.App.meaning l.app).is_fit_cells (g.A.App.meaning l.app).is_fit_task (g.A.App.meaning l.app).act) (after_steps (g.A.App.meaning l.app).act l.count (start_of l.fn.cells.items l.fn.first)).pending l.pending;
   home : l.store ≡ homes (values_of l.store);
   text : l.text ≡ joined_texts (after_steps (g.A.App.meaning l.app).act l.count (start_of l.fn.cells.items l.fn.first)).log;
