@@ -12,7 +12,7 @@ use Rattle.task_order.specs.declared.task.Body.{Body}
 use Rattle.task_order.specs.declared.task.Task.{Task}
 use Rattle.rw_sets.specs.Accesses.{Conflicts}
 use Rattle.rw_sets.specs.LookupLaws.{merges_hold_both}
-use Rattle.app_laws.specs.Applications.{AgreeOn, set_in, CellsAreCounted, SetsAreInRange, ActsAreFit, SetsAreLocal, IsSameOutcome, ActsAreLocal, ActsIgnorePaths, ChildrenComeNoEarlier, SetsStayWithin, WalksAreTrue, FixedSetsAreKnown, IsSafeAlone, SafeTasksStaySafe, SafetyIgnoresPaths}
+use Rattle.app_laws.specs.Applications.{AgreeOn, set_in, CellsAreCounted, SetsAreInRange, ActsAreFit, SetsAreLocal, IsSameOutcome, ActsAreLocal, ActsIgnorePaths, ChildrenComeNoEarlier, SetsStayWithin, WalksAreTrue, FixedSetsAreKnown, IsSafeAlone, SafeTasksStaySafe, SafetyIgnoresPaths, PathsAreIgnored, IsLawful}
 use Rattle.app_laws.specs.Execution.{children_from}
 use Rattle.spring_mesh.specs.declared.file.MeshFile.{MeshFile}
 use Rattle.spring_mesh.specs.declared.file.MeshNode.{MeshNode}
@@ -183,7 +183,7 @@ module _ (file : MeshFile) where
   walks_are_true task cells values fit step agrees = refl
 
   pub fixed_sets_are_known : FixedSetsAreKnown (mesh_steps file)
-  fixed_sets_are_known fixed task cells values fit step = refl
+  fixed_sets_are_known task cells values fit step = refl
 
   pub safe_alone : IsSafeAlone (mesh_steps file)
   safe_alone task step = refl
@@ -204,4 +204,21 @@ module _ (file : MeshFile) where
   }
 
   pub safety_ignores_paths : SafetyIgnoresPaths (mesh_steps file)
-  safety_ignores_paths task earlier name step fit-others = refl
+  safety_ignores_paths task earlier name has_name naming named step fit-others = refl
+
+  pub paths_are_ignored : PathsAreIgnored (mesh_steps file)
+  paths_are_ignored = record { acts = acts_ignore_paths; safety = safety_ignores_paths }
+
+  pub are_lawful : IsLawful (mesh_steps file)
+  are_lawful = record {
+    cells_are_counted = cells_are_counted;
+    sets_are_in_range = sets_are_in_range;
+    acts_are_fit = acts_are_fit;
+    sets_are_local = sets_are_local;
+    acts_are_local = acts_are_local;
+    children_come_no_earlier = children_come_no_earlier;
+    sets_stay_within = sets_stay_within;
+    walks_are_true = walks_are_true;
+    safe_alone = safe_alone;
+    safe_tasks_stay_safe = safe_tasks_stay_safe;
+  }

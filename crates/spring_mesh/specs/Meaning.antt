@@ -93,7 +93,6 @@ mesh_steps file = record {
   set_of = λ body cells. ends_of (spring_at file body.at);
   walk = λ body cells. answer.Known (ends_of (spring_at file body.at));
   act = λ task cells. step_of file task.key.prio task.body (spring_at file task.body.at) cells;
-  sets_are_fixed = true;
   is_safe = λ task others. true;
 }
 

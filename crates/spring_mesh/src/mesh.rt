@@ -1,4 +1,4 @@
-ghost use Rattle.std.specs.Prelude.{◌≡◌, ◌≢◌, ◌+◌, ◌<◌, ◌≤◌, ◌^◌, ◌++◌, length, IfOk, IfErr, OnOk, OnErr};
+ghost use Rattle.std.specs.Prelude.{◌≡◌, ◌≢◌, ◌+◌, ◌<◌, ◌≤◌, ◌^◌, ◌++◌, length, IfOk, IfErr, OnOk};
 ghost use Rattle.app_laws.specs.Applications.{AreFitStarts};
 ghost use Rattle.cell_store.specs.Values.{AreAllHome, values_of};
 ghost use Rattle.spring_mesh.specs.Files.{IsMesh, IsNode, IsSpring};
@@ -182,14 +182,18 @@ fn push_value(text: &mut Text, value: i64) -> Result<(), NoRoom>
 }
 
 impl App for Mesh {
-    ghost use Rattle.app_laws.specs.Applications.{IsFitTask, IsTaken, IsEffect, IsDoneAtHome};
-    ghost use Rattle.cell_store.specs.Cells.{AreHome, part_of};
+    ghost use Rattle.std.specs.Prelude.{true};
+    ghost use Rattle.app_laws.specs.Applications.{IsFitTask, IsTaken, IsEffect};
     ghost use Rattle.spring_mesh.specs.Lawful as lawful;
     ghost use Rattle.spring_mesh.specs.Meaning.{mesh_steps};
 
     type Val = MeshNode;
 
+    type Horizon = ();
+
     ghost meaning = { mesh_steps };
+
+    ghost tells = { λ app horizon tasks. Unit {0} };
 
     fn cells(&self) -> u32 {
         self.file.nodes.items().len() as u32
@@ -207,7 +211,13 @@ impl App for Mesh {
         Ok(SetAnswer::Known(ends_of(self.alloc, spring)))
     }
 
+    ghost has_fixed_sets = { λ _. true };
+
     fn sets_are_fixed(&self) -> bool {
+        true
+    }
+
+    fn ignores_paths(&self) -> bool {
         true
     }
 
@@ -215,7 +225,13 @@ impl App for Mesh {
         true
     }
 
-    fn safe<P: PendingTasks>(&self, _task: &Task, _pending: &P) -> bool {
+    fn horizon(&self, _alloc: Global) -> Result<(), NoRoom> {
+        Ok(())
+    }
+
+    fn touch(&self, _horizon: &mut (), _body: &Body) {}
+
+    fn safe<P: PendingTasks>(&self, _task: &Task, _pending: &P, _horizon: &mut ()) -> bool {
         true
     }
 
@@ -249,19 +265,16 @@ impl App for Mesh {
         })
     }
 
+    fn works_at_home(&self) -> bool {
+        true
+    }
+
     #[inline(always)]
     fn run_at_home(
         &self,
         task: &Task,
-        set: &RwSet,
         store: &mut Store<MeshNode>,
-    ) -> Result<(ChildList, Text), NoRoom>
-        requires fit { IsFitTask (mesh_steps self.now) task.now }
-        requires home { AreHome store.old set.now }
-        requires cells { IsTaken (mesh_steps self.now) task.now (part_of store.old set.now) }
-        ensures done { IfOk result (λ made. IsDoneAtHome (mesh_steps self.now) task.now set.now store.old made.0 made.1 store.new) }
-        ensures unchanged { OnErr result (store.new ≡ store.old) }
-    {
+    ) -> Result<(ChildList, Text), NoRoom> {
         location_laws::<MeshNode>();
         value_laws::<MeshNode>();
         home_laws::<MeshNode>();
@@ -275,31 +288,7 @@ impl App for Mesh {
         Ok((children, Text::new(self.alloc)))
     }
 
-    ghost cells_are_counted = { lawful.cells_are_counted };
-
-    ghost sets_are_in_range = { lawful.sets_are_in_range };
-
-    ghost acts_are_fit = { lawful.acts_are_fit };
-
-    ghost sets_are_local = { lawful.sets_are_local };
-
-    ghost acts_are_local = { lawful.acts_are_local };
-
-    ghost acts_ignore_paths = { lawful.acts_ignore_paths };
-
-    ghost children_come_no_earlier = { lawful.children_come_no_earlier };
-
-    ghost sets_stay_within = { lawful.sets_stay_within };
-
-    ghost walks_are_true = { lawful.walks_are_true };
-
-    ghost fixed_sets_are_known = { lawful.fixed_sets_are_known };
-
-    ghost safe_alone = { lawful.safe_alone };
-
-    ghost safe_tasks_stay_safe = { lawful.safe_tasks_stay_safe };
-
-    ghost safety_ignores_paths = { lawful.safety_ignores_paths };
+    ghost lawful = { lawful.are_lawful };
 }
 
 /// Both ends of a spring, written. The set stands in place.
