@@ -1,9 +1,5 @@
-ghost use Rattle.std.specs.Prelude.{◌≡◌, ◌<◌, ◌≤◌, ◌^◌, ◌++◌, length, [], IfOk, IfErr, OnOk};
+ghost use Rattle.std.specs.Prelude.{◌≡◌, ◌++◌, IfOk, IfErr, OnOk};
 ghost use Rattle.cell_store.specs.Values.{AreAllHome, values_of};
-ghost use Rattle.app_laws.specs.Applications.{AreFitStarts};
-ghost use Rattle.graph_update.specs.Answers.{IsBegun};
-ghost use Rattle.graph_update.specs.Engine.{IsBeginFault};
-ghost use Rattle.graph_update.specs.Sound.{IsSound};
 ghost use Rattle.kdg_prog.specs.Problem.{answer_by, figure_line, line_count, made_from, print_of_finals, problem_of, rounds_text, text_shown, whole_print};
 ghost use Rattle.kdg_prog.specs.Refusals.{IsRunRefusal};
 ghost use Rattle.kdg_prog.specs.Words.{IsAllowed};
@@ -14,16 +10,14 @@ use crate::{Mode, Options, Status};
 use app_laws::{App, Finals, execution_laws, orderly_laws, serial};
 use cell_store::value_laws;
 use commuting::{round_laws, standing_laws};
-use graph_update::{BeginFault, Engine};
-use kdg_text::{NoRoom, Steps, Text, push_u64};
+use graph_update::Engine;
+use kdg_text::{NoRoom, Text, push_u64};
 use outer_edge::Gate;
 use output_log::join_laws;
 use source_pool::run_rounds;
 use std::alloc::Global;
-use std::marker::Brand;
-use std::sync::ledger::{Blank, Ledger};
 use std::thread::Threads;
-use task_order::{StartList, put_in_laws};
+use task_order::put_in_laws;
 
 /// Runs an application, and gives the print, or why there is none.
 pub(crate) fn print_of_run<R: Threads + Sync, A: Runnable, G: Gate + Sync>(
@@ -87,34 +81,10 @@ fn rounds_print<R: Threads + Sync, A: Runnable, G: Gate + Sync>(
     round_count_laws::<A>();
     let cells = app.start_cells()?;
     let tasks = app.start_tasks()?;
-    let engine = begin::<A, Brand>(alloc, app, cells, tasks, options.budget, Blank::new(1))?;
+    let engine = Engine::begin_uncounted(alloc, app, cells, tasks, options.budget)?;
     let (finals, rounds) = run_rounds(rt, alloc, engine, gate, options.seed, options.workers)?;
     let rounds = options.stats.then_some(rounds);
     Ok(finals_print(alloc, options, app, finals, rounds)?)
-}
-
-/// An engine on these cells and tasks, whose steps nobody counts.
-fn begin<'a, A: App, L: Ledger>(
-    alloc: Global,
-    app: &'a A,
-    cells: Vec<A::Val>,
-    tasks: StartList,
-    budget: u64,
-    blank: Blank,
-) -> Result<Engine<'a, A>, BeginFault>
-    requires name { blank.name ≡ L.name }
-    requires parts { blank.parts ≡ L.parts }
-    requires some { 0 < blank.parts }
-    requires fit_cells { (A.meaning app.now).is_fit_cells cells.items }
-    requires fit_tasks { AreFitStarts (A.meaning app.now) tasks }
-    requires few { length tasks < 2 ^ 32 }
-    requires budget { budget ≤ 1_000_000_000 }
-    ensures begun { IfOk result (λ engine. IsBegun (A.meaning app.now) cells.items tasks budget engine.progress) }
-    ensures app { IfOk result (λ engine. engine.app ≡ app.now) }
-    ensures fault { IfErr result (IsBeginFault tasks budget) }
-{
-    let mut steps = Steps::<L>::new(blank);
-    Engine::begin(alloc, app, cells, tasks, budget, &mut steps)
 }
 
 /// The print of a run that has ended: its log, the finals and the number of tasks, or their figures

@@ -1,4 +1,4 @@
-use Rattle.std.proofs.Common.{◌∙◌, ℕ, refl, subst, sym}
+use Rattle.std.proofs.Common.{◌∙◌, ℕ, subst, sym}
 use Rattle.app_laws.specs.Applications.{AreFitStarts}
 use Rattle.app_laws.specs.Execution.{after_steps, start_of}
 use Rattle.app_laws.specs.Order.{IsOrderly}
@@ -9,12 +9,6 @@ use Rattle.kdg_prog.proofs.FirstTasks.{refusal_of_begin}
 use Rattle.kdg_prog.proofs.InRounds.{begun_for, home_in_rounds, refusal_of_rounds, rounds_in_rounds, run_in_rounds}
 use Rattle.kdg_prog.proofs.Refusing.{print_from_run, refused_with, rounds_told_in_rounds}
 use Rattle.kdg_prog.proofs.running.rounds_print.Goals as goal
-
-pub begin-requires-clause-name : goal.begin-requires-clause-name
-begin-requires-clause-name g c κs within = refl
-
-pub begin-requires-clause-parts : goal.begin-requires-clause-parts
-begin-requires-clause-parts g c κs within = refl
 
 pub returns-in_err-engine-clause-refusal : goal.returns-in_err-engine-clause-refusal
 returns-in_err-engine-clause-refusal g c =
