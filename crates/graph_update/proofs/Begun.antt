@@ -5,7 +5,7 @@ use Rattle.cell_store.specs.declared.cell.Cell.{Cell}
 use Rattle.cell_store.specs.Values.{homes}
 use Rattle.output_log.specs.Entries.{Entry}
 use Rattle.kdg_graph.specs.Node.{Node}
-use Rattle.app_laws.specs.Applications.{Application, AreFitStarts, IsLawful}
+use Rattle.app_laws.specs.Applications.{Application, AreFitStarts}
 use Rattle.graph_update.specs.Answers.{IsBegun}
 use Rattle.graph_update.specs.Engine.{AreFirstNodes, HaveFixedSets, IsKept, most_tasks}
 use Rattle.graph_update.specs.Laws.{BeginningsAreSound}
@@ -42,5 +42,5 @@ module _ {V : Type 0} (app : Application V) (cells values : List V) (first start
     pub begun_kept : budget ≤ most_tasks → IsKept app fresh
     begun_kept limited = record { jobs = []; values = cells; sound = begun_sound; limited = limited }
 
-    pub begun_fixed : IsLawful app → HaveFixedSets app nodes
-    begun_fixed lawful = first_are_fixed app lawful cells fit_cells nodes begun_sound.ready.tasks of_cells.sets
+    pub begun_fixed : HaveFixedSets app nodes
+    begun_fixed = first_are_fixed app cells fit_cells nodes begun_sound.ready.tasks of_cells.sets

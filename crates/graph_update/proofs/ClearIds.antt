@@ -6,19 +6,14 @@ use Rattle.std.specs.Option.{option_map}
 use Rattle.task_order.specs.declared.task.Task.{Task}
 use Rattle.kdg_graph.specs.declared.node_id.NodeId.{NodeId}
 use Rattle.kdg_graph.specs.Edges.{is_blocked, is_source, sources_of}
-use Rattle.kdg_graph.specs.Laws.{IdsFindNodes, NodesHaveIds, SourcesAreNodes}
+use Rattle.kdg_graph.specs.Laws.{NodesHaveIds, SourcesAreNodes}
 use Rattle.kdg_graph.specs.Node.{Node}
-use Rattle.kdg_graph.specs.Nodes.{HasNode, IsGraph, earlier_than, ids_of, node_at, task_at, tasks_of}
-use Rattle.app_laws.specs.Applications.{Application, AreFitTasks, IsFitTask, tasks_before}
+use Rattle.kdg_graph.specs.Nodes.{IsGraph, earlier_than, ids_of, node_at, tasks_of}
+use Rattle.app_laws.specs.Applications.{Application, tasks_before}
 use Rattle.graph_update.specs.Events.{clear_nodes, is_clear}
 use Rattle.graph_update.proofs.ClearNodes.{tasks-earlier_than}
-use Rattle.graph_update.proofs.Members.{all_at, all_from, in_map}
-
-Some-injective : {X : Type 0} (a b : X) → Some a ≡ Some b → a ≡ b
-Some-injective a b same = cc
-
-none_is_not_some : {X : Type 0} (x : X) → None ≡ Some x → ⊥
-none_is_not_some x same = cc
+use Rattle.graph_update.proofs.Members.{all_from}
+use Rattle.graph_update.proofs.Renewing.{some_node}
 
 module _ {V : Type 0} (app : Application V) (nodes : List Node) where
   abbrev is_safe_node : Node → Bool
@@ -30,9 +25,6 @@ module _ {V : Type 0} (app : Application V) (nodes : List Node) where
 
   abbrev pub safe_ids : List NodeId → List NodeId
   safe_ids ids = filter is_safe_id ids
-
-  pub sources_are_there : SourcesAreNodes → IsGraph nodes → AllByRecursion (HasNode nodes) (sources_of nodes)
-  sources_are_there are_nodes graph = all_from (HasNode nodes) (sources_of nodes) (λ id has. are_nodes nodes id graph has)
 
   safe_own : NodesHaveIds → IsGraph nodes → (node : Node) → Contains nodes node → is_safe_id node.id ≡ is_safe_node node
   safe_own have_ids graph node there = ap (λ (found : Option Node). unwrap_or (option_map is_safe_node found) false) (have_ids nodes node graph there)
@@ -69,22 +61,10 @@ module _ {V : Type 0} (app : Application V) (nodes : List Node) where
     (λ unsafe. ap (λ test. clear ++ cond test (id ∷ safe_ids left) (safe_ids left)) (sym unsafe) ∙ passed),
   )
 
-  -- what is found of a node by its id
-  pub safe_at : (id : NodeId) (task : Task) → task_at nodes id ≡ Some task → is_safe_id id ≡ app.is_safe task (tasks_before task.key (tasks_of nodes))
-  safe_at id task found = by_node (node_at nodes id) refl
-    where
-      by_node : (node : Option Node) → node_at nodes id ≡ node → is_safe_id id ≡ app.is_safe task (tasks_before task.key (tasks_of nodes))
-      by_node None is = absurd (none_is_not_some task (sym (ap (option_map (λ (n : Node). n.task)) is) ∙ found))
-      by_node (Some node) is =
-          let same : node.task ≡ task = Some-injective node.task task (sym (ap (option_map (λ (n : Node). n.task)) is) ∙ found) in
-          ap (λ (found : Option Node). unwrap_or (option_map is_safe_node found) false) is ∙ ap (λ (t : Task). app.is_safe t (tasks_before t.key (tasks_of nodes))) same
-
-  -- the task of a node is one of the application
-  pub fit_at : IdsFindNodes → (id : NodeId) (task : Task) → task_at nodes id ≡ Some task → AreFitTasks app (tasks_of nodes) → IsFitTask app task
-  fit_at ids_find id task found fit = by_node (node_at nodes id) refl
-    where
-      by_node : (node : Option Node) → node_at nodes id ≡ node → IsFitTask app task
-      by_node None is = absurd (none_is_not_some task (sym (ap (option_map (λ (n : Node). n.task)) is) ∙ found))
-      by_node (Some node) is =
-          let same : node.task ≡ task = Some-injective node.task task (sym (ap (option_map (λ (n : Node). n.task)) is) ∙ found) in
-          subst (IsFitTask app) same (all_at (IsFitTask app) (tasks_of nodes) node.task fit (in_map (λ (n : Node). n.task) nodes node (ids_find nodes id node is).0))
+  -- what the test of a source's task answers
+  pub answer_is : SourcesAreNodes → IsGraph nodes → (id : NodeId) → Contains (sources_of nodes) id → (seen : List Node) → seen ≡ nodes → (answer : Bool)
+      → ((node : Node) → node_at seen id ≡ Some node → answer ≡ app.is_safe node.task (tasks_before node.task.key (tasks_of seen))) → is_safe_id id ≡ answer
+  answer_is are_nodes graph id source seen same answer is =
+      let node = some_node nodes id (are_nodes nodes id graph source) in
+      let answers = subst (λ (seen : List Node). (node : Node) → node_at seen id ≡ Some node → answer ≡ app.is_safe node.task (tasks_before node.task.key (tasks_of seen))) same is in
+      ap (λ (found : Option Node). unwrap_or (option_map is_safe_node found) false) node.1 ∙ sym (answers node.0 node.1)

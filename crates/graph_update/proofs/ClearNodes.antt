@@ -10,13 +10,13 @@ use Rattle.task_order.specs.declared.key.Key.{Key}
 use Rattle.task_order.specs.declared.task.Task.{Task}
 use Rattle.task_order.specs.Key.{key_cmp}
 use Rattle.task_order.specs.TaskList.{IsAscending}
-use Rattle.rw_sets.specs.Accesses.{Accesses, Conflicts, conflicts_with}
+use Rattle.rw_sets.specs.Accesses.{Accesses, Conflicts, IsWithin, conflicts_with}
 use Rattle.kdg_graph.specs.Node.{Node}
 use Rattle.kdg_graph.specs.Nodes.{tasks_of, earlier_than}
 use Rattle.kdg_graph.specs.Edges.{is_blocked}
 use Rattle.app_laws.specs.Applications.{Application, IsFitTask, set_in, tasks_before}
 use Rattle.commuting.specs.Clear.{IsClear}
-use Rattle.graph_update.specs.Basis.{Basis}
+use Rattle.graph_update.specs.Basis.{Basis, LowerLaws}
 use Rattle.graph_update.specs.declared.job.Job.{Job}
 use Rattle.graph_update.specs.Events.{is_clear, clear_nodes}
 use Rattle.graph_update.specs.Laws.{RecordedSetsSuffice, SomeIsClear}
@@ -43,26 +43,22 @@ tasks-earlier_than key (node ∷ nodes) =
       | false ↦ rest
     ]
 
-all-tasks : (P : Task → Type 0) (nodes : List Node) → ((node : Node) → Contains nodes node → P node.task) → AllByRecursion P (tasks_of nodes)
+pub all-tasks : (P : Task → Type 0) (nodes : List Node) → ((node : Node) → Contains nodes node → P node.task) → AllByRecursion P (tasks_of nodes)
 all-tasks P nodes each = go nodes (all_from (λ (node : Node). P node.task) nodes each)
   where
     go : (nodes : List Node) → AllByRecursion (λ (node : Node). P node.task) nodes → AllByRecursion P (tasks_of nodes)
     go [] all = tt
     go (node ∷ nodes) all = (all.0, go nodes all.1)
 
+-- what conflicts by some sets conflicts by wider ones
+pub wider_conflict : LowerLaws → (set other wide wide_other : Accesses) → IsWithin set wide → IsWithin other wide_other → Conflicts other set → Conflicts wide_other wide
+wider_conflict lower set other wide wide_other within others_within conflict =
+    lower.turned wide wide_other (lower.grows set wide wide_other within (lower.turned wide_other set (lower.grows other wide_other set others_within conflict)))
+
 module _ {V : Type 0} {app : Application V} (basis : Basis app) where
   -- where the test finds no conflict there is none
   pub no_conflict : (set other : Accesses) → conflicts_with set other ≡ false → ¬ Conflicts set other
   no_conflict set other none conflict = true≢false (sym ((basis.lower.decided set other).1 conflict) ∙ none)
-
-  -- what conflicts by the declared sets conflicts by the recorded ones
-  recorded_conflict : (progress : Progress V) (values : List V) (node other : Node) → Covers app progress.cells values node → Covers app progress.cells values other
-      → Conflicts (set_in app values other.task) (set_in app values node.task) → Conflicts other.set node.set
-  recorded_conflict progress values node other covers others conflict =
-      let wide = basis.lower.grows (set_in app values other.task) other.set (set_in app values node.task) others.within conflict in
-      basis.lower.turned node.set other.set
-      (basis.lower.grows (set_in app values node.task) node.set other.set covers.within
-      (basis.lower.turned other.set (set_in app values node.task) wide))
 
   pub unblocked_is_clear : (progress : Progress V) (jobs : List (Job V)) (values : List V) (node : Node) → IsSound app progress jobs values
       → Contains progress.nodes node → is_unblocked app progress.nodes node ≡ true → IsClear app (whole_state progress values) node.task
@@ -80,7 +76,7 @@ module _ {V : Type 0} {app : Application V} (basis : Basis app) where
               (λ other earlier conflict.
               let there = (from_filter _ progress.nodes other earlier).0 in
               no_conflict other.set node.set (none_passes (λ (n : Node). conflicts_with n.set node.set) (earlier_than node.task.key progress.nodes) other none earlier)
-              (recorded_conflict progress values node other (covers node has) (covers other there) conflict)));
+              (wider_conflict basis.lower _ _ node.set other.set (covers node has).within (covers other there).within conflict)));
           safe = ap (app.is_safe node.task) (sym same) ∙ parts.1;
         };
       }

@@ -15,7 +15,7 @@ use Rattle.kdg_graph.specs.Node.{Node}
 use Rattle.kdg_graph.specs.Nodes.{IsGraph, is_at, later_than, started, tasks_of}
 use Rattle.kdg_graph.specs.Rewrite.{set_after, with_sets, without}
 use Rattle.app_laws.specs.declared.app.SetAnswer.TheVariants as answer
-use Rattle.app_laws.specs.Applications.{Application, AreFitTasks, IsFitTask, IsLawful, set_in}
+use Rattle.app_laws.specs.Applications.{Application, AreFitTasks, IsFitTask, set_in}
 use Rattle.graph_update.specs.declared.job.Done.{Done}
 use Rattle.graph_update.specs.declared.job.Job.{Job}
 use Rattle.graph_update.specs.Engine.{HaveFixedSets}
@@ -39,12 +39,12 @@ module _ {V : Type 0} (app : Application V) where
 
   -- ---- at the beginning, and where a node starts
 
-  pub first_are_fixed : IsLawful app → (values : List V) → app.is_fit_cells values → (nodes : List Node) → AreFitTasks app (tasks_of nodes)
+  pub first_are_fixed : (values : List V) → app.is_fit_cells values → (nodes : List Node) → AreFitTasks app (tasks_of nodes)
       → AllByRecursion (λ node. node.set ≡ set_in app values node.task) nodes → HaveFixedSets app nodes
-  first_are_fixed lawful values fit [] fit_tasks sets fixed cells = tt
-  first_are_fixed lawful values fit (node ∷ nodes) fit_tasks sets fixed cells = (
-    lawful.fixed_sets_are_known fixed node.task cells values fit fit_tasks.0 ∙ ap (λ set. answer.Known set) (sym sets.0),
-    first_are_fixed lawful values fit nodes fit_tasks.1 sets.1 fixed cells,
+  first_are_fixed values fit [] fit_tasks sets fixed cells = tt
+  first_are_fixed values fit (node ∷ nodes) fit_tasks sets fixed cells = (
+    fixed node.task cells values fit fit_tasks.0 ∙ ap (λ set. answer.Known set) (sym sets.0),
+    first_are_fixed values fit nodes fit_tasks.1 sets.1 fixed cells,
   )
 
   found_started : (id : NodeId) (cells : List (Cell V)) (nodes : List Node) → AllByRecursion (IsFound cells) nodes → AllByRecursion (IsFound cells) (started id nodes)
@@ -108,5 +108,5 @@ module _ {V : Type 0} {app : Application V} (basis : FinishBasis app) where
       let same_item : node.set ≡ fresh.0.set = ap (λ (node : Node). node.set) fresh.2 in
       let same_task : node.task ≡ fresh.0.task = ap (λ (node : Node). node.task) fresh.2 in
       let declared = same_item ∙ item_set basis end fresh.0 fresh.1 ∙ ap (λ task. set_in app (app.act job.task values).cells task) (sym same_task) in
-      basis.lawful.fixed_sets_are_known fixed node.task cells (app.act job.task values).cells (fit_after basis end.sound end.performed) fit ∙ ap (λ set. answer.Known set) (sym declared))
+      fixed node.task cells (app.act job.task values).cells (fit_after basis end.sound end.performed) fit ∙ ap (λ set. answer.Known set) (sym declared))
       (basis.no_other old.nodes end.finished.node.id (renewals app (cells_given old.cells done.effect.bundle) old.nodes end.finished.node) (fresh_from done.task.key 0 done.effect.children) now.nodes end.finished.nodes node has))

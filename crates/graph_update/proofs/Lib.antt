@@ -36,6 +36,7 @@ pub mod Picked
 pub mod ReadyIds
 pub mod Renamed
 pub mod Renewing
+pub mod Sources
 pub mod Standing
 pub mod StandingDrains
 pub mod StandingEnds
@@ -45,4 +46,5 @@ pub mod StandingMeans
 pub mod Starting
 pub mod TakenTasks
 pub mod TaskEnds
+pub mod Touched
 pub mod Whole

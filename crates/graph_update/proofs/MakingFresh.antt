@@ -1,10 +1,13 @@
 -- The fresh tasks of a task's children, one child at a time.
-use Rattle.std.proofs.Common.{◌≡◌, ℕ, zero, suc, ◌+◌, ◌<◌, List, [], ◌∷◌, ◌++◌, length, drop, get_or, sym, ap, subst, ◌∙◌, add-one, drop-cons, append_assoc}
+use Rattle.std.proofs.Common.{◌≡◌, ℕ, zero, suc, ◌+◌, ◌<◌, ◌≤◌, List, [], ◌∷◌, ◌++◌, length, drop, get_or, refl, sym, ap, subst, ◌∙◌, add-one, drop-cons, append_assoc, arith}
 use Rattle.std.specs.List.{AllByRecursion}
 use Rattle.task_order.specs.declared.key.Key.{Key}
+use Rattle.task_order.specs.declared.task.Task.{Task}
 use Rattle.task_order.specs.Key.{child_key}
+use Rattle.task_order.specs.TaskList.{put_all, put_in}
 use Rattle.rw_sets.specs.Accesses.{Accesses}
 use Rattle.kdg_graph.specs.declared.change.Fresh.{Fresh}
+use Rattle.kdg_graph.specs.Rewrite.{fresh_tasks}
 use Rattle.app_laws.specs.declared.child.Child.{Child}
 use Rattle.graph_update.specs.Events.{fresh_from}
 
@@ -13,6 +16,12 @@ all-drop P children zero all = all
 all-drop P [] (suc number) all = tt
 all-drop P (child ∷ children) (suc number) all = all-drop P children number all.1
 
+pub none_left : (children : List Child) (number : ℕ) → length children ≤ number → drop number children ≡ []
+none_left [] zero past = refl
+none_left [] (suc number) past = refl
+none_left (child ∷ children) zero past = absurd (omega (arith, past))
+none_left (child ∷ children) (suc number) past = none_left children number (omega (arith, past))
+
 module _ (children : List Child) (number : ℕ) (child : Child) (within : number < length children) (here : child ≡ get_or children number child) where
   left : drop number children ≡ child ∷ drop (suc number) children
   left = drop-cons children number child within ∙ ap (λ (first : Child). first ∷ drop (suc number) children) (sym here)
@@ -20,6 +29,11 @@ module _ (children : List Child) (number : ℕ) (child : Child) (within : number
   -- what holds of all children holds of this one
   pub of_child : (P : Child → Type 0) → AllByRecursion P children → P child
   of_child P all = (subst (AllByRecursion P) left (all-drop P children number all)).0
+
+  -- with this child's task put in, the others are left
+  pub one_more_put : (parent : Key) (tasks : List Task) → put_all (fresh_tasks (fresh_from parent (number + 1) (drop (number + 1) children))) (put_in (record { key = child_key parent number child.prio; body = child.body }) tasks)
+      ≡ put_all (fresh_tasks (fresh_from parent number (drop number children))) tasks
+  one_more_put parent tasks = rw add-one (sym (ap (λ (more : List Child). put_all (fresh_tasks (fresh_from parent number more)) tasks) left))
 
   -- with this child's task behind those that are made, the others are left
   pub one_more_task : (parent : Key) (made longer whole : List Fresh) (key : Key) (set : Accesses) → made ++ fresh_from parent number (drop number children) ≡ whole

@@ -4,6 +4,7 @@ use Rattle.std.specs.Prelude.{Contains, IsFalse, is_some}
 use Rattle.std.specs.List.{AllByRecursion, list_any}
 use Rattle.std.proofs.lemmas.Bool.{true≢false}
 use Rattle.task_order.specs.declared.key.Key.{Key}
+use Rattle.task_order.specs.declared.task.Body.{Body}
 use Rattle.task_order.specs.declared.start.Start.{Start}
 use Rattle.task_order.specs.declared.task.Task.{Task}
 use Rattle.task_order.specs.TaskList.{HasDistinctKeys, IsNewKey, put_in, without}
@@ -97,7 +98,7 @@ module _ {V : Type 0} (app : Application V) where
     pub bundle : job.bundle ≡ part_of (homes values) (set_in app values job.task)
     pub effect : done.effect ≡ effect_of app job.task values
 
-  all-handed : (P : ℕ → Type 0) (cells : List V) (starts : List Start) → AllByRecursion (λ (start : Start). P start.prio) starts → AllByRecursion (λ (child : Child). P child.prio) (map (handed app cells) starts)
+  all-handed : (P : ℕ → Body → Type 0) (cells : List V) (starts : List Start) → AllByRecursion (λ (start : Start). P start.prio start.body) starts → AllByRecursion (λ (child : Child). P child.prio child.body) (map (handed app cells) starts)
   all-handed P cells [] all = tt
   all-handed P cells (start ∷ starts) all = (all.0, all-handed P cells starts all.1)
 
@@ -198,9 +199,15 @@ module _ {V : Type 0} {app : Application V} (basis : FinishBasis app) where
     children_not_earlier =
         let outcome = app.act job.task values in
         let handed_over : AllByRecursion (λ (child : Child). job.task.key.prio ≤ child.prio) (map (handed app outcome.cells) outcome.children) =
-        all-handed app (λ prio. job.task.key.prio ≤ prio) outcome.cells outcome.children (basis.lawful.children_come_no_earlier job.task values sound.ready.cells fit_task) in
+        all-handed app (λ prio body. job.task.key.prio ≤ prio) outcome.cells outcome.children (basis.lawful.children_come_no_earlier job.task values sound.ready.cells fit_task) in
         subst (λ (task : Task). AllByRecursion (λ (child : Child). task.key.prio ≤ child.prio) done.effect.children) performed.task
         (subst (λ (effect : Effect V). AllByRecursion (λ (child : Child). job.task.key.prio ≤ child.prio) effect.children) (sym performed_node.effect) handed_over)
+
+    pub children_fit : AllByRecursion (λ (child : Child). app.is_fit_task child.prio child.body) done.effect.children
+    children_fit =
+        let outcome = app.act job.task values in
+        subst (λ (effect : Effect V). AllByRecursion (λ (child : Child). app.is_fit_task child.prio child.body) effect.children) (sym performed_node.effect)
+        (all-handed app app.is_fit_task outcome.cells outcome.children (basis.lawful.acts_are_fit job.task values sound.ready.cells fit_task).children)
 
     pub tasks_unlogged : AllByRecursion (IsUnlogged job.task) old.log
     tasks_unlogged = all_at (λ task. AllByRecursion (IsUnlogged task) old.log) (tasks_of old.nodes) job.task sound.keys_and_counts.unlogged is_pending

@@ -8,6 +8,7 @@ use Rattle.kdg_graph.specs.Node.{Node}
 use Rattle.kdg_graph.specs.Nodes.{tasks_of}
 use Rattle.app_laws.specs.Applications.{Application, AreFitStarts}
 use Rattle.app_laws.specs.Names.{AreListed}
+use Rattle.app_laws.specs.Renaming.{AreNamed, ListedTasksAreNamed}
 use Rattle.app_laws.specs.RenamingLaws.{as_many_listed}
 use Rattle.graph_update.specs.Basis.{Basis}
 use Rattle.graph_update.specs.Engine.{AreFirstNodes, HaveFixedSets, IsKept}
@@ -55,6 +56,9 @@ module _ {V : Type 0} {app : Application V} (basis : Basis app) where
       pub own_fit : AreFitStarts app starts
       own_fit = listed_fit app (tasks_of old.nodes) starts own_listed own_sound.ready.tasks
 
+      pub own_names : ListedTasksAreNamed → AreNamed (tasks_of old.nodes) starts
+      own_names laws = laws (tasks_of old.nodes) starts own_sound.ready.ascending own_sound.ready.apart own_listed
+
       pub own_many : length starts ≡ length old.nodes
       own_many = as_many_first old.nodes starts own_listed
 
@@ -84,7 +88,7 @@ module _ {V : Type 0} {app : Application V} (basis : Basis app) where
           stays_kept = record { jobs = []; values = values_of old.cells; sound = now_sound; limited = kept.limited }
 
           pub stays_fixed : HaveFixedSets app nodes
-          stays_fixed = first_are_fixed app basis.lawful (values_of old.cells) own_sound.ready.cells nodes now_sound.ready.tasks are.sets
+          stays_fixed = first_are_fixed app (values_of old.cells) own_sound.ready.cells nodes now_sound.ready.tasks are.sets
 
 -- what an engine keeps sound, seen from outside
 pub engine_stays_sound : {A V : Type 0} (meaning : A → Application V) (app : A) (old now : Progress V) (engine : EngineState A V) → record { app = app; progress = old } ≡ engine

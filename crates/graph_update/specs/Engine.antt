@@ -1,16 +1,17 @@
 -- What is kept of every engine, and what its calls find.
-use Rattle.std.specs.Prelude.{◌≡◌, ◌+◌, ◌<◌, ◌≤◌, ℕ, true, false, List, Contains, [], ◌∷◌, length, Some}
+use Rattle.std.specs.Prelude.{◌≡◌, ◌+◌, ◌<◌, ◌≤◌, ℕ, Bool, true, false, List, Contains, [], ◌∷◌, length, Some}
 use Rattle.std.specs.List.{AllByRecursion}
 use Rattle.task_order.specs.declared.key.Key.{Key}
 use Rattle.task_order.specs.declared.start.Start.{Start}
 use Rattle.task_order.specs.TaskList.{put_all}
+use Rattle.rw_sets.specs.Accesses.{IsWithin}
 use Rattle.cell_store.specs.declared.cell.Cell.{Cell}
 use Rattle.kdg_graph.specs.declared.node_id.NodeId.{NodeId}
 use Rattle.kdg_graph.specs.Node.{Node}
 use Rattle.kdg_graph.specs.Edges.{laters_of}
 use Rattle.kdg_graph.specs.Nodes.{IsGraph, ids_of, node_with_key, tasks_of}
 use Rattle.app_laws.specs.declared.app.SetAnswer.TheVariants as answer
-use Rattle.app_laws.specs.Applications.{Application, IsFitTask, IsTaken, set_in}
+use Rattle.app_laws.specs.Applications.{Application, AreFitTasks, FixedSetsAreKnown, IsFitTask, IsTaken, set_in}
 use Rattle.app_laws.specs.Execution.{first_from}
 use Rattle.graph_update.specs.declared.answers.BeginFault.{BeginFault}
 use Rattle.graph_update.specs.declared.answers.BeginFault.TheVariants as fault
@@ -38,6 +39,10 @@ pub record SomeRuns (nodes : List Node) : Type 0 where
 -- at most one step for each of the later nodes whose recorded sets conflict with that of the node of a key
 abbrev pub IsOneStepEach : List Node → Key → ℕ → ℕ → Type 0
 IsOneStepEach nodes key before after = (node : Node) → node_with_key nodes key ≡ Some node → after ≤ before + length (laters_of nodes node)
+
+-- where the sets are fixed, none is asked for
+abbrev pub AsksForNoFixedSet : Bool → ℕ → ℕ → Type 0
+AsksForNoFixedSet fixed before after = fixed ≡ true → after ≡ before
 
 -- an execution did not begin: there are more first tasks than allowed, or else no memory was to be had
 abbrev pub IsBeginFault : List Start → ℕ → BeginFault → Type 0
@@ -73,11 +78,14 @@ module _ {V : Type 0} (app : Application V) where
 
   -- where the sets are fixed, each recorded set is the one that a walk finds, whatever the cells hold
   abbrev pub HaveFixedSets : List Node → Type 0
-  HaveFixedSets nodes = app.sets_are_fixed ≡ true → (cells : List (Cell V)) → AllByRecursion (λ node. app.walk node.task.body cells ≡ answer.Known node.set) nodes
+  HaveFixedSets nodes = FixedSetsAreKnown app → (cells : List (Cell V)) → AllByRecursion (λ node. app.walk node.task.body cells ≡ answer.Known node.set) nodes
 
-  -- where the sets are fixed, none is asked for
-  abbrev pub AsksForNoFixedSet : ℕ → ℕ → Type 0
-  AsksForNoFixedSet before after = app.sets_are_fixed ≡ true → after ≡ before
+  -- the nodes' tasks are the application's, and in some cells of it each recorded set has all of the declared one
+  pub record AreCovered (nodes : List Node) : Type 0 where
+    pub tasks : AreFitTasks app (tasks_of nodes)
+    pub cells : List V
+    pub fit : app.is_fit_cells cells
+    pub within : AllByRecursion (λ node. IsWithin (set_in app cells node.task) node.set) nodes
 
   -- an execution that is sound with some jobs and some whole cells, and within what may be allowed
   pub record IsKept (progress : Progress V) : Type 0 where

@@ -3,9 +3,9 @@
 ghost use Rattle.std.specs.Prelude.{◌≡◌, ◌+◌, ◌≤◌, length, None, Some, IfErr, OnOk, OnErr};
 ghost use Rattle.kdg_graph.specs.Edges.{laters_of};
 ghost use Rattle.kdg_graph.specs.Node.{Node};
-ghost use Rattle.kdg_graph.specs.Nodes.{ids_of, node_at};
+ghost use Rattle.kdg_graph.specs.Nodes.{ids_of, node_at, tasks_of};
 ghost use Rattle.graph_update.specs.Acting.{ActStaysSound, HasActed, IsActFault, RefusedActStaysSound};
-ghost use Rattle.graph_update.specs.Engine.{AsksForNoFixedSet, IsOfClear};
+ghost use Rattle.graph_update.specs.Engine.{AreCovered, AsksForNoFixedSet, HaveFixedSets, IsOfClear};
 ghost use Rattle.graph_update.specs.Events.{clear_nodes};
 
 use crate::finish_laws::{self, sound_finish_laws};
@@ -13,8 +13,8 @@ use crate::finishing::end_at_home;
 use crate::laws::basis;
 use crate::pending::Pending;
 use crate::{Engine, OverCause};
-use app_laws::App;
-use kdg_graph::{NodeId, node_laws, source_laws};
+use app_laws::{App, act_at_home};
+use kdg_graph::{Graph, NodeId, node_laws, source_laws};
 use kdg_text::{NoRoom, Steps};
 use std::sync::ledger::Ledger;
 
@@ -26,24 +26,7 @@ impl<'a, A: App> Engine<'a, A> {
         ensures ids { OnOk result (ids.new.items ≡ ids_of (clear_nodes (A.meaning self.old.app) self.old.progress.nodes)) }
     {
         self.settle();
-        self.list_clear(ids)
-    }
-
-    /// The same, which is quick where the pending tasks are in order.
-    #[inline(always)]
-    fn list_clear(&self, ids: &mut Vec<NodeId>) -> Result<(), NoRoom>
-        ensures { OnOk result (ids.new.items ≡ ids_of (clear_nodes (A.meaning self.now.app) self.now.progress.nodes)) }
-    {
-        node_laws();
-        source_laws();
-        ids.clear();
-        let pending = Pending::of(&self.graph);
-        for node in self.graph.sources() {
-            if self.app.safe(self.graph.task(node), &pending) {
-                ids.push(node)?;
-            }
-        }
-        Ok(())
+        list_clear(self.app, &self.graph, &mut self.horizon, ids)
     }
 
     /// Claims a clear task, performs it and ends it, with nothing between. Neither the task nor its cells
@@ -62,13 +45,13 @@ impl<'a, A: App> Engine<'a, A> {
         ensures fault { IfErr result (IsActFault (A.meaning self.old.app) self.old.progress node self.new.progress) }
         ensures refused_sound { OnErr result (RefusedActStaysSound (A.meaning self.old.app) self.old.progress node self.new.progress) }
         ensures steps { (of : Node) → node_at self.old.progress.nodes node ≡ Some of → steps.new ≤ steps.old + length (laters_of self.old.progress.nodes of) }
-        ensures no_step { AsksForNoFixedSet (A.meaning self.old.app) steps.old steps.new }
+        ensures no_step { AsksForNoFixedSet (A.has_fixed_sets self.old.app) steps.old steps.new }
     {
         basis::<A>();
         finish_laws::basis::<A>();
         sound_finish_laws::<A>();
         let (task, set) = (self.graph.task(node), self.graph.set(node));
-        let Ok((children, text)) = self.app.run_at_home(task, set, &mut self.store) else {
+        let Ok((children, text)) = act_at_home(self.app, task, set, &mut self.store) else {
             return Err(OverCause::NoRoom);
         };
         self.graph.mark_running(node);
@@ -87,6 +70,7 @@ impl<'a, A: App> Engine<'a, A> {
             &self.store,
             &mut self.graph,
             &mut self.log,
+            &mut self.horizon,
             &mut self.fresh,
             node,
             children,
@@ -106,4 +90,30 @@ impl<'a, A: App> Engine<'a, A> {
             }
         }
     }
+}
+
+/// The ids of all clear nodes, which is quick where the pending tasks are in order.
+#[inline(always)]
+fn list_clear<A: App>(
+    app: &A,
+    graph: &Graph,
+    horizon: &mut A::Horizon,
+    ids: &mut Vec<NodeId>,
+) -> Result<(), NoRoom>
+    requires covered { AreCovered (A.meaning app.now) graph.now }
+    requires fixed { HaveFixedSets (A.meaning app.now) graph.now }
+    requires told { A.tells app.now horizon.old (tasks_of graph.now) }
+    ensures told { A.tells app.now horizon.new (tasks_of graph.now) }
+    ensures ids { OnOk result (ids.new.items ≡ ids_of (clear_nodes (A.meaning app.now) graph.now)) }
+{
+    node_laws();
+    source_laws();
+    ids.clear();
+    let pending = Pending::of(graph);
+    for node in graph.sources() {
+        if pending.is_safe(node, app, horizon) {
+            ids.push(node)?;
+        }
+    }
+    Ok(())
 }

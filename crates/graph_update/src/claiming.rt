@@ -36,7 +36,7 @@ impl<'a, A: App> Engine<'a, A> {
         if self.graph.least().is_none() {
             return Ok(Claim::Ended);
         }
-        self.ready.look(self.app, &self.graph)?;
+        self.ready.look(self.app, &self.graph, &mut self.horizon)?;
         let Some((node, spot)) = self.ready.picked(pick) else {
             return Ok(Claim::NotYet);
         };

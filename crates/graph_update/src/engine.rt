@@ -12,7 +12,7 @@ use crate::beginning::{empty_graph, home_store, put_first};
 use crate::laws::{basis, begin_laws, drain_laws};
 use crate::ready::Ready;
 use crate::{BeginFault, Counts, OverCause};
-use app_laws::{App, Finals, lawful};
+use app_laws::{App, Finals};
 use cell_store::{Store, value_laws};
 use kdg_graph::{Fresh, Graph};
 use kdg_text::{NoRoom, Steps, Text};
@@ -31,6 +31,8 @@ use task_order::StartList;
 pub struct Engine<'a, A: App> {
     pub(crate) alloc: Global,
     pub(crate) app: &'a A,
+    /// What the application keeps of the pending tasks to tell whether one is safe.
+    pub(crate) horizon: A::Horizon,
     pub(crate) store: Store<A::Val>,
     pub(crate) graph: Graph,
     pub(crate) log: Log,
@@ -44,6 +46,7 @@ pub struct Engine<'a, A: App> {
 }
 
 impl<'a, A: App> Model for Engine<'a, A> {
+    ghost use Rattle.kdg_graph.specs.Nodes.{tasks_of};
     ghost use Rattle.graph_update.specs.Engine.{AreReady, HaveFixedSets, IsKept};
     ghost use Rattle.graph_update.specs.Progress.{EngineState};
 
@@ -70,7 +73,7 @@ impl<'a, A: App> Model for Engine<'a, A> {
       ended = e.ended;
       limit = e.limit;
       over = e.over;
-    }) × AreReady (A.meaning e.app.now) e.graph e.ready × HaveFixedSets (A.meaning e.app.now) e.graph };
+    }) × AreReady (A.meaning e.app.now) e.graph e.ready × HaveFixedSets (A.meaning e.app.now) e.graph × A.tells e.app.now e.horizon (tasks_of e.graph) };
 }
 
 impl<'a, A: App> Engine<'a, A> {
@@ -99,7 +102,6 @@ impl<'a, A: App> Engine<'a, A> {
         ensures steps { steps.new ≤ steps.old + length first }
     {
         begin_laws::<A>();
-        lawful::<A>();
         value_laws::<A::Val>();
         let starts = first.items();
         let asked = starts.len() as u64;
@@ -112,9 +114,11 @@ impl<'a, A: App> Engine<'a, A> {
         let store = home_store(alloc, app, cells)?;
         let graph = empty_graph(alloc, app);
         let graph = put_first(alloc, app, graph, starts, &store, steps)?;
+        let horizon = app.horizon(alloc)?;
         Ok(Engine {
             alloc,
             app,
+            horizon,
             store,
             graph,
             log: Log::new(alloc),

@@ -4,7 +4,7 @@ ghost use Rattle.std.specs.Prelude.{◌≡◌, ◌+◌, ◌<◌, ◌≤◌, ◌^
 ghost use Rattle.task_order.specs.declared.task.Task.{Task};
 ghost use Rattle.kdg_graph.specs.Edges.{laters_of};
 ghost use Rattle.kdg_graph.specs.Node.{Node};
-ghost use Rattle.kdg_graph.specs.Nodes.{node_at};
+ghost use Rattle.kdg_graph.specs.Nodes.{node_at, tasks_of};
 ghost use Rattle.graph_update.specs.Answers.{IsFinishRefusal};
 ghost use Rattle.graph_update.specs.AtHome.{EndsAtHome, IsBackHome, with_parts};
 ghost use Rattle.graph_update.specs.Engine.{AsksForNoFixedSet, FinishStaysSound, HaveFixedSets, IsDone, IsOneStepEach, StaysSound};
@@ -15,6 +15,7 @@ use crate::finish_laws::{basis, sound_finish_laws};
 use crate::laws::drain_laws;
 use crate::rewriting::{end_node, fresh_tasks};
 use crate::standing_laws::stay_clear_laws;
+use crate::touching::touch_end;
 use crate::{Done, Engine, FinishFault, OverCause};
 use app_laws::{App, Child, Effect};
 use cell_store::Store;
@@ -45,7 +46,7 @@ impl<'a, A: App> Engine<'a, A> {
         ensures refused { IfErr result (IsFinishRefusal (A.meaning self.old.app) self.old.progress done self.new.progress) }
         ensures refused_sound { OnErr result (StaysSound (A.meaning self.old.app) self.old.progress self.new.progress) }
         ensures steps { IsOneStepEach self.old.progress.nodes done.task.key steps.old steps.new }
-        ensures no_step { AsksForNoFixedSet (A.meaning self.old.app) steps.old steps.new }
+        ensures no_step { AsksForNoFixedSet (A.has_fixed_sets self.old.app) steps.old steps.new }
     {
         drain_laws::<A>();
         let (created, limit) = (
@@ -92,7 +93,7 @@ impl<'a, A: App> Engine<'a, A> {
         ensures returned { IfErr result (λ back. back ≡ effect) }
         ensures unchanged { OnErr result (self.new ≡ self.old) }
         ensures steps { IsOneStepEach self.old.progress.nodes task.key steps.old steps.new }
-        ensures no_step { AsksForNoFixedSet (A.meaning self.old.app) steps.old steps.new }
+        ensures no_step { AsksForNoFixedSet (A.has_fixed_sets self.old.app) steps.old steps.new }
     {
         basis::<A>();
         sound_finish_laws::<A>();
@@ -109,6 +110,7 @@ impl<'a, A: App> Engine<'a, A> {
             &self.store,
             &mut self.graph,
             &mut self.log,
+            &mut self.horizon,
             &mut self.fresh,
             node,
             children.items(),
@@ -135,8 +137,8 @@ impl<'a, A: App> Engine<'a, A> {
 }
 
 /// Ends a task whose new values are home: its children are nodes in place of its own, the later nodes
-/// in conflict have new sets, and its text is logged. Where memory runs out, the text comes back, and
-/// nodes and entries are as they were.
+/// in conflict have new sets, its text is logged, and the horizon is told of both. Where memory runs out,
+/// the text comes back, and nodes and entries are as they were.
 #[inline(always)]
 pub(crate) fn end_at_home<A: App, L: Ledger>(
     alloc: Global,
@@ -144,6 +146,7 @@ pub(crate) fn end_at_home<A: App, L: Ledger>(
     store: &Store<A::Val>,
     graph: &mut Graph,
     log: &mut Log,
+    horizon: &mut A::Horizon,
     fresh: &mut Vec<Fresh>,
     node: NodeId,
     children: &[Child],
@@ -153,12 +156,14 @@ pub(crate) fn end_at_home<A: App, L: Ledger>(
     requires home { (counts : Progress A.Val) × IsBackHome (A.meaning app.now) (with_parts counts store.now graph.old log.old.entries) node children.now text }
     requires sets { HaveFixedSets (A.meaning app.now) graph.old }
     requires few { length children.now < 2 ^ 32 }
+    requires told { A.tells app.now horizon.old (tasks_of graph.old) }
+    ensures told { A.tells app.now horizon.new (tasks_of graph.new) }
     ensures ended { OnOk result (EndsAtHome (A.meaning app.now) store.now graph.old log.old.entries node children.now text graph.new log.new.entries) }
     ensures returned { IfErr result (λ back. back ≡ text) }
     ensures nodes { OnErr result (graph.new ≡ graph.old) }
     ensures entries { OnErr result (log.new.entries ≡ log.old.entries) }
     ensures steps { (of : Node) → node_at graph.old node ≡ Some of → steps.new ≤ steps.old + length (laters_of graph.old of) }
-    ensures no_step { AsksForNoFixedSet (A.meaning app.now) steps.old steps.new }
+    ensures no_step { AsksForNoFixedSet (A.has_fixed_sets app.now) steps.old steps.new }
 {
     basis::<A>();
     let Ok(()) = log.reserve_for(&text) else {
@@ -170,6 +175,7 @@ pub(crate) fn end_at_home<A: App, L: Ledger>(
     };
     match end_node(alloc, app, graph, store, node, fresh, steps) {
         Ok(task) => {
+            touch_end(app, horizon, &task.body, children);
             log.put(task.key, text);
             Ok(())
         }

@@ -13,7 +13,7 @@ use rw_sets::{conflict_laws, independence_laws, within_laws};
 use task_order::{earlier_laws, put_all_laws};
 
 /// What the crates below promise of keys, lists of tasks, sets, logs and nodes, as one.
-fn lower_laws()
+pub(crate) fn lower_laws()
     ensures { LowerLaws }
 {
     earlier_laws();

@@ -17,6 +17,7 @@ mod ready;
 mod renaming;
 mod rewriting;
 mod standing_laws;
+mod touching;
 mod uncounted;
 
 pub use answers::{BeginFault, Claim, Counts, FinishFault, OverCause};

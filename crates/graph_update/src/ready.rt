@@ -5,8 +5,7 @@ ghost use Rattle.std.specs.List.{AllByRecursion};
 ghost use Rattle.std.specs.Option.{option_map};
 ghost use Rattle.kdg_graph.specs.declared.node_id.NodeId.{NodeId};
 ghost use Rattle.kdg_graph.specs.Nodes.{ids_of, tasks_of};
-ghost use Rattle.app_laws.specs.Applications.{AreFitTasks};
-ghost use Rattle.graph_update.specs.Engine.{AreReady, IsOfClear};
+ghost use Rattle.graph_update.specs.Engine.{AreCovered, AreReady, HaveFixedSets, IsOfClear};
 ghost use Rattle.graph_update.specs.Events.{clear_nodes};
 ghost use Rattle.graph_update.specs.IdChunks.{IsSpot, ids_in};
 
@@ -63,15 +62,23 @@ impl Ready {
 
     /// Looks at the sources, unless all clear nodes are known. After `NoRoom` all is as it was.
     #[inline(always)]
-    pub(crate) fn look<A: App>(&mut self, app: &A, graph: &Graph) -> Result<(), NoRoom>
-        requires fit { AreFitTasks (A.meaning app.now) (tasks_of graph.now) }
+    pub(crate) fn look<A: App>(
+        &mut self,
+        app: &A,
+        graph: &Graph,
+        horizon: &mut A::Horizon,
+    ) -> Result<(), NoRoom>
+        requires covered { AreCovered (A.meaning app.now) graph.now }
+        requires fixed { HaveFixedSets (A.meaning app.now) graph.now }
+        requires told { A.tells app.now horizon.old (tasks_of graph.now) }
         requires ready { AreReady (A.meaning app.now) graph.now self.old }
+        ensures told { A.tells app.now horizon.new (tasks_of graph.now) }
         ensures all { OnOk result (ids_in self.new.ids ≡ ids_of (clear_nodes (A.meaning app.now) graph.now)) }
         ensures ready { AreReady (A.meaning app.now) graph.now self.new }
         ensures unchanged { OnErr result (self.new ≡ self.old) }
     {
         if !self.is_current {
-            self.ids = clear_ids(self.alloc, &self.ids, app, graph)?;
+            self.ids = clear_ids(self.alloc, &self.ids, app, graph, horizon)?;
             self.is_current = true;
         }
         Ok(())
@@ -106,10 +113,14 @@ fn clear_ids<A: App>(
     known: &IdList,
     app: &A,
     graph: &Graph,
+    horizon: &mut A::Horizon,
 ) -> Result<IdList, NoRoom>
-    requires fit { AreFitTasks (A.meaning app.now) (tasks_of graph.now) }
+    requires covered { AreCovered (A.meaning app.now) graph.now }
+    requires fixed { HaveFixedSets (A.meaning app.now) graph.now }
+    requires told { A.tells app.now horizon.old (tasks_of graph.now) }
     requires known { AllByRecursion (IsOfClear (A.meaning app.now) graph.now) (ids_in known.now) }
-    ensures { IfOk result (λ ids. ids_in ids ≡ ids_of (clear_nodes (A.meaning app.now) graph.now)) }
+    ensures told { A.tells app.now horizon.new (tasks_of graph.now) }
+    ensures ids { IfOk result (λ ids. ids_in ids ≡ ids_of (clear_nodes (A.meaning app.now) graph.now)) }
 {
     node_laws();
     source_laws();
@@ -121,7 +132,7 @@ fn clear_ids<A: App>(
         if let Some(rest) = behind(left, node) {
             left = rest;
             ids.push(node)?;
-        } else if app.safe(graph.task(node), &pending) {
+        } else if pending.is_safe(node, app, horizon) {
             ids.push(node)?;
         }
     }

@@ -10,7 +10,8 @@ ghost use Rattle.graph_update.specs.Sound.{IsSound};
 use crate::Engine;
 use crate::beginning::put_first;
 use crate::laws::{basis, renaming_laws};
-use app_laws::{App, starts_by_path};
+use crate::touching::horizon_under_names;
+use app_laws::{App, naming_laws, starts_by_path};
 use kdg_graph::{Fresh, Graph};
 use kdg_text::{NoRoom, Steps};
 use output_log::Log;
@@ -39,9 +40,11 @@ impl<'a, A: App> Engine<'a, A> {
     {
         basis::<A>();
         renaming_laws::<A>();
+        naming_laws();
         let Engine {
             alloc,
             app,
+            horizon,
             store,
             mut graph,
             log: _,
@@ -55,10 +58,12 @@ impl<'a, A: App> Engine<'a, A> {
         let tasks = take_tasks(alloc, &mut graph, &mut fresh)?;
         let first = starts_by_path(tasks)?;
         let graph = put_first(alloc, app, graph, &first, &store, steps)?;
+        let horizon = horizon_under_names(alloc, app, horizon)?;
         ready.forget();
         Ok(Engine {
             alloc,
             app,
+            horizon,
             store,
             graph,
             log: Log::new(alloc),

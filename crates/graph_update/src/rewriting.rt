@@ -47,7 +47,7 @@ pub(crate) fn end_node<A: App, L: Ledger>(
     ensures unchanged { OnErr result (graph.new ≡ graph.old) }
     ensures steps { (node : Node) → node_at graph.old ended ≡ Some node →
         steps.new ≤ steps.old + length (laters_of graph.old node) }
-    ensures no_step { AsksForNoFixedSet (A.meaning app.now) steps.old steps.new }
+    ensures no_step { AsksForNoFixedSet (A.has_fixed_sets app.now) steps.old steps.new }
 {
     let changes = set_changes(alloc, app, graph, store, ended, steps)?;
     match graph.rewrite(ended, changes, fresh) {
@@ -104,7 +104,7 @@ fn set_changes<A: App, L: Ledger>(
         with_sets changes.items others ≡ with_sets (renewals (A.meaning app.now) store.now graph.now node) others) }
     ensures steps { (node : Node) → node_at graph.now ended ≡ Some node →
         steps.new ≤ steps.old + length (laters_of graph.now node) }
-    ensures no_step { AsksForNoFixedSet (A.meaning app.now) steps.old steps.new }
+    ensures no_step { AsksForNoFixedSet (A.has_fixed_sets app.now) steps.old steps.new }
 {
     later_laws();
     node_laws();

@@ -1,12 +1,17 @@
-use Rattle.std.proofs.Common.{◌+◌, ◌≤◌, length, refl, sym, subst}
+use Rattle.std.proofs.Common.{◌+◌, ◌≤◌, ◌∙◌, List, length, refl, sym, ap, subst}
 use Rattle.std.specs.List.{AllByRecursion}
 use Rattle.task_order.specs.declared.task.Task.{Task}
+use Rattle.task_order.specs.TaskList.{put_all, without}
 use Rattle.cell_store.specs.Values.{AgreesWith}
 use Rattle.kdg_graph.specs.Nodes.{tasks_of}
-use Rattle.kdg_graph.specs.Rewrite.{HaveNewKeys}
+use Rattle.kdg_graph.specs.declared.change.Fresh.{Fresh}
+use Rattle.kdg_graph.specs.Rewrite.{HaveNewKeys, fresh_tasks}
 use Rattle.output_log.specs.Entries.{IsNewEntry}
-use Rattle.graph_update.proofs.Performed.{children_not_earlier, fresh_new}
+use Rattle.app_laws.specs.Applications.{IsFitTask}
+use Rattle.graph_update.specs.Events.{fresh_from, renewals}
+use Rattle.graph_update.proofs.Performed.{children_fit, children_not_earlier, fit_task, fresh_new}
 use Rattle.graph_update.proofs.TaskEnds.{entry_is_new, fit_given, fresh_is, has_node, is_finished, log_is, node_is, task_is}
+use Rattle.graph_update.proofs.Touched.{tasks_after, told_of_others}
 use Rattle.graph_update.proofs.finishing.end_at_home.Goals as goal
 
 pub task-requires : goal.task-requires
@@ -29,6 +34,31 @@ end_node-requires-clause-new g c κs within =
     let basis = c.basis.ensures c.args.app.now in
     let fresh_are = fresh_is basis _ _ is c.task.result.now c.task.ensures c.args.children.now refl c.fresh_tasks.new.fresh.items c.in-Ok-fresh_tasks.ensures in
     subst (HaveNewKeys (tasks_of c.args.graph.now)) (sym fresh_are) (fresh_new basis is.sound is.performed)
+
+pub touch_end-requires-clause-ended : goal.touch_end-requires-clause-ended
+touch_end-requires-clause-ended g c κs within =
+    let is = c.requires.home.1.is_done in
+    let basis = c.basis.ensures c.args.app.now in
+    let own = task_is basis _ _ is c.in-Ok-end_node.task c.in-Ok-end_node.ensures.task in
+    (c.in-Ok-end_node.task.key.prio, subst (IsFitTask (g.A.App.meaning c.args.app.now)) (is.performed.task ∙ sym own) (fit_task basis is.sound is.performed))
+
+pub touch_end-requires-clause-children : goal.touch_end-requires-clause-children
+touch_end-requires-clause-children g c κs within =
+    let is = c.requires.home.1.is_done in
+    children_fit (c.basis.ensures c.args.app.now) is.sound is.performed
+
+pub returns-in-Ok-end_node-clause-told : goal.returns-in-Ok-end_node-clause-told
+returns-in-Ok-end_node-clause-told g c =
+    let app = c.args.app.now in
+    let basis = c.basis.ensures app in
+    let graph = c.requires.home.1.is_done.sound.keys_and_counts.graph in
+    let at = c.in-Ok-end_node.ensures.task in
+    let after = tasks_after basis c.args.graph.now graph c.args.node c.in-Ok-end_node.task at (λ node. renewals (g.A.App.meaning app) c.args.store.now c.args.graph.now node)
+    c.fresh_tasks.new.fresh.items c.end_node.new.graph c.in-Ok-end_node.ensures.ok in
+    subst (g.A.App.tells app c.touch_end.new.horizon) (sym (after ∙ ap (λ (fresh : List Fresh). put_all (fresh_tasks fresh) (without c.in-Ok-end_node.task.key (tasks_of c.args.graph.now))) c.in-Ok-fresh_tasks.ensures))
+    (told_of_others basis c.args.graph.now graph c.args.node c.in-Ok-end_node.task at (g.A.App.tells app c.args.horizon.now)
+    (λ tasks. g.A.App.tells app c.touch_end.new.horizon (put_all (fresh_tasks (fresh_from c.task.result.now.key 0 c.args.children.now)) tasks))
+    (λ before after told. c.touch_end.ensures c.in-Ok-end_node.task c.task.result.now.key before after refl told) c.requires.told)
 
 pub put-requires-clause-new : goal.put-requires-clause-new
 put-requires-clause-new g c =

@@ -1,11 +1,13 @@
 use Rattle.std.proofs.Common.{◌≡◌, ◌++◌, [], ◌∷◌, sym, ap, subst, ◌∙◌}
+use Rattle.std.specs.Prelude.{Contains}
 use Rattle.std.specs.List.{AllByRecursion}
 use Rattle.std.proofs.lemmas.List.{append-nil}
 use Rattle.kdg_graph.specs.Edges.{sources_of}
-use Rattle.kdg_graph.specs.Nodes.{HasNode}
-use Rattle.graph_update.specs.Engine.{IsOfClear}
+use Rattle.kdg_graph.specs.Nodes.{tasks_of}
+use Rattle.graph_update.specs.Engine.{HaveFixedSets, IsOfClear}
 use Rattle.graph_update.specs.IdChunks.{ids_in}
-use Rattle.graph_update.proofs.ClearIds.{clear_are_safe, fit_at, next_passed, safe_ids, sources_are_there}
+use Rattle.graph_update.proofs.ClearIds.{answer_is, clear_are_safe, next_passed, safe_ids}
+use Rattle.graph_update.proofs.Members.{all_from}
 use Rattle.graph_update.proofs.ReadyIds.{known_is_safe}
 use Rattle.graph_update.proofs.ready.clear_ids.Goals as goal
 
@@ -15,8 +17,9 @@ loop-node-init g c =
     let app = g.A.App.meaning c.args.app.now in
     record {
       passed = ap (λ ids. ids ++ safe_ids app c.args.graph.now c.into_iter-node-iterator.result) c.new-ids.ensures ∙ ap (safe_ids app c.args.graph.now) sources;
-      there = subst (AllByRecursion (HasNode c.args.graph.now)) (sym sources) (sources_are_there app c.args.graph.now c.source_laws.ensures.nodes c.sources-node-items.ensures.graph);
+      there = subst (AllByRecursion (Contains (sources_of c.args.graph.now))) (sym sources) (all_from (Contains (sources_of c.args.graph.now)) (sources_of c.args.graph.now) (λ id has. has));
       known = subst (AllByRecursion (IsOfClear app c.args.graph.now)) (sym (c.deref-left.ensures.value ∙ c.in_ok-known.ensures)) c.requires.known;
+      told = c.requires.told;
     }
 
 pub loop-node-preserved-in-Continue-branch-2 : goal.loop-node-preserved-in-Continue-branch-2
@@ -28,16 +31,31 @@ loop-node-preserved-in-Continue-branch-2 g c =
     record {
       passed = ap (λ ids. ids ++ safe_ids app c.args.graph.now c.next.new.self) c.in_ok-push.ensures.ok
           ∙ (next_passed app c.args.graph.now (ids_in c.loop-node.ids) c.in-Some.node c.next.new.self _ (ap (λ left. ids_in c.loop-node.ids ++ safe_ids app c.args.graph.now left) (sym steps) ∙ c.loop-node.invariant.passed)).0 safe;
-      there = (subst (AllByRecursion (HasNode c.args.graph.now)) steps c.loop-node.invariant.there).1;
+      there = (subst (AllByRecursion (Contains (sources_of c.args.graph.now))) steps c.loop-node.invariant.there).1;
       known = known.1;
+      told = c.loop-node.invariant.told;
     }
 
-pub safe-requires-clause-fit : goal.safe-requires-clause-fit
-safe-requires-clause-fit g c =
-    fit_at (g.A.App.meaning c.args.app.now) c.args.graph.now c.node_laws.ensures.ids_find c.in-Some.node c.task.result.now c.task.ensures c.requires.fit
+pub is_safe-requires-clause-fixed : goal.is_safe-requires-clause-fixed
+is_safe-requires-clause-fixed g c κs within = subst (HaveFixedSets (g.A.App.meaning c.args.app.now)) (sym c.of-pending.ensures) c.requires.fixed
 
-pub returns : goal.returns
-returns g c =
+pub loop-node-preserved-in-Continue-branch-3 : goal.loop-node-preserved-in-Continue-branch-3
+loop-node-preserved-in-Continue-branch-3 g c =
+    let app = g.A.App.meaning c.args.app.now in
+    let graph = c.args.graph.now in
+    let steps = c.in-Some.ensures.steps in
+    let left = subst (AllByRecursion (Contains (sources_of graph))) steps c.loop-node.invariant.there in
+    let safe = answer_is app graph c.source_laws.ensures.nodes c.sources-node-items.ensures.graph c.in-Some.node left.0 c.of-pending.result c.of-pending.ensures c.is_safe.result c.is_safe.ensures.answer ∙ c.if-is_safe.true in
+    record {
+      passed = ap (λ ids. ids ++ safe_ids app graph c.next.new.self) c.in_ok-push-2.ensures.ok
+          ∙ (next_passed app graph (ids_in c.loop-node.ids) c.in-Some.node c.next.new.self _ (ap (λ left. ids_in c.loop-node.ids ++ safe_ids app graph left) (sym steps) ∙ c.loop-node.invariant.passed)).0 safe;
+      there = left.1;
+      known = c.loop-node.invariant.known;
+      told = subst (λ nodes. g.A.App.tells c.args.app.now c.is_safe.new.horizon (tasks_of nodes)) c.of-pending.ensures c.is_safe.ensures.told;
+    }
+
+pub returns-clause-ids : goal.returns-clause-ids
+returns-clause-ids g c =
     let app = g.A.App.meaning c.args.app.now in
     let none : c.loop-node.node-iterator ≡ [] = c.in-None.ensures.steps.0 in
     sym (append-nil (ids_in c.loop-node.ids)) ∙ ap (λ ids. ids_in c.loop-node.ids ++ safe_ids app c.args.graph.now ids) (sym none)

@@ -1,4 +1,4 @@
-use Rattle.std.proofs.Common.{sym, ap}
+use Rattle.std.proofs.Common.{refl, ap}
 use Rattle.std.proofs.lemmas.Result.{IfOk-weaker}
 use Rattle.kdg_graph.specs.Rewrite.{with_sets, without}
 use Rattle.graph_update.proofs.FixedSets.{others_same}
@@ -8,7 +8,7 @@ use Rattle.graph_update.proofs.rewriting.set_changes.Goals as goal
 pub returns-then-sets_are_fixed-clause-same : goal.returns-then-sets_are_fixed-clause-same
 returns-then-sets_are_fixed-clause-same g c node is =
     others_same (g.A.App.meaning c.args.app.now) c.node_laws.ensures.have_ids c.args.store.now c.args.graph.now c.requires.graph
-    (c.requires.sets (sym c.if-sets_are_fixed.ensures) c.args.store.now) node c.args.ended c.new.result.items c.new.ensures.items
+    (c.requires.sets (c.if-sets_are_fixed.ensures.known refl) c.args.store.now) node c.args.ended c.new.result.items c.new.ensures.items
 
 pub returns-clause-changes : goal.returns-clause-changes
 returns-clause-changes g c =

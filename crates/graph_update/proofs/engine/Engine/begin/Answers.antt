@@ -25,7 +25,8 @@ invariant_of-result g c =
           (c.begin_laws.ensures.sound c.args.app.now) c.requires.fit_cells c.requires.fit_first few c.requires.budget,
       some_are_ready app _ c.new-2.result [] c.new-2.ensures.ids c.new-2.ensures.current tt,
       begun_fixed app c.args.cells.items _ c.args.first _ c.args.budget _ _ _ _ values first c.in_ok-store.ensures c.in_ok-graph.ensures.nodes c.new.ensures (ap length first)
-          (c.begin_laws.ensures.sound c.args.app.now) c.requires.fit_cells c.requires.fit_first few (c.lawful.ensures c.args.app.now),
+          (c.begin_laws.ensures.sound c.args.app.now) c.requires.fit_cells c.requires.fit_first few,
+      c.in_ok-horizon.ensures _,
     )
 
 pub returns-clause-begun : goal.returns-clause-begun

@@ -10,6 +10,8 @@ use Rattle.graph_update.proofs.ClearClaims.{claimed, has_node, kept_after, may_r
 use Rattle.graph_update.proofs.FixedSets.{fixed_started}
 use Rattle.graph_update.proofs.Picked.{pick_is}
 use Rattle.graph_update.proofs.ReadyIds.{all_are_ready}
+use Rattle.graph_update.proofs.Sources.{kept_covered}
+use Rattle.graph_update.proofs.Touched.{told_started}
 use Rattle.graph_update.proofs.engine.Engine.claim.Goals as goal
 
 none_where_not : {X : Type 0} (found : Option X) → ((x : X) → found ≡ Some x → ⊥) → found ≡ None
@@ -35,6 +37,9 @@ returns-in_default-picked-clause-answer g c =
       refl,
     )
 
+pub look-requires-clause-covered : goal.look-requires-clause-covered
+look-requires-clause-covered g c κs within = kept_covered (g.A.App.meaning c.self.inside.app.now) _ c.self.invariant.0
+
 pub task-requires : goal.task-requires
 task-requires g c =
     has_node (c.basis.ensures c.self.inside.app.now) _ c.self.invariant.0.jobs c.self.invariant.0.values c.self.invariant.0.sound c.args.pick c.in-Some-picked.node (pick_is (g.A.App.meaning c.self.inside.app.now) c.self.inside.graph c.args.pick (ids_in c.look.new.self.ids) (Some c.in-Some-picked.node) c.in_ok-look.ensures.all c.in-Some-picked.ensures.id)
@@ -54,6 +59,7 @@ invariant_of-self-2 g c = (
       (pick_is (g.A.App.meaning c.self.inside.app.now) c.self.inside.graph c.args.pick (ids_in c.look.new.self.ids) (Some c.in-Some-picked.node) c.in_ok-look.ensures.all c.in-Some-picked.ensures.id)
       (ids_in c.look.new.self.ids) (ids_in c.take-2.new.self.ids) c.in_ok-look.ensures.all (c.take-2.ensures.ids (c.args.pick % length (ids_in c.look.new.self.ids)) c.in-Some-picked.ensures.spot) c.mark_running.new.self c.mark_running.ensures.marked),
   fixed_started (g.A.App.meaning c.self.inside.app.now) c.in-Some-picked.node c.self.inside.graph c.mark_running.new.self c.mark_running.ensures.marked c.self.invariant.2,
+  told_started (g.A.App.tells c.self.inside.app.now c.look.new.horizon) (c.basis.ensures c.self.inside.app.now).lower.starts_keep_tasks c.in-Some-picked.node c.self.inside.graph c.mark_running.new.self c.mark_running.ensures.marked c.in_ok-look.ensures.told,
 )
 
 pub returns-clause-answer : goal.returns-clause-answer

@@ -11,6 +11,7 @@ invariant_of-self g c =
           c.take_below.ensures.rest c.take_below.ensures.unchanged,
       c.self.invariant.1,
       c.self.invariant.2,
+      c.self.invariant.3,
     )
 
 pub invariant_of-self-in-None : goal.invariant_of-self-in-None
@@ -21,4 +22,5 @@ invariant_of-self-in-None g c =
           c.take_all.ensures.rest c.take_all.ensures.unchanged,
       c.self.invariant.1,
       c.self.invariant.2,
+      c.self.invariant.3,
     )

@@ -15,12 +15,12 @@ returns-then-created-limit-clause-refused_sound g c =
     over_sound g.A.App.meaning _ _ c.args.done c.self.view_is (c.drain_laws.ensures.sound c.args.self.now.app) c.or-self-inside.result
     (c.or-self-inside.ensures ∙ ap (λ (children : _). option_or c.self.inside.over (Some (cause.Budget (c.self.inside.created + length children) c.self.inside.limit))) c.items.ensures.all)
 
-pub end_running-requires-send-A-Val : goal.end_running-requires-send-A-Val
-end_running-requires-send-A-Val g c κs within =
+pub end_running-requires : goal.end_running-requires
+end_running-requires g c κs within =
     let is = subst (λ (done : Done _). IsDone (g.A.App.meaning c.args.self.now.app) c.args.self.now.progress done) (sym (same_done c.args.self.now.progress c.args.done c.requires)) c.requires in
     let created = ap (λ (children : _). c.self.inside.created + length children) c.items.ensures.all ∙ ap (λ (engine : EngineState _ _). engine.progress.created + length c.args.done.effect.children) c.self.view_is in
     let below = subst (λ (engine : EngineState _ _). c.self.inside.created + length c.items.result.now ≤ engine.progress.limit) c.self.view_is c.if-created-limit.false in
-    (within.0, (within.1.0, (within.1.1, (c.type_bounds.send-A-Val, (is, (created, below))))))
+    (within.0, (within.1.0, (within.1.1.0, (within.1.1.1, (c.type_bounds.send-A-Val, (c.type_bounds.send-A-Horizon, (is, (created, below))))))))
 
 pub returns-in-Ok-clause-finished : goal.returns-in-Ok-clause-finished
 returns-in-Ok-clause-finished g c =

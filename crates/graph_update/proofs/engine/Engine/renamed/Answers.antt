@@ -1,8 +1,9 @@
-use Rattle.std.proofs.Common.{[], length, sym, ap, subst, arith}
+use Rattle.std.proofs.Common.{[], length, sym, ap, subst, ◌∙◌, arith}
+use Rattle.kdg_graph.specs.Nodes.{tasks_of}
 use Rattle.graph_update.specs.Progress.{EngineState}
 use Rattle.graph_update.specs.StandingLaws.{NoneRuns}
 use Rattle.graph_update.proofs.ReadyIds.{some_are_ready}
-use Rattle.graph_update.proofs.Renamed.{engine_stays_sound, is_renamed, own_few, own_fit, own_home, own_many, own_sound, stays_fixed, stays_kept}
+use Rattle.graph_update.proofs.Renamed.{engine_stays_sound, is_renamed, own_few, own_fit, own_home, own_many, own_names, own_sound, stays_fixed, stays_kept}
 use Rattle.graph_update.proofs.engine.Engine.renamed.Goals as goal
 
 pub put_first-requires-clause-home : goal.put_first-requires-clause-home
@@ -34,10 +35,19 @@ returns-in_err-graph-clause-steps g c =
     c.in_ok-tasks.ensures.tasks c.in_ok-first.ensures c.deref.ensures.value in
     omega (arith, many, ap (λ (engine : EngineState _ _). length engine.progress.nodes) c.self.view_is, c.put_first.ensures.steps)
 
+pub returns-in_err-horizon-clause-steps : goal.returns-in_err-horizon-clause-steps
+returns-in_err-horizon-clause-steps g c =
+    let idle = subst (λ (engine : EngineState _ _). NoneRuns engine.progress.nodes) (sym c.self.view_is) c.requires.idle in
+    let many = own_many (c.basis.ensures c.self.inside.app.now) _ c.self.invariant.0 idle c.in_ok-tasks.tasks.items c.in_ok-first.first.items c.deref.result.now
+    c.in_ok-tasks.ensures.tasks c.in_ok-first.ensures c.deref.ensures.value in
+    omega (arith, many, ap (λ (engine : EngineState _ _). length engine.progress.nodes) c.self.view_is, c.put_first.ensures.steps)
+
 pub invariant_of-result : goal.invariant_of-result
 invariant_of-result g c =
     let app = g.A.App.meaning c.self.inside.app.now in
-    let idle = subst (λ (engine : EngineState _ _). NoneRuns engine.progress.nodes) (sym c.self.view_is) c.requires.idle in (
+    let idle = subst (λ (engine : EngineState _ _). NoneRuns engine.progress.nodes) (sym c.self.view_is) c.requires.idle in
+    let names = own_names (c.basis.ensures c.self.inside.app.now) _ c.self.invariant.0 idle c.in_ok-tasks.tasks.items c.in_ok-first.first.items c.deref.result.now
+    c.in_ok-tasks.ensures.tasks c.in_ok-first.ensures c.deref.ensures.value c.naming_laws.ensures in (
       stays_kept (c.basis.ensures c.self.inside.app.now) _ c.self.invariant.0 idle c.in_ok-tasks.tasks.items c.in_ok-first.first.items c.deref.result.now
           c.in_ok-tasks.ensures.tasks c.in_ok-first.ensures c.deref.ensures.value c.in_ok-graph.graph c.new.result.entries c.in_ok-graph.ensures.nodes c.new.ensures
           (c.renaming_laws.ensures c.self.inside.app.now),
@@ -45,6 +55,8 @@ invariant_of-result g c =
       stays_fixed (c.basis.ensures c.self.inside.app.now) _ c.self.invariant.0 idle c.in_ok-tasks.tasks.items c.in_ok-first.first.items c.deref.result.now
           c.in_ok-tasks.ensures.tasks c.in_ok-first.ensures c.deref.ensures.value c.in_ok-graph.graph c.new.result.entries c.in_ok-graph.ensures.nodes c.new.ensures
           (c.renaming_laws.ensures c.self.inside.app.now),
+      subst (g.A.App.tells c.self.inside.app.now c.in_ok-horizon.horizon) (names.are_first ∙ sym c.in_ok-graph.ensures.nodes.tasks)
+          (c.in_ok-horizon.ensures (tasks_of c.self.inside.graph) names.name names.has_name names.naming names.have_names c.self.invariant.3),
     )
 
 pub returns-clause-sound : goal.returns-clause-sound

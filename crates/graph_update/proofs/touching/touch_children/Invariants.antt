@@ -1,0 +1,13 @@
+use Rattle.std.proofs.Common.{◌≡◌, List, drop}
+use Rattle.task_order.specs.declared.key.Key.{Key}
+use Rattle.task_order.specs.declared.task.Task.{Task}
+use Rattle.task_order.specs.TaskList.{put_all}
+use Rattle.kdg_graph.specs.Rewrite.{fresh_tasks}
+use Rattle.graph_update.specs.Events.{fresh_from}
+use Rattle.graph_update.proofs.touching.touch_children.Given as goal
+
+-- it tells of some tasks, with which the children that are left make up what all of them make of the first
+abbrev pub invariant-loop-child : goal.invariant-loop-child
+invariant-loop-child g l = (parent : Key) (tasks : List Task) → g.A.App.tells l.app l.fn.horizon tasks →
+    (some : List Task) × g.A.App.tells l.app l.horizon some
+    × (put_all (fresh_tasks (fresh_from parent l.child-index (drop l.child-index l.children))) some ≡ put_all (fresh_tasks (fresh_from parent 0 l.children)) tasks)
