@@ -1,5 +1,5 @@
 -- Legs of a run: one more round, the end of the last one, and what the next one begins with.
-use Rattle.std.proofs.Common.{◌≡◌, ◌≢◌, ◌+◌, ◌++◌, ℕ, suc, List, [], refl, sym, ap, subst, ◌∙◌, add-one, arith}
+use Rattle.std.proofs.Common.{◌≡◌, ◌≢◌, ◌+◌, ◌++◌, ℕ, suc, List, [], refl, sym, ap, subst, ◌∙◌, add-one, append_assoc, arith}
 use Rattle.cell_store.specs.Values.{values_of}
 use Rattle.kdg_graph.specs.Nodes.{tasks_of}
 use Rattle.output_log.specs.Entries.{joined_texts}
@@ -37,24 +37,22 @@ module _ {V : Type 0} {app : Application V} where
       starts next (values_of next.cells) (subst (IsSound app next []) (home next rest.values sound).1 sound) (ap (λ (p : Progress V). p.over) renamed.after ∙ rest.come.over)
 
   -- where no task is pending, the last leg has come to the end
-  pub legs_end : RestWithoutNodesIsTheEnd app → RoundsAreTaken app → (start now : Progress V) (text : List ℕ) (rounds : ℕ) → GoesOnFrom app start text rounds now →
-      BeginsAtRest app now → now.nodes ≡ [] → (finals : Finals V) →
-      finals.store ≡ now.cells → finals.text ≡ text ++ joined_texts now.log → finals.count ≡ now.ended → IsRoundsEnd app start finals rounds
-  legs_end ends taken start now text rounds goes_on rest empty finals store texts count =
-      let come = ends now now (values_of now.cells) (state_at_rest now) [] rest empty in
-      let own : Finals V = record { store = finals.store; text = joined_texts now.log; count = finals.count } in
-      let all : rounds + 0 ≡ rounds = omega arith in
-      subst (IsRoundsEnd app start finals) all
-      (goes_on.ends own finals 0
+  pub legs_end : RestWithoutNodesIsTheEnd app → RoundsAreTaken app → (start middle now : Progress V) (text more : List ℕ) (rounds others : ℕ) → GoesOnFrom app start text rounds middle →
+      IsAtRest app middle (values_of middle.cells) (state_at_rest now) more now → LeadsByRounds app others (state_at_rest middle) (state_at_rest now) → now.nodes ≡ [] →
+      (finals : Finals V) → finals.store ≡ now.cells → finals.text ≡ (text ++ more) ++ joined_texts now.log → finals.count ≡ now.ended → IsRoundsEnd app start finals (rounds + others)
+  legs_end ends taken start middle now text more rounds others goes_on rest leads empty finals store texts count =
+      let come = ends middle now (values_of middle.cells) (state_at_rest now) more rest empty in
+      let own : Finals V = record { store = finals.store; text = more ++ joined_texts now.log; count = finals.count } in
+      goes_on.ends own finals others
       (record {
         last = come.last;
         is_end = come.is_end;
         store = store ∙ come.home;
         text = come.texts;
         count = count ∙ come.ended;
-        rounds_are = taken 0 (state_at_rest now) (state_at_rest now) refl (ap tasks_of empty);
+        rounds_are = taken others (state_at_rest middle) (state_at_rest now) leads (ap tasks_of empty);
       })
-      (record { store = refl; text_is = texts; count = refl }))
+      (record { store = refl; text_is = texts ∙ append_assoc text more (joined_texts now.log); count = refl })
 
   -- what ends a leg too early ends the run so
   pub leg_fails : (start now : Progress V) (text : List ℕ) (rounds : ℕ) → GoesOnFrom app start text rounds now → (why : RunFault) → IsRunFault app now why → IsRunFault app start why

@@ -6,7 +6,7 @@ use Rattle.task_order.specs.Key.{end}
 use Rattle.cell_store.specs.Values.{homes, values_of}
 use Rattle.kdg_graph.specs.Nodes.{tasks_of}
 use Rattle.output_log.specs.Entries.{Entry, ShareNoKey, joined_by_key, joined_texts, with_texts}
-use Rattle.app_laws.specs.Applications.{Application}
+use Rattle.app_laws.specs.Applications.{Application, PathsAreIgnored}
 use Rattle.app_laws.specs.declared.serial_run.Finals.{Finals}
 use Rattle.app_laws.specs.Execution.{Execution}
 use Rattle.commuting.specs.Clear.{IsReady}
@@ -70,7 +70,7 @@ module _ {V : Type 0} (app : Application V) where
 module _ {V : Type 0} {app : Application V} (basis : Basis app) where
   -- ---- where pending tasks become first tasks
 
-  module _ (start now next : Progress V) (state : State V) (text : List ℕ) (rest : IsAtRest app start (values_of start.cells) state text now) (renamed : IsRenamed app now next) where
+  module _ (start now next : Progress V) (state : State V) (text : List ℕ) (ignored : PathsAreIgnored app) (rest : IsAtRest app start (values_of start.cells) state text now) (renamed : IsRenamed app now next) where
     abbrev here : State V
     here = whole_state now rest.values
 
@@ -90,7 +90,7 @@ module _ {V : Type 0} {app : Application V} (basis : Basis app) where
     comes : ComesToSame app here (state_at_rest next)
     comes =
         subst (ComesToSame app here) (ap (state_of rest.values) (sym renamed.nodes.tasks) ∙ next_at_rest)
-        (basis.come_to_same here rest.come.stands.ready renamed.first renamed.listed)
+        (basis.come_to_same ignored here rest.come.stands.ready renamed.first renamed.listed)
 
     same_ended : next.ended ≡ now.ended
     same_ended = ap (λ (progress : Progress V). progress.ended) renamed.after
@@ -167,8 +167,8 @@ module _ {V : Type 0} {app : Application V} (basis : Basis app) where
           }
 
   pub renamings_go_on : RenamingsGoOn app
-  renamings_go_on start now next state text rounds rest leads silent renamed = record {
-    ends = ends start now next state text rest renamed rounds leads silent;
-    too_long = too_long start now next state text rest renamed;
-    limit = same_limit start now next state text rest renamed;
+  renamings_go_on start now next state text rounds ignored rest leads silent renamed = record {
+    ends = ends start now next state text ignored rest renamed rounds leads silent;
+    too_long = too_long start now next state text ignored rest renamed;
+    limit = same_limit start now next state text ignored rest renamed;
   }

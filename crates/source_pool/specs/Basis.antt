@@ -5,7 +5,7 @@ use Rattle.rw_sets.specs.Laws as sets
 use Rattle.cell_store.specs.Laws as cells
 use Rattle.output_log.specs.Laws as logs
 use Rattle.kdg_graph.specs.Laws as graph
-use Rattle.app_laws.specs.Applications.{Application, IsLawful}
+use Rattle.app_laws.specs.Applications.{Application, IsLawful, PathsAreIgnored}
 use Rattle.commuting.specs.Renaming.{ListedTasksComeToSame}
 use Rattle.commuting.specs.Rounds.{ClearTasksAreListed}
 use Rattle.commuting.specs.Standing.{StartsStandForThemselves, ClearTasksKeepStanding, NothingPendingIsTheEnd, RunsLogLater, RunsLogNewKeys, TooManyTasksNeverEnd}
@@ -23,7 +23,7 @@ pub record Basis {V : Type 0} (app : Application V) : Type 0 where
   pub too_many : TooManyTasksNeverEnd app
   pub log_later : RunsLogLater app
   pub log_new_keys : RunsLogNewKeys app
-  pub come_to_same : ListedTasksComeToSame app
+  pub come_to_same : PathsAreIgnored app → ListedTasksComeToSame app
   pub claims_keep_sound : ClaimsKeepSound app
   pub finishes_keep_sound : FinishesKeepSound app
   pub finishes_act : FinishesActOnWhole app

@@ -3,7 +3,7 @@ use Rattle.std.specs.Prelude.{◌≡◌, ℕ, ◌+◌, List, [], ◌++◌, None}
 use Rattle.cell_store.specs.Values.{values_of}
 use Rattle.output_log.specs.Entries.{with_texts}
 use Rattle.app_laws.specs.declared.serial_run.Finals.{Finals}
-use Rattle.app_laws.specs.Applications.{Application}
+use Rattle.app_laws.specs.Applications.{Application, PathsAreIgnored}
 use Rattle.commuting.specs.States.{State}
 use Rattle.graph_update.specs.Progress.{Progress}
 use Rattle.graph_update.specs.Renaming.{IsRenamed}
@@ -34,8 +34,8 @@ module _ {V : Type 0} (app : Application V) where
   LegsGoOn = (start middle now : Progress V) (text more : List ℕ) (rounds others : ℕ) →
       GoesOnFrom start text rounds middle → GoesOnFrom middle more others now → GoesOnFrom start (text ++ more) (rounds + others) now
 
-  -- after some rounds, where no text is logged that isn't drained, the pending tasks may become first tasks
+  -- after some rounds, where paths are ignored and no text is logged that isn't drained, the pending tasks may become first tasks
   abbrev pub RenamingsGoOn : Type 0
-  RenamingsGoOn = (start now next : Progress V) (state : State V) (text : List ℕ) (rounds : ℕ) →
+  RenamingsGoOn = (start now next : Progress V) (state : State V) (text : List ℕ) (rounds : ℕ) → PathsAreIgnored app →
       IsAtRest app start (values_of start.cells) state text now → LeadsByRounds app rounds (state_at_rest start) state →
       with_texts now.log ≡ [] → IsRenamed app now next → GoesOnFrom start text rounds next

@@ -1,5 +1,6 @@
 ghost use Rattle.std.specs.Prelude.{◌≡◌, ◌≢◌, ◌+◌, ◌<◌, ◌≤◌, ◌^◌, [], ◌++◌, None, IsTrue, IfOk, IfErr, OnOk};
 ghost use Rattle.cell_store.specs.Values.{values_of};
+ghost use Rattle.app_laws.specs.Applications.{PathsAreIgnored};
 ghost use Rattle.commuting.specs.Rounds.{after_round};
 ghost use Rattle.graph_update.specs.Progress.{Progress};
 ghost use Rattle.output_log.specs.Entries.{with_texts};
@@ -14,7 +15,7 @@ use crate::finishing::end_all;
 use crate::laws::{drawing_laws, leg_laws, rounds_laws};
 use crate::performing::{perform_round, stays_alone};
 use crate::round_lists::RoundLists;
-use app_laws::{App, Finals};
+use app_laws::{App, Finals, new_paths_pay};
 use cell_store::Held;
 use graph_update::{Engine, FinishFault, OverCause, rest_laws};
 use kdg_text::{NoRoom, Steps, Text};
@@ -23,7 +24,6 @@ use std::alloc::Global;
 use std::marker::Brand;
 use std::sync::ledger::{Blank, Ledger};
 use std::thread::Threads;
-use task_order::Path;
 
 /// Why a run in rounds did not end.
 #[derive(Clone, Copy, Debug, PartialEq, Eq)]
@@ -127,6 +127,7 @@ fn counted_rounds<'a, R: Threads + Sync, A: App + Sync, G: Gate + Sync, L: Ledge
     requires workers { 1 ≤ workers }
     requires rest { BeginsAtRest (A.meaning engine.app) start }
     requires begins { engine.progress ≡ start }
+    requires limited { start.limit < 2 ^ 64 }
     ensures end { IfOk result (λ run. IsRoundsEnd (A.meaning engine.entry.app) start run.0 run.1) }
     ensures fit { IfOk result (λ run. (A.meaning engine.entry.app).is_fit_cells (values_of run.0.store)) }
     ensures fault { IfErr result (IsRunFault (A.meaning engine.entry.app) start) }
@@ -140,7 +141,7 @@ fn counted_rounds<'a, R: Threads + Sync, A: App + Sync, G: Gate + Sync, L: Ledge
     let mut lists = RoundLists::new(alloc, engine.app().tasks_are_light());
     let mut text = Text::new(alloc);
     let mut rounds = 0u64;
-    while engine.graph().least().is_some() {
+    loop {
         let mut more = Text::new(alloc);
         rounds += play_leg(
             rt,
@@ -152,6 +153,9 @@ fn counted_rounds<'a, R: Threads + Sync, A: App + Sync, G: Gate + Sync, L: Ledge
             &mut more,
         )?;
         text = joined(text, more)?;
+        if engine.graph().least().is_none() {
+            break;
+        }
         engine = engine.renamed(&mut steps)?;
     }
     let mut finals = engine.end()?;
@@ -171,9 +175,9 @@ fn joined(text: Text, more: Text) -> Result<Text, NoRoom>
     Ok(text)
 }
 
-/// Plays a leg of an execution in which nothing runs and some task is pending: rounds until none is,
-/// or until the paths are to be short again. Its text comes into one that is empty. The answer is the
-/// number of rounds.
+/// Plays a leg of an execution in which nothing runs: rounds until no task is pending, or until the
+/// paths are to be short again. Its text comes into one that is empty. The answer is the number of
+/// rounds.
 fn play_leg<R: Threads + Sync, A: App + Sync, G: Gate + Sync, L: Ledger>(
     rt: &R,
     engine: &mut Engine<'_, A>,
@@ -189,53 +193,47 @@ fn play_leg<R: Threads + Sync, A: App + Sync, G: Gate + Sync, L: Ledger>(
     requires begins { engine.old.progress ≡ start }
     requires limited { start.limit < 2 ^ 64 }
     requires text { text.old ≡ [] }
-    requires some { engine.old.progress.nodes ≢ [] }
     ensures app { engine.new.app ≡ engine.old.app }
     ensures rest { OnOk result (IsAtRest (A.meaning engine.old.app) start (values_of start.cells) (state_at_rest engine.new.progress) text.new engine.new.progress) }
     ensures leads { IfOk result (λ rounds. LeadsByRounds (A.meaning engine.old.app) rounds (state_at_rest start) (state_at_rest engine.new.progress)) }
-    ensures silent { OnOk result (with_texts engine.new.progress.log ≡ []) }
+    ensures ignored { OnOk result (engine.new.progress.nodes ≢ [] → PathsAreIgnored (A.meaning engine.old.app)) }
+    ensures silent { OnOk result (engine.new.progress.nodes ≢ [] → with_texts engine.new.progress.log ≡ []) }
     ensures ended { IfOk result (λ rounds. start.ended + rounds ≤ engine.new.progress.ended) }
-    ensures some_round { IfOk result (λ rounds. 0 < rounds) }
+    ensures some_round { IfOk result (λ rounds. engine.new.progress.nodes ≢ [] → 0 < rounds) }
     ensures fault { IfErr result (IsRunFault (A.meaning engine.old.app) start) }
 {
     rounds_laws::<A>();
     let ended = engine.ended();
     let mut rounds = 0u64;
-    loop {
+    while engine.graph().least().is_some() {
         play_round(rt, engine, picks, workers, lists, steps, text)?;
         rounds += 1;
-        if ends_leg(engine, ended) {
+        if needs_new_paths(engine, picks.gate(), ended) {
             return Ok(rounds);
         }
     }
+    Ok(rounds)
 }
 
-/// Whether a leg ends that began when so many tasks had ended: no task is pending, or else so many have
-/// ended since that new paths take little beside them, the earliest one's path is long, and no text is
-/// logged that waits for a task.
-fn ends_leg<A: App>(engine: &Engine<'_, A>, ended: u64) -> bool
-    requires drained { engine.now.progress.nodes ≡ [] → engine.now.progress.log ≡ [] }
-    ensures ended { engine.now.progress.nodes ≡ [] → IsTrue result }
+/// Whether pending tasks are to get new paths in a leg that began when so many tasks had ended. So it
+/// is only where nobody sees a path: the application ignores them, and the gate is open. Then so many
+/// tasks have ended since that new paths take little beside them, the earliest one's path is long, and
+/// no text is logged that waits for a task.
+fn needs_new_paths<A: App, G: Gate>(engine: &Engine<'_, A>, gate: &G, ended: u64) -> bool
+    ensures ignored { IsTrue result → PathsAreIgnored (A.meaning engine.now.app) }
     ensures silent { IsTrue result → with_texts engine.now.progress.log ≡ [] }
 {
+    if !(gate.is_open() && engine.app().ignores_paths()) {
+        return false;
+    }
     match engine.graph().least() {
         Some(least) => {
-            is_enough(engine.ended().saturating_sub(ended), engine.graph().len())
-                && is_long(&engine.graph().task(least).key.path)
+            new_paths_pay(engine.ended().saturating_sub(ended), engine.graph().len())
+                && engine.graph().task(least).key.path.is_long()
                 && engine.is_silent()
         }
-        None => true,
+        None => false,
     }
-}
-
-/// Whether a leg of so many tasks may end where so many are pending, of which each gets a new path.
-fn is_enough(tasks: u64, pending: usize) -> bool {
-    tasks / 32 >= (pending as u64).saturating_add(2)
-}
-
-/// Whether a path is kept as eight bytes or more.
-fn is_long(path: &Path) -> bool {
-    path.beginning() % 256 != 0
 }
 
 /// Plays one round of an execution in which nothing runs: draws the jobs of all clear tasks, has
@@ -258,7 +256,6 @@ fn play_round<R: Threads + Sync, A: App + Sync, G: Gate + Sync, L: Ledger>(
     requires some { engine.old.progress.nodes ≢ [] }
     ensures app { engine.new.app ≡ engine.old.app }
     ensures rest { OnOk result (IsAtRest (A.meaning engine.old.app) from.start (values_of from.start.cells) (after_round (A.meaning engine.old.app) from.state) text.new engine.new.progress) }
-    ensures drained { OnOk result (engine.new.progress.nodes ≡ [] → engine.new.progress.log ≡ []) }
     ensures ended { OnOk result (engine.old.progress.ended < engine.new.progress.ended) }
     ensures fault { IfErr result (IsRunFault (A.meaning engine.old.app) from.start) }
 {

@@ -1,5 +1,5 @@
 use mir.Syntax.{of_param}
-use Rattle.std.proofs.Common.{◌<◌, refl, rules, arith}
+use Rattle.std.proofs.Common.{◌<◌, ◌^◌, refl, rules, arith}
 use Rattle.cell_store.specs.Values.{values_of}
 use Rattle.source_pool.proofs.rounds.run_rounds.Goals as goal
 
@@ -9,6 +9,7 @@ counted_rounds-requires g c κs within =
     let kept = c.graph-graph.ensures.kept in
     let sound = c.rest_laws.ensures.idle c.args.engine.app progress kept.jobs kept.values kept.sound c.requires.at_rest in
     let rest = c.drawing_laws.ensures.starts c.args.engine.app progress (values_of progress.cells) sound c.requires.not_over in
+    let limited : progress.limit < 2 ^ 64 = omega (arith, kept.limited) in
     let some : 0 < c.new-blank.result.parts = omega (arith, c.new-blank.ensures) in
     let sent = c.type_bounds.send-A-Val in (
       within.0,
@@ -22,7 +23,7 @@ counted_rounds-requires g c κs within =
               within.1.1.1,
               (
                 record { owned = sent.owned; leaving = λ k. sent.leaving (λ _. k (of_param 4)) },
-                (c.type_bounds.sync-R, (c.type_bounds.sync-A, (c.type_bounds.sync-G, (refl, (refl, (some, (c.requires.workers.0, (rest, refl)))))))),
+                (c.type_bounds.sync-R, (c.type_bounds.sync-A, (c.type_bounds.sync-G, (refl, (refl, (some, (c.requires.workers.0, (rest, (refl, limited))))))))),
               ),
             ),
           ),
