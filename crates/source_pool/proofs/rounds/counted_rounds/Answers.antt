@@ -13,8 +13,8 @@ use Rattle.source_pool.proofs.EngineAtRest.{left_node, no_node}
 use Rattle.source_pool.proofs.LegRounds.{leg_fails, legs_end, next_begins}
 use Rattle.source_pool.proofs.rounds.counted_rounds.Goals as goal
 
-pub loop-alloc-init : goal.loop-alloc-init
-loop-alloc-init g c =
+pub loop-more-init : goal.loop-more-init
+loop-more-init g c =
     let app = g.A.App.meaning c.args.engine.app in
     let rest = c.requires.1.1.1.1.1.1.1.1.1.1.1.1.1.0 in
     let begins = c.requires.1.1.1.1.1.1.1.1.1.1.1.1.1.1.0 in
@@ -30,7 +30,7 @@ pub play_leg-requires : goal.play_leg-requires
 play_leg-requires g c κs within =
     let bounds = c.requires.1.1.1.1.1 in
     let limited = c.requires.1.1.1.1.1.1.1.1.1.1.1.1.1.1.1 in
-    let at = c.loop-alloc in
+    let at = c.loop-more in
     let now = at.engine.progress in
     let rest = subst (λ (app : g.row.A.Denot). BeginsAtRest (g.A.App.meaning app) now) (sym at.invariant.app) at.invariant.rest in
     let limited : now.limit < 2 ^ 64 = omega (arith, at.invariant.goes_on.limit, limited) in (
@@ -52,7 +52,7 @@ play_leg-requires g c κs within =
 
 pub returns-in_err-rounds-clause-fault : goal.returns-in_err-rounds-clause-fault
 returns-in_err-rounds-clause-fault g c =
-    let at = c.loop-alloc in
+    let at = c.loop-more in
     let now = at.engine.progress in
     let fault = subst (λ (app : g.row.A.Denot). IsRunFault (g.A.App.meaning app) now c.in_err-rounds.field-0.0) at.invariant.app c.in_err-rounds.ensures.fault in
     let e = err_from_is_err_and c.from_residual.result c.from_residual.ensures.1 in
@@ -66,7 +66,7 @@ returns-in_err-text-clause-fault g c =
 pub renamed-requires-clause-idle : goal.renamed-requires-clause-idle
 renamed-requires-clause-idle g c κs within =
     let app = c.args.engine.app in
-    let rest = subst (λ (app : g.row.A.Denot). IsAtRest (g.A.App.meaning app) c.loop-alloc.engine.progress (values_of c.loop-alloc.engine.progress.cells) (state_at_rest c.play_leg.new.engine.progress) c.play_leg.new.text c.play_leg.new.engine.progress) c.loop-alloc.invariant.app c.in_ok-rounds.ensures.rest in
+    let rest = subst (λ (app : g.row.A.Denot). IsAtRest (g.A.App.meaning app) c.loop-more.engine.progress (values_of c.loop-more.engine.progress.cells) (state_at_rest c.play_leg.new.engine.progress) c.play_leg.new.text c.play_leg.new.engine.progress) c.loop-more.invariant.app c.in_ok-rounds.ensures.rest in
     (c.rest_laws.ensures.no_jobs app c.play_leg.new.engine.progress [] rest.values rest.come.sound).0 refl
 
 pub renamed-requires-clause-silent : goal.renamed-requires-clause-silent
@@ -79,12 +79,12 @@ pub end-requires-after_bounds : goal.end-requires-after_bounds
 end-requires-after_bounds g c κs within =
     no_node c.play_leg.new.engine.progress.nodes c.least.result (c.least.ensures.least ∙ ap least_of c.graph.ensures.nodes) (sym c.is_none.ensures ∙ c.if-is_none.true)
 
-pub loop-alloc-preserved : goal.loop-alloc-preserved
-loop-alloc-preserved g c =
+pub loop-more-preserved : goal.loop-more-preserved
+loop-more-preserved g c =
     let laws = c.rounds_laws.ensures in
     let legs = c.leg_laws.ensures in
     let app = c.args.engine.app in
-    let at = c.loop-alloc in
+    let at = c.loop-more in
     let old = at.engine.progress in
     let now = c.play_leg.new.engine.progress in
     let next = c.in_ok-engine.engine.progress in
@@ -110,7 +110,7 @@ pub returns-clause-end : goal.returns-clause-end
 returns-clause-end g c =
     let laws = c.rounds_laws.ensures in
     let app = c.args.engine.app in
-    let at = c.loop-alloc in
+    let at = c.loop-more in
     let old = at.engine.progress in
     let now = c.play_leg.new.engine.progress in
     let more = c.play_leg.new.text in
