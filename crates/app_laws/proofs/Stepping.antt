@@ -11,7 +11,7 @@ use Rattle.output_log.specs.Entries.{joined_texts}
 use Rattle.app_laws.specs.Execution.{Operator, children_from, first_from, start_of, after_steps, run_to_end, created_after}
 use Rattle.app_laws.specs.Laws.{AllFit, NoneEarlier, IsFit}
 use Rattle.app_laws.specs.Lower.{LowerLaws}
-use Rattle.app_laws.specs.Names.{renamed, with_path}
+use Rattle.app_laws.specs.Names.{renamed}
 use Rattle.app_laws.specs.Serial.{IsOverBudget}
 use Rattle.app_laws.proofs.Apart.{TasksApart}
 use Rattle.app_laws.proofs.Lists.{All-weaker}

@@ -1,6 +1,5 @@
 -- What an execution comes to where its tasks have other paths.
-use Rattle.std.specs.Prelude.{◌≡◌, ℕ, Bool, true, List, [], map}
-use Rattle.std.specs.List.{AllByRecursion}
+use Rattle.std.specs.Prelude.{◌≡◌, ℕ, Bool, List, [], map}
 use Rattle.std.specs.Option.{option_map}
 use Rattle.task_order.specs.declared.start.Start.{Start}
 use Rattle.task_order.specs.declared.task.Task.{Task}
