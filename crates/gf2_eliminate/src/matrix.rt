@@ -106,7 +106,7 @@ impl App for Matrix {
             Seen::At(line) => line,
             Seen::Out => return Ok(SetAnswer::Out(at)),
         };
-        let rows = line.ones().places(self.alloc)?;
+        let rows = line.ones().places()?;
         match first_out(store, &rows) {
             Some(loc) => Ok(SetAnswer::Out(loc)),
             None => {
