@@ -111,6 +111,5 @@ module _ (rows columns : ℕ) where
     set_of = λ body cells. set_of body.at cells;
     walk = λ body cells. walk_from (cell_at cells (rows + body.at)) body.at cells;
     act = λ task cells. eliminated task.body.at cells;
-    sets_are_fixed = false;
     is_safe = λ task others. true;
   }

@@ -17,7 +17,7 @@ use Rattle.cell_store.specs.declared.cell.Cell.TheVariants.{Home, Out}
 use Rattle.cell_store.specs.Home.{IsHome}
 use Rattle.cell_store.specs.Cells.{cell_at}
 use Rattle.cell_store.specs.Values.{AgreesWith}
-use Rattle.app_laws.specs.Applications.{AgreeOn, CellsAreCounted, SetsAreInRange, IsFitOutcome, ActsAreFit, SetsAreLocal, IsSameOutcome, ActsAreLocal, ActsIgnorePaths, ChildrenComeNoEarlier, SetsStayWithin, IsTrueAnswer, WalksAreTrue, FixedSetsAreKnown, IsSafeAlone, SafeTasksStaySafe, SafetyIgnoresPaths, IsLawful, tasks_before}
+use Rattle.app_laws.specs.Applications.{AgreeOn, CellsAreCounted, SetsAreInRange, IsFitOutcome, ActsAreFit, SetsAreLocal, IsSameOutcome, ActsAreLocal, ActsIgnorePaths, ChildrenComeNoEarlier, SetsStayWithin, IsTrueAnswer, WalksAreTrue, IsSafeAlone, SafeTasksStaySafe, SafetyIgnoresPaths, PathsAreIgnored, IsLawful, tasks_before}
 use Rattle.app_laws.specs.Execution.{children_from}
 use Rattle.mtx_reader.specs.Ascending.{IsIn, numbers_from, all_in, in_map, from_map, in_filter, from_filter, ascending_filter, in_numbers, from_numbers, ascending_numbers}
 use Rattle.gf2_eliminate.specs.declared.line.Line2.{Line2}
@@ -474,9 +474,6 @@ module _ (rows columns : ℕ) where
   pub walks_are_true : WalksAreTrue (elimination rows columns)
   walks_are_true task cells values fit right agrees = walk_is_true task.body.at cells values fit right.at agrees (cell_at cells (rows + task.body.at)) refl
 
-  pub fixed_sets_are_known : FixedSetsAreKnown (elimination rows columns)
-  fixed_sets_are_known fixed = absurd (true≢false (sym fixed))
-
   pub safe_alone : IsSafeAlone (elimination rows columns)
   safe_alone task right = refl
 
@@ -493,21 +490,21 @@ module _ (rows columns : ℕ) where
       childless (Some pivot) = tt
 
   pub safety_ignores_paths : SafetyIgnoresPaths (elimination rows columns)
-  safety_ignores_paths task earlier name right fit-others = refl
+  safety_ignores_paths task earlier name has_name naming named right fit-others = refl
 
-  pub is_lawful : IsLawful (elimination rows columns)
-  is_lawful = record {
+  pub paths_are_ignored : PathsAreIgnored (elimination rows columns)
+  paths_are_ignored = record { acts = acts_ignore_paths; safety = safety_ignores_paths }
+
+  pub are_lawful : IsLawful (elimination rows columns)
+  are_lawful = record {
     cells_are_counted = cells_are_counted;
     sets_are_in_range = sets_are_in_range;
     acts_are_fit = acts_are_fit;
     sets_are_local = sets_are_local;
     acts_are_local = acts_are_local;
-    acts_ignore_paths = acts_ignore_paths;
     children_come_no_earlier = children_come_no_earlier;
     sets_stay_within = sets_stay_within;
     walks_are_true = walks_are_true;
-    fixed_sets_are_known = fixed_sets_are_known;
     safe_alone = safe_alone;
     safe_tasks_stay_safe = safe_tasks_stay_safe;
-    safety_ignores_paths = safety_ignores_paths;
   }

@@ -19,7 +19,7 @@ pub(crate) fn finals(alloc: Global, rows: u32, store: &Store<Line2>) -> Result<T
     for row in 0..rows {
         match store.peek(row) {
             Seen::At(line) => {
-                push_row(&mut text, row, &line.ones().places(alloc)?)?;
+                push_row(&mut text, row, &line.ones().places()?)?;
                 if line.is_used() {
                     rank += 1;
                 }

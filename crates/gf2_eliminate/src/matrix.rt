@@ -11,8 +11,8 @@ use crate::finals::finals;
 use crate::start::{first_cells, first_tasks};
 use crate::step::{Change, plan, write_lines};
 use crate::touched::{first_out, touched};
-use app_laws::{App, ChildList, Effect, SetAnswer, give_back};
-use cell_store::{Bundle, Seen, Store, location_laws, return_laws, value_laws};
+use app_laws::{App, ChildList, Effect, SetAnswer};
+use cell_store::{Bundle, Seen, Store, location_laws, value_laws};
 use kdg_text::{NoRoom, Steps, Text};
 use mtx_reader::Pattern;
 use rw_sets::RwSet;
@@ -87,7 +87,11 @@ impl App for Matrix {
 
     type Val = Line2;
 
+    type Horizon = ();
+
     ghost meaning = { λ pattern. elimination pattern.rows pattern.cols };
+
+    ghost tells = { λ app horizon tasks. Unit {0} };
 
     fn cells(&self) -> u32 {
         self.pattern.rows + self.pattern.cols
@@ -106,7 +110,7 @@ impl App for Matrix {
             Seen::At(line) => line,
             Seen::Out => return Ok(SetAnswer::Out(at)),
         };
-        let rows = line.ones().places(self.alloc)?;
+        let rows = line.ones().places()?;
         match first_out(store, &rows) {
             Some(loc) => Ok(SetAnswer::Out(loc)),
             None => {
@@ -120,7 +124,17 @@ impl App for Matrix {
         false
     }
 
-    fn safe<P: PendingTasks>(&self, _task: &Task, _pending: &P) -> bool {
+    fn ignores_paths(&self) -> bool {
+        true
+    }
+
+    fn horizon(&self, _alloc: Global) -> Result<(), NoRoom> {
+        Ok(())
+    }
+
+    fn touch(&self, _horizon: &mut (), _body: &Body) {}
+
+    fn safe<P: PendingTasks>(&self, _task: &Task, _pending: &P, _horizon: &mut ()) -> bool {
         true
     }
 
@@ -146,41 +160,5 @@ impl App for Matrix {
         }
     }
 
-    #[inline(always)]
-    fn run_at_home(
-        &self,
-        task: &Task,
-        set: &RwSet,
-        store: &mut Store<Line2>,
-    ) -> Result<(ChildList, Text), NoRoom> {
-        return_laws::<Line2>();
-        let bundle = store.take(set)?;
-        give_back(store, self.run(task, bundle))
-    }
-
-    ghost cells_are_counted = { λ pattern. lawful.cells_are_counted pattern.rows pattern.cols };
-
-    ghost sets_are_in_range = { λ pattern. lawful.sets_are_in_range pattern.rows pattern.cols };
-
-    ghost acts_are_fit = { λ pattern. lawful.acts_are_fit pattern.rows pattern.cols };
-
-    ghost sets_are_local = { λ pattern. lawful.sets_are_local pattern.rows pattern.cols };
-
-    ghost acts_are_local = { λ pattern. lawful.acts_are_local pattern.rows pattern.cols };
-
-    ghost acts_ignore_paths = { λ pattern. lawful.acts_ignore_paths pattern.rows pattern.cols };
-
-    ghost children_come_no_earlier = { λ pattern. lawful.children_come_no_earlier pattern.rows pattern.cols };
-
-    ghost sets_stay_within = { λ pattern. lawful.sets_stay_within pattern.rows pattern.cols };
-
-    ghost walks_are_true = { λ pattern. lawful.walks_are_true pattern.rows pattern.cols };
-
-    ghost fixed_sets_are_known = { λ pattern. lawful.fixed_sets_are_known pattern.rows pattern.cols };
-
-    ghost safe_alone = { λ pattern. lawful.safe_alone pattern.rows pattern.cols };
-
-    ghost safe_tasks_stay_safe = { λ pattern. lawful.safe_tasks_stay_safe pattern.rows pattern.cols };
-
-    ghost safety_ignores_paths = { λ pattern. lawful.safety_ignores_paths pattern.rows pattern.cols };
+    ghost lawful = { λ pattern. lawful.are_lawful pattern.rows pattern.cols };
 }

@@ -1,4 +1,4 @@
-ghost use Rattle.std.specs.Prelude.{◌≡◌, ℕ, ◌+◌, ◌≤◌, ◌<◌, ◌^◌, [], ◌∷◌, ◌++◌, not, ◌==◌, length, map, filter, slice_index, max, bit_or, bit_xor, IfOk, OnOk};
+ghost use Rattle.std.specs.Prelude.{◌≡◌, ℕ, ◌+◌, ◌≤◌, ◌<◌, ◌^◌, [], ◌∷◌, ◌++◌, not, ◌==◌, length, map, filter, slice_index, max, bit_or, bit_xor, IfOk, OnOk, OnErr};
 ghost use Rattle.std.specs.List.{AllByRecursion};
 ghost use Rattle.gf2_eliminate.specs.Ones.{bits_of};
 
@@ -32,12 +32,24 @@ impl OneSet {
     ghost use Rattle.gf2_eliminate.specs.Plans.{sum_to};
 
     /// No place, which takes no memory.
-    pub(crate) fn new(alloc: Global) -> OneSet
+    pub fn new(alloc: Global) -> OneSet
         ensures { result ≡ [] }
     {
         OneSet {
             words: Vec::new(alloc),
         }
+    }
+
+    /// The places of a vector, which stand there in ascending order.
+    pub fn from_vec(places: Vec<u32>) -> Result<OneSet, NoRoom>
+        requires { IsAscendingBy nat_cmp places.items }
+        ensures { IfOk result (λ set. set ≡ places.items) }
+    {
+        let mut set = OneSet::new(*places.allocator());
+        for place in &places {
+            set.push(*place)?;
+        }
+        Ok(set)
     }
 
     /// A set of the same places.
@@ -49,10 +61,11 @@ impl OneSet {
         })
     }
 
-    /// Adds a place behind all others.
-    pub(crate) fn push(&mut self, place: u32) -> Result<(), NoRoom>
+    /// Adds a place behind all others. After `NoRoom` the set is as it was.
+    pub fn push(&mut self, place: u32) -> Result<(), NoRoom>
         requires { AllByRecursion (λ other. other < place) self.old }
-        ensures { OnOk result (self.new ≡ self.old ++ place ∷ []) }
+        ensures ok { OnOk result (self.new ≡ self.old ++ place ∷ []) }
+        ensures err { OnErr result (self.new ≡ self.old) }
     {
         let (at, bit) = ((place / u64::BITS) as usize, place % u64::BITS);
         lengthen(&mut self.words, at + 1)?;
@@ -99,10 +112,10 @@ impl OneSet {
     }
 
     /// The places, in ascending order.
-    pub(crate) fn places(&self, alloc: Global) -> Result<Vec<u32>, NoRoom>
+    pub fn places(&self) -> Result<Vec<u32>, NoRoom>
         ensures { IfOk result (λ places. places.items ≡ self.now) }
     {
-        let mut places = Vec::new(alloc);
+        let mut places = Vec::new(*self.words.allocator());
         for (at, word) in self.words.iter().enumerate() {
             push_bits(&mut places, at as u32 * u64::BITS, *word)?;
         }
@@ -113,6 +126,7 @@ impl OneSet {
 /// Makes them at least so many words, by words without a bit.
 fn lengthen(words: &mut Vec<u64>, len: usize) -> Result<(), NoRoom>
     ensures long { OnOk result (len ≤ length words.new.items) }
+    ensures err { OnErr result (words.new.items ≡ words.old.items) }
     ensures few { length words.new.items ≤ max (length words.old.items) len }
     ensures same { (k : ℕ) → slice_index words.new.items k ≡ slice_index words.old.items k }
 {

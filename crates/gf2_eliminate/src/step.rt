@@ -32,7 +32,7 @@ pub(crate) fn plan(
     location_laws::<Line2>();
     value_laws::<Line2>();
     let ones = bundle.get(rows + column).ones();
-    let holders = ones.places(alloc)?;
+    let holders = ones.places()?;
     let mut lines = Vec::new(alloc);
     match pivot_among(bundle, &holders) {
         None => {
@@ -42,7 +42,7 @@ pub(crate) fn plan(
         Some(pivot) => {
             let added = bundle.get(pivot).ones();
             plan_rows(&mut lines, bundle, &holders, (pivot, added))?;
-            let columns = added.places(alloc)?;
+            let columns = added.places()?;
             let others = ones.without(pivot + 1)?;
             plan_columns(&mut lines, bundle, rows, (&columns, &others))?;
             let text = pivot_line(alloc, column, pivot)?;

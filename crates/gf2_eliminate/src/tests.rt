@@ -1,7 +1,7 @@
-use crate::{Line2, Matrix};
+use crate::{Line2, Matrix, OneSet};
 use app_laws::{App, serial};
 use cell_store::value_laws;
-use kdg_text::{NumList, Text};
+use kdg_text::Text;
 use mtx_reader::read_mtx;
 use std::alloc::Global;
 use std::process::Abort;
@@ -110,5 +110,25 @@ fn matrices_are_reduced(rt: HostRuntime) -> Result<(), Fail> {
     ] {
         prints(&rt, alloc, symmetry, lines, want)?;
     }
+    Ok(())
+}
+
+/// The places at both ends of a word, and what a further one adds.
+#[test]
+fn lists_of_lines_are_made_and_read(rt: HostRuntime) -> Result<(), Fail> {
+    let mut places = Vec::new(rt.alloc());
+    places.push(1)?;
+    places.push(63)?;
+    places.push(64)?;
+    let mut cols = OneSet::from_vec(places)?;
+    cols.push(4096)?;
+    assert_eq!(&rt; cols.places()?.as_slice(), [1, 63, 64, 4096].as_slice());
+    let line = Line2::Row { cols, used: false };
+    match line {
+        Line2::Row { cols, .. } => assert_eq!(&rt; cols.places()?.len(), 4),
+        Line2::Col { .. } => panic!(&rt; "a row is a column"),
+    }
+    let none = OneSet::new(rt.alloc());
+    assert_eq!(&rt; none.places()?.len(), 0);
     Ok(())
 }

@@ -43,7 +43,7 @@ pub(crate) fn touched(
     requires few { size.0 + size.1 < 2 ^ 32 }
     ensures { IfOk result (λ pairs. pairs.items ≡ writing (touched_locs size.0 size.1 column rows.now store.now)) }
 {
-    let others = found(alloc, column, rows, store)?.places(alloc)?;
+    let others = found(alloc, column, rows, store)?.places()?;
     let mut pairs = Vec::with_capacity(alloc, rows.len() + others.len())?;
     for row in rows {
         pairs.push((row - 1, Access::Write))?;

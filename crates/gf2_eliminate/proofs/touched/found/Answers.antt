@@ -11,7 +11,7 @@ use Rattle.gf2_eliminate.proofs.touched.found.Goals as goal
 
 pub loop-row-init : goal.loop-row-init
 loop-row-init c =
-    let is = c.in_ok-push.ensures ∙ ap (λ ns. ns ++ (c.args.column + 1) ∷ []) c.new-found.ensures in
+    let is = c.in_ok-push.ensures.ok ∙ ap (λ ns. ns ++ (c.args.column + 1) ∷ []) c.new-found.ensures in
     record { ascending = subst (IsAscendingBy nat_cmp) (sym is) (tt, tt); each = λ n. ap (λ ns. has ns n) is }
 
 pub loop-row-preserved : goal.loop-row-preserved

@@ -6,8 +6,8 @@ use Rattle.gf2_eliminate.specs.Ones.{places_of}
 use Rattle.gf2_eliminate.proofs.Words.{pushed}
 use Rattle.gf2_eliminate.proofs.ones.OneSet.push.Goals as goal
 
-pub returns : goal.returns
-returns c =
+pub returns-clause-ok : goal.returns-clause-ok
+returns-clause-ok c =
     let before = c.self.inside.words.items in
     let words = c.lengthen.new.words.items in
     let place = c.args.place in
