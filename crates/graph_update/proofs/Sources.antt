@@ -1,5 +1,5 @@
 -- What the safe test asks of a source: that no earlier task conflicts with its, and who writes what where sets are fixed.
-use Rattle.std.proofs.Common.{◌≡◌, ℕ, Bool, true, false, cond, List, [], ◌∷◌, Option, Some, None, refl, sym, ap, subst, ◌∙◌}
+use Rattle.std.proofs.Common.{◌≡◌, true, List, [], ◌∷◌, Option, Some, None, refl, sym, ap, subst, ◌∙◌}
 use Rattle.std.specs.Prelude.{Contains}
 use Rattle.std.specs.List.{AllByRecursion}
 use Rattle.std.specs.Option.{option_map}
@@ -15,7 +15,6 @@ use Rattle.kdg_graph.specs.Edges.{sources_of, writers_of}
 use Rattle.kdg_graph.specs.Laws.{IdsFindNodes, SourcesAreUnblocked, WritersAreOfTasks}
 use Rattle.kdg_graph.specs.Node.{Node}
 use Rattle.kdg_graph.specs.Nodes.{IsGraph, earlier_than, node_at, task_at, tasks_of}
-use Rattle.app_laws.specs.declared.app.SetAnswer.{SetAnswer}
 use Rattle.app_laws.specs.declared.app.SetAnswer.TheVariants as answer
 use Rattle.app_laws.specs.Applications.{Application, AreFitTasks, AreWriters, FixedSetsAreKnown, IsFitTask, IsSource, set_in, tasks_before}
 use Rattle.graph_update.specs.Basis.{LowerLaws}
@@ -73,20 +72,20 @@ module _ {V : Type 0} (app : Application V) where
         → IsSource app task (tasks_before task.key (tasks_of nodes))
     source_apart lower ids_find unblocked graph source covered =
         subst (λ (task : Task). IsSource app task (tasks_before task.key (tasks_of nodes))) found.2 (
-          let node = found.0 in
-          let has = (ids_find nodes id node found.1).0 in
-          let within = λ (other : Node) (there : Contains nodes other). all_at (λ (n : Node). IsWithin (set_in app covered.cells n.task) n.set) nodes other covered.within there in
-          let none = ((unblocked nodes id node graph found.1).0 source).1 in
-          record {
-            cells = covered.cells;
-            fit = covered.fit;
-            apart = subst (AllByRecursion (λ (other : Task). ¬ Conflicts (set_in app covered.cells other) (set_in app covered.cells node.task))) (tasks-earlier_than node.task.key nodes)
-                (all-tasks (λ (other : Task). ¬ Conflicts (set_in app covered.cells other) (set_in app covered.cells node.task)) (earlier_than node.task.key nodes)
-                (λ other earlier conflict.
-                let there = from_filter _ nodes other earlier in
-                none other there.0 (less_where_earlier (key_cmp other.task.key node.task.key) there.1)
-                (wider_conflict lower _ _ node.set other.set (within node has) (within other there.0) conflict)));
-          }
+        let node = found.0 in
+        let has = (ids_find nodes id node found.1).0 in
+        let within = λ (other : Node) (there : Contains nodes other). all_at (λ (n : Node). IsWithin (set_in app covered.cells n.task) n.set) nodes other covered.within there in
+        let none = ((unblocked nodes id node graph found.1).0 source).1 in
+        record {
+          cells = covered.cells;
+          fit = covered.fit;
+          apart = subst (AllByRecursion (λ (other : Task). ¬ Conflicts (set_in app covered.cells other) (set_in app covered.cells node.task))) (tasks-earlier_than node.task.key nodes)
+              (all-tasks (λ (other : Task). ¬ Conflicts (set_in app covered.cells other) (set_in app covered.cells node.task)) (earlier_than node.task.key nodes)
+              (λ other earlier conflict.
+              let there = from_filter _ nodes other earlier in
+              none other there.0 (less_where_earlier (key_cmp other.task.key node.task.key) there.1)
+              (wider_conflict lower _ _ node.set other.set (within node has) (within other there.0) conflict)));
+        }
         )
 
   -- where sets are fixed, the writers by the recorded sets are those by the declared ones

@@ -48,12 +48,7 @@ impl<'g> Pending<'g> {
 
     /// Whether the task of a source is safe. A horizon that tells of the pending tasks does so after it.
     #[inline(always)]
-    pub(crate) fn is_safe<A: App>(
-        &self,
-        source: NodeId,
-        app: &A,
-        horizon: &mut A::Horizon,
-    ) -> bool
+    pub(crate) fn is_safe<A: App>(&self, source: NodeId, app: &A, horizon: &mut A::Horizon) -> bool
         requires graph { IsGraph self.now }
         requires source { Contains (sources_of self.now) source }
         requires covered { AreCovered (A.meaning app.now) self.now }

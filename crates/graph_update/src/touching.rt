@@ -16,12 +16,7 @@ use task_order::Body;
 
 /// A task with this body ended, and its children came to the pending ones.
 #[inline(always)]
-pub(crate) fn touch_end<A: App>(
-    app: &A,
-    horizon: &mut A::Horizon,
-    ended: &Body,
-    children: &[Child],
-)
+pub(crate) fn touch_end<A: App>(app: &A, horizon: &mut A::Horizon, ended: &Body, children: &[Child])
     requires ended { (prio : ℕ) × (A.meaning app.now).is_fit_task prio ended.now }
     requires children { AllByRecursion (λ child. (A.meaning app.now).is_fit_task child.prio child.body) children.now }
     ensures { (task : Task) (parent : Key) (before after : List Task) → task.body ≡ ended.now →

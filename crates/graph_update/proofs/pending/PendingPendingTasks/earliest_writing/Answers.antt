@@ -1,4 +1,4 @@
-use Rattle.std.proofs.Common.{◌≡◌, ap, ◌∙◌}
+use Rattle.std.proofs.Common.{ap, ◌∙◌}
 use Rattle.std.specs.List.{slice_get}
 use Rattle.kdg_graph.specs.Edges.{writers_of}
 use Rattle.kdg_graph.specs.Nodes.{tasks_of}
