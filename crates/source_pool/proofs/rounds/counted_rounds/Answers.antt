@@ -1,4 +1,4 @@
-use Rattle.std.proofs.Common.{◌+◌, ◌<◌, ◌^◌, ◌++◌, ℕ, List, [], refl, sym, ap, subst, ◌∙◌, arith}
+use Rattle.std.proofs.Common.{◌+◌, ◌<◌, ◌^◌, ◌++◌, ℕ, not, List, [], refl, sym, ap, subst, ◌∙◌, arith}
 use Rattle.std.proofs.lemmas.Result.{err_from_is_err_and}
 use Rattle.cell_store.specs.Values.{values_of}
 use Rattle.kdg_graph.specs.Nodes.{least_of}
@@ -9,7 +9,7 @@ use Rattle.graph_update.specs.Sound.{IsSound}
 use Rattle.source_pool.specs.Course.{IsAtRest, LeadsByRounds}
 use Rattle.source_pool.specs.Legs.{BeginsAtRest, GoesOnFrom}
 use Rattle.source_pool.specs.Runs.{IsRunFault, state_at_rest}
-use Rattle.source_pool.proofs.EngineAtRest.{left_node, no_node}
+use Rattle.source_pool.proofs.EngineAtRest.{no_node, some_node}
 use Rattle.source_pool.proofs.LegRounds.{leg_fails, legs_end, next_begins}
 use Rattle.source_pool.proofs.rounds.counted_rounds.Goals as goal
 
@@ -43,7 +43,7 @@ play_leg-requires g c κs within =
             within.1.1.1.0,
             (
               within.1.1.1.1,
-              (bounds.0, (bounds.1.0, (bounds.1.1.0, (bounds.1.1.1.0, (bounds.1.1.1.1.1.1.1.0, (rest, (refl, (limited, (c.new-more.ensures, some))))))))),
+              (bounds.0, (bounds.1.0, (bounds.1.1.0, (bounds.1.1.1.0, (bounds.1.1.1.1.1.1.1.0, (rest, (refl, (limited, c.new-more.ensures)))))))),
             ),
           ),
         ),
@@ -72,12 +72,12 @@ renamed-requires-clause-idle g c κs within =
 pub renamed-requires-clause-silent : goal.renamed-requires-clause-silent
 renamed-requires-clause-silent g c κs within =
     let now = c.play_leg.new.engine.progress in
-    let some = left_node now.nodes c.least.result (c.least.ensures.least ∙ ap least_of c.graph.ensures.nodes) (sym c.is_none.ensures ∙ c.if-is_none.false) in
+    let some = some_node now.nodes c.least.result (c.least.ensures.least ∙ ap least_of c.graph.ensures.nodes) (c.is_none.ensures ∙ ap not c.if-is_none.false) in
     c.in_ok-rounds.ensures.silent some
 
 pub end-requires-after_bounds : goal.end-requires-after_bounds
 end-requires-after_bounds g c κs within =
-    no_node c.play_leg.new.engine.progress.nodes c.least.result (c.least.ensures.least ∙ ap least_of c.graph.ensures.nodes) (sym c.is_none.ensures ∙ c.if-is_none.true)
+    no_node c.play_leg.new.engine.progress.nodes c.least.result (c.least.ensures.least ∙ ap least_of c.graph.ensures.nodes) (c.is_none.ensures ∙ ap not c.if-is_none.true)
 
 pub loop-more-preserved : goal.loop-more-preserved
 loop-more-preserved g c =
@@ -91,7 +91,7 @@ loop-more-preserved g c =
     let more = c.play_leg.new.text in
     let rounds = c.in_ok-rounds.field-0 in
     let same = c.play_leg.ensures.app ∙ at.invariant.app in
-    let some = left_node now.nodes c.least.result (c.least.ensures.least ∙ ap least_of c.graph.ensures.nodes) (sym c.is_none.ensures ∙ c.if-is_none.false) in
+    let some = some_node now.nodes c.least.result (c.least.ensures.least ∙ ap least_of c.graph.ensures.nodes) (c.is_none.ensures ∙ ap not c.if-is_none.false) in
     let rest = subst (λ (app : g.row.A.Denot). IsAtRest (g.A.App.meaning app) old (values_of old.cells) (state_at_rest now) more now) at.invariant.app c.in_ok-rounds.ensures.rest in
     let leads = subst (λ (app : g.row.A.Denot). LeadsByRounds (g.A.App.meaning app) rounds (state_at_rest old) (state_at_rest now)) at.invariant.app c.in_ok-rounds.ensures.leads in
     let ignored = subst (λ (app : g.row.A.Denot). PathsAreIgnored (g.A.App.meaning app)) at.invariant.app (c.in_ok-rounds.ensures.ignored some) in
@@ -118,7 +118,7 @@ returns-clause-end g c =
     let own = c.in_ok-finals in
     let rest = subst (λ (app : g.row.A.Denot). IsAtRest (g.A.App.meaning app) old (values_of old.cells) (state_at_rest now) more now) at.invariant.app c.in_ok-rounds.ensures.rest in
     let leads = subst (λ (app : g.row.A.Denot). LeadsByRounds (g.A.App.meaning app) rounds (state_at_rest old) (state_at_rest now)) at.invariant.app c.in_ok-rounds.ensures.leads in
-    let empty = no_node now.nodes c.least.result (c.least.ensures.least ∙ ap least_of c.graph.ensures.nodes) (sym c.is_none.ensures ∙ c.if-is_none.true) in
+    let empty = no_node now.nodes c.least.result (c.least.ensures.least ∙ ap least_of c.graph.ensures.nodes) (c.is_none.ensures ∙ ap not c.if-is_none.true) in
     let texts = c.in_ok-finals-2.ensures ∙ ap (λ (before : List ℕ). before ++ own.finals.text) c.in_ok-text.ensures ∙ ap (λ (last : List ℕ). (at.text ++ more) ++ last) own.ensures.text in
     legs_end (laws.end app) (laws.taken app) g.start old now at.text more at.rounds rounds at.invariant.goes_on rest leads empty
     (record { store = own.finals.store; text = c.in_ok-finals-2.field-0; count = own.finals.count }) own.ensures.store texts own.ensures.count
