@@ -1,7 +1,8 @@
 use kdg_graph::{Graph, NodeId};
 use kdg_text::NoRoom;
+use rw_sets::Access;
 use std::alloc::Global;
-use task_order::{Key, TaskList};
+use task_order::{Key, Task, TaskList};
 
 /// The sources, found by comparing the sets of all pairs of nodes, whose tasks are given.
 pub(crate) fn plain_sources(
@@ -76,4 +77,16 @@ pub(crate) fn plain_running(
         }
     }
     Ok(running)
+}
+
+/// The first of the tasks whose node's set writes a location, found by looking at one after another.
+pub(crate) fn plain_writer<'t>(graph: &Graph, tasks: &'t TaskList, loc: u32) -> Option<&'t Task> {
+    for task in tasks.iter() {
+        if let Some(node) = graph.find(&task.key) {
+            if graph.set(node).contains(loc) == Some(Access::Write) {
+                return Some(task);
+            }
+        }
+    }
+    None
 }

@@ -1,7 +1,7 @@
 ghost use Rattle.std.specs.Prelude.{IfOk};
 ghost use Rattle.kdg_graph.specs.Nodes.{HasNode};
 
-use crate::plain::{plain_laters, plain_running, plain_sources};
+use crate::plain::{plain_laters, plain_running, plain_sources, plain_writer};
 use Access::{Read, Write};
 use kdg_graph::{Fresh, Graph, NodeId, SetChange};
 use kdg_text::NoRoom;
@@ -10,6 +10,9 @@ use std::alloc::Global;
 use std::process::Abort;
 use std::test::Fail;
 use task_order::{Body, Key, Path, PendingTasks, Task, TaskList};
+
+/// The locations that calls name are below this one.
+const LOCATIONS: u32 = 10;
 
 /// The first task with this number, at a priority.
 fn task(alloc: Global, prio: u64, number: u32) -> Result<Task, NoRoom> {
@@ -244,13 +247,33 @@ fn check_plain(
     assert_eq!(rt; graph.is_empty(), tasks.is_empty());
     let running = plain_running(graph, tasks, alloc)?;
     assert_eq!(rt; graph.running_len(), running.len());
-    assert_eq!(rt; earliest(graph), earliest(tasks));
+    assert_eq!(rt; earliest(graph), tasks.first());
+    check_writers(rt, graph, tasks);
     Ok(())
 }
 
 /// The earliest of pending tasks, however they are kept.
 fn earliest<P: PendingTasks>(pending: &P) -> Option<&Task> {
     pending.earliest()
+}
+
+/// The earliest of pending tasks that writes a location, however they are kept.
+fn earliest_writing<P: PendingTasks>(pending: &P, loc: u32) -> Option<&Task> {
+    pending.earliest_writing(loc)
+}
+
+/// Checks at each location that a call may name, and at one beyond them, which node and which task is
+/// the earliest that writes it.
+fn check_writers(rt: &impl Abort, graph: &Graph, tasks: &TaskList) {
+    for loc in 0..=LOCATIONS {
+        let plain = plain_writer(graph, tasks, loc);
+        assert_eq!(rt; earliest_writing(graph, loc), plain);
+        let node = match plain {
+            Some(task) => graph.find(&task.key),
+            None => None,
+        };
+        assert_eq!(rt; graph.earliest_writing(loc), node);
+    }
 }
 
 /// Does all this to a graph of each kind.
