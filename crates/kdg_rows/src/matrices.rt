@@ -1,4 +1,4 @@
-//! What is answered and printed for patterns of matrices.
+//! What is answered and printed for matrices.
 
 use crate::answering::{MODES, answer, answer_in};
 use kdg_prog::Status;
@@ -34,6 +34,11 @@ fn matrices_are_eliminated(rt: HostRuntime) -> Result<(), Fail> {
             "rank",
             "%%MatrixMarket matrix coordinate pattern symmetric\n% c\n3 3 2\n2 1\n3 2\n",
             "col 1 row 2\ncol 2 row 1\ncol 3 free\nrow 1 2\nrow 2 1 3\nrow 3\nrank 2\ntasks 3\n",
+        ),
+        (
+            "rank",
+            "%%MatrixMarket matrix coordinate integer general\n2 2 4\n1 1 3\n1 2 2\n2 2 -1\n2 2 2\n",
+            DIAGONAL_PRINT,
         ),
         ("rank", THREE_BY_FOUR, THREE_BY_FOUR_PRINT),
         ("rank --budget 2", DIAGONAL, DIAGONAL_PRINT),
@@ -94,6 +99,11 @@ fn bad_matrices_are_told(rt: HostRuntime) -> Result<(), Fail> {
                 line: 2,
                 bound: 4096,
             },
+        ),
+        (
+            "rank",
+            "%%MatrixMarket matrix coordinate integer general\n1 1 1\n1 1\n",
+            Status::BadInput { line: 3, kind: 4 },
         ),
         ("rank", "", Status::BadInput { line: 1, kind: 1 }),
         ("rank --until 5", "", Status::Usage { word: 2 }),

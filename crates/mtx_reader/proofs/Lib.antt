@@ -1,2 +1,5 @@
 pub mod Listing
+pub mod Times
+pub mod Settling
+pub mod Parity
 pub mod Entries

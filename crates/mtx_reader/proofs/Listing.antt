@@ -1,5 +1,5 @@
 -- Places in order, and what sorting and leaving out what is there twice makes of a list of them.
-use Rattle.std.specs.Prelude.{◌≡◌, ℕ, zero, suc, ◌+◌, ◌<◌, ◌≤◌, ◌==◌, ◌&&◌, Bool, true, List, [], ◌∷◌, length, map, refl, slice_index_or}
+use Rattle.std.specs.Prelude.{◌≡◌, ℕ, zero, suc, ◌+◌, ◌<◌, ◌≤◌, ◌==◌, ◌&&◌, Bool, true, List, [], ◌∷◌, length, map, filter, refl, slice_index_or}
 use Rattle.std.specs.Cmp.{IsTotalOrder, IsEquivalence}
 use Rattle.std.specs.List.{AllByRecursion, Contains, dedup}
 use Rattle.std.specs.List.Retain.{IsFiltered, DiffersFromLast}
@@ -103,20 +103,32 @@ in_among [] place there = absurd there
 in_among (other ∷ places) place (inl at) = or_left (is_same place other) (is_among places place) (subst (λ p. is_same place p ≡ true) (sym at) (place_itself place))
 in_among (other ∷ places) place (inr there) = or_right (is_same place other) (is_among places place) (in_among places place there)
 
-pub from_among : (rows columns : ℕ) (named : List Place) (place : Place) → IsIn (places_among rows columns named) place → IsIn named place × IsWithin rows columns place
-from_among rows columns named place there =
-    let found = from_filter (is_among named) (places_from 1 rows columns) place there in
-    let from = from_places 1 rows columns place found.0 in
-    (among_in named place found.1, record { row = (from.row.0, omega (arith, from.row.1)); column = (from.column.0, omega (arith, from.column.1)) })
+-- the places of a matrix that pass a test
+module _ (rows columns : ℕ) (test : Place → Bool) where
+  pub from_grid : (place : Place) → IsIn (filter test (places_from 1 rows columns)) place → (test place ≡ true) × IsWithin rows columns place
+  from_grid place there =
+      let found = from_filter test (places_from 1 rows columns) place there in
+      let from = from_places 1 rows columns place found.0 in
+      (found.1, record { row = (from.row.0, omega (arith, from.row.1)); column = (from.column.0, omega (arith, from.column.1)) })
 
-pub in_grid : (rows columns : ℕ) (named : List Place) (place : Place) → IsIn named place → IsWithin rows columns place → IsIn (places_among rows columns named) place
-in_grid rows columns named place there within =
-    in_filter (is_among named) (places_from 1 rows columns) place
-    (in_places 1 rows columns place (record { row = (within.row.0, omega (arith, within.row.1)); column = (within.column.0, omega (arith, within.column.1)) }))
-    (in_among named place there)
+  pub in_grid : (place : Place) → test place ≡ true → IsWithin rows columns place → IsIn (filter test (places_from 1 rows columns)) place
+  in_grid place passes within =
+      in_filter test (places_from 1 rows columns) place
+      (in_places 1 rows columns place (record { row = (within.row.0, omega (arith, within.row.1)); column = (within.column.0, omega (arith, within.column.1)) }))
+      passes
 
-pub ascending_among : (rows columns : ℕ) (named : List Place) → IsAscendingBy place_cmp (places_among rows columns named)
-ascending_among rows columns named = ascending_filter place_cmp (is_among named) (places_from 1 rows columns) (ascending_places 1 rows columns)
+  pub grid-within : AllByRecursion (IsWithin rows columns) (filter test (places_from 1 rows columns))
+  grid-within = all_from_in (IsWithin rows columns) (filter test (places_from 1 rows columns)) (λ place there. (from_grid place there).1)
+
+  pub grid-ascending : IsAscendingBy place_cmp (filter test (places_from 1 rows columns))
+  grid-ascending = ascending_filter place_cmp test (places_from 1 rows columns) (ascending_places 1 rows columns)
+
+  -- an ascending list of just those places
+  pub is_grid : (left : List Place) → IsAscendingBy place_cmp left → ((place : Place) → IsIn left place → (test place ≡ true) × IsWithin rows columns place)
+      → ((place : Place) → test place ≡ true → IsIn left place) → left ≡ filter test (places_from 1 rows columns)
+  is_grid left up passing all =
+      same_members place_total place_alike left (filter test (places_from 1 rows columns)) up grid-ascending
+      (λ place there. let found = passing place there in in_grid place found.0 found.1) (λ place there. all place (from_grid place there).0)
 
 -- std's two words for what a list has
 in_from_contains : {X : Type 0} (xs : List X) (k : ℕ) (x : X) → k < length xs → slice_index_or xs k x ≡ x → IsIn xs x
@@ -124,7 +136,7 @@ in_from_contains [] k x below at = absurd (omega arith)
 in_from_contains (y ∷ ys) zero x below at = inl at
 in_from_contains (y ∷ ys) (suc k) x below at = inr (in_from_contains ys k x (omega arith) at)
 
-contains_from_in : {X : Type 0} (xs : List X) (x : X) → IsIn xs x → Contains xs x
+pub contains_from_in : {X : Type 0} (xs : List X) (x : X) → IsIn xs x → Contains xs x
 contains_from_in [] x there = absurd there
 contains_from_in (y ∷ ys) x (inl at) = (0, omega arith, at)
 contains_from_in (y ∷ ys) x (inr there) = let found = contains_from_in ys x there in (suc found.0, omega (arith, found.1), found.2)
@@ -171,9 +183,6 @@ module _ (named sorted left : List Place) (moved : IsPermutation named sorted) (
 
   pub left-is_grid : (rows columns : ℕ) → AllByRecursion (IsWithin rows columns) named → left ≡ places_among rows columns named
   left-is_grid rows columns within =
-      same_members place_total place_alike left (places_among rows columns named) left-ascending (ascending_among rows columns named)
-      (λ place there. let was = named-from_left place there in in_grid rows columns named place was (all_in (IsWithin rows columns) named place within was))
-      (λ place there. left-from_named place (from_among rows columns named place there).0)
-
-pub places-within : (rows columns : ℕ) (named : List Place) → AllByRecursion (IsWithin rows columns) (places_among rows columns named)
-places-within rows columns named = all_from_in (IsWithin rows columns) (places_among rows columns named) (λ place there. (from_among rows columns named place there).1)
+      is_grid rows columns (is_among named) left left-ascending
+      (λ place there. let was = named-from_left place there in (in_among named place was, all_in (IsWithin rows columns) named place within was))
+      (λ place among. left-from_named place (among_in named place among))

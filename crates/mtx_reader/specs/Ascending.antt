@@ -118,10 +118,10 @@ ascending_map cmp by f rises (x ∷ xs) up = (
 
 module _ {X : Type 0} {cmp : X → X → Ordering} (total : IsTotalOrder cmp) (alike : (x y : X) → cmp x y ≡ Equal → x ≡ y) where
   -- nothing comes before itself
-  not_before_itself : (x : X) → cmp x x ≡ Less → ⊥
+  pub not_before_itself : (x : X) → cmp x x ≡ Less → ⊥
   not_before_itself x before = let same : Less ≡ Equal = sym before ∙ tied_itself total x in cc
 
-  not_both : (x y : X) → cmp x y ≡ Less → cmp y x ≡ Less → ⊥
+  pub not_both : (x y : X) → cmp x y ≡ Less → cmp y x ≡ Less → ⊥
   not_both x y before after = let same : Less ≡ Greater = sym before ∙ total.antisymm x y ∙ ap ordering_reverse after in cc
 
   same_first : (x y : X) (xs ys : List X) → IsAscendingBy cmp (x ∷ xs) → IsAscendingBy cmp (y ∷ ys) → IsIn (y ∷ ys) x → IsIn (x ∷ xs) y → x ≡ y

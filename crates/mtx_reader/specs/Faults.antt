@@ -18,7 +18,7 @@ unsupported = fault_of_kind 2
 abbrev pub bad_size : LineFault
 bad_size = fault_of_kind 3
 
--- an entry isn't two numbers
+-- an entry isn't two numbers and, where entries have values, a third
 abbrev pub bad_entry : LineFault
 bad_entry = fault_of_kind 4
 

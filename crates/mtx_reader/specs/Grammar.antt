@@ -7,7 +7,7 @@ use Rattle.kdg_text.specs.declared.fault.Fault.{Fault}
 use Rattle.kdg_text.specs.declared.fault.LineFault.{LineFault}
 use Rattle.kdg_text.specs.declared.fault.ReadFail.{ReadFail}
 use Rattle.kdg_text.specs.declared.fault.ReadFail.TheVariants.{Bad, NoRoom}
-use Rattle.mtx_reader.specs.declared.banner.Symmetry.{Symmetry}
+use Rattle.mtx_reader.specs.declared.banner.Banner.{Banner}
 use Rattle.mtx_reader.specs.declared.line_form.LineForm.{LineForm}
 use Rattle.mtx_reader.specs.declared.pattern.Pattern.{Pattern}
 use Rattle.mtx_reader.specs.Faults.{bad_banner}
@@ -16,15 +16,15 @@ use Rattle.mtx_reader.specs.Patterns.{line_fault, end_fault, pattern_with}
 
 -- The pattern of the lines below the banner that say something, or their first fault. What is wrong at the end is a fault
 -- of the line of that number.
-abbrev pub answer_below : Symmetry → ℕ → List (Numbered LineForm) → Result Pattern Fault
-answer_below symmetry end lines =
-    unless_fault (first_fault (line_fault symmetry) lines)
-    (unless_fault (option_map (fault_on end) (end_fault lines)) (Ok (pattern_with symmetry lines)))
+abbrev pub answer_below : Banner → ℕ → List (Numbered LineForm) → Result Pattern Fault
+answer_below banner end lines =
+    unless_fault (first_fault (line_fault banner.symmetry) lines)
+    (unless_fault (option_map (fault_on end) (end_fault lines)) (Ok (pattern_with banner lines)))
 
 -- the same of the lines below what the first one says
-abbrev pub answer_by : Result Symmetry LineFault → List (List ℕ) → Result Pattern Fault
+abbrev pub answer_by : Result Banner LineFault → List (List ℕ) → Result Pattern Fault
 answer_by (Err fault) lines = Err (fault_on 1 fault)
-answer_by (Ok symmetry) lines = answer_below symmetry (2 + length lines) (forms_from form_of 2 lines)
+answer_by (Ok banner) lines = answer_below banner (2 + length lines) (forms_from (form_of banner.field) 2 lines)
 
 -- the pattern that lines describe together, or the first fault
 abbrev pub answer_of : List (List ℕ) → Result Pattern Fault

@@ -4,15 +4,18 @@ use Rattle.std.specs.List.{AllByRecursion}
 use Rattle.std.specs.Option.{option_or}
 use Rattle.kdg_text.specs.declared.fault.LineFault.{LineFault}
 use Rattle.kdg_text.specs.Faults.{Numbered}
+use Rattle.mtx_reader.specs.declared.banner.Banner.{Banner}
+use Rattle.mtx_reader.specs.declared.banner.Field.{Field}
 use Rattle.mtx_reader.specs.declared.banner.Symmetry.{Symmetry}
 use Rattle.mtx_reader.specs.declared.banner.Symmetry.TheVariants.{General, Symmetric}
+use Rattle.mtx_reader.specs.declared.line_form.Entry.{Entry}
 use Rattle.mtx_reader.specs.declared.line_form.LineForm.{LineForm}
-use Rattle.mtx_reader.specs.declared.line_form.LineForm.TheVariants as form
 use Rattle.mtx_reader.specs.declared.line_form.Size.{Size}
 use Rattle.mtx_reader.specs.declared.pattern.Pattern.{Pattern}
+use Rattle.mtx_reader.specs.Addends.{Addend, ones_among}
 use Rattle.mtx_reader.specs.Ascending.{IsAscendingBy}
 use Rattle.mtx_reader.specs.Faults.{bad_size, bad_entry, bad_place, few, many, beyond}
-use Rattle.mtx_reader.specs.Places.{Place, place_cmp, places_among, IsWithin}
+use Rattle.mtx_reader.specs.Places.{Place, place_cmp, IsWithin}
 
 abbrev pub most_rows : ℕ
 most_rows = 4096
@@ -31,67 +34,74 @@ abbrev pub is_skew : Symmetry → Size → Bool
 is_skew General size = not true
 is_skew Symmetric size = not (size.rows == size.columns)
 
--- what is wrong with the first line below the banner that says something
-abbrev pub size_fault : Symmetry → LineForm → Option LineFault
-size_fault kind (form.Size size) =
+-- what is wrong with the first line below the banner that says something, by the size that it says
+abbrev pub size_fault : Symmetry → Option Size → Option LineFault
+size_fault kind None = Some bad_size
+size_fault kind (Some size) =
     if is_skew kind size then Some bad_size
     else option_or (limit_fault most_rows size.rows) (option_or (limit_fault most_columns size.columns) (limit_fault most_entries size.entries))
-size_fault kind _ = Some bad_size
 
 abbrev pub is_number_to : ℕ → ℕ → Bool
 is_number_to last number = nat_le 1 number && nat_le number last
 
--- what is wrong with an entry by itself
-abbrev pub place_fault : Size → LineForm → Option LineFault
-place_fault size (form.Entry row column) = if is_number_to size.rows row && is_number_to size.columns column then None else Some bad_place
-place_fault size _ = Some bad_entry
+-- what is wrong with a line by itself, by the entry that it says
+abbrev pub place_fault : Size → Option Entry → Option LineFault
+place_fault size None = Some bad_entry
+place_fault size (Some entry) = if is_number_to size.rows entry.row && is_number_to size.columns entry.column then None else Some bad_place
 
 -- what is wrong with a line behind that many entries
-abbrev pub entry_fault : Size → ℕ → LineForm → Option LineFault
-entry_fault size count line = if nat_lt count size.entries then place_fault size line else Some many
+abbrev pub entry_fault : Size → ℕ → Option Entry → Option LineFault
+entry_fault size count entry = if nat_lt count size.entries then place_fault size entry else Some many
 
 -- the same behind the line of the size, which was right
-abbrev pub later_fault : LineForm → ℕ → LineForm → Option LineFault
-later_fault (form.Size size) count line = entry_fault size count line
-later_fault _ count line = None
+abbrev pub later_fault : Option Size → ℕ → Option Entry → Option LineFault
+later_fault None count entry = None
+later_fault (Some size) count entry = entry_fault size count entry
 
 -- what is wrong with a line, beside those before it
 abbrev pub line_fault : Symmetry → List (Numbered LineForm) → LineForm → Option LineFault
-line_fault kind [] line = size_fault kind line
-line_fault kind (size ∷ entries) line = later_fault size.form (length entries) line
+line_fault kind [] line = size_fault kind line.size
+line_fault kind (first ∷ entries) line = later_fault first.form.size (length entries) line.entry
 
 -- whether fewer entries came than the size says
-abbrev pub few_fault : LineForm → ℕ → Option LineFault
-few_fault (form.Size size) count = if nat_lt count size.entries then Some few else None
-few_fault _ count = None
+abbrev pub few_fault : Option Size → ℕ → Option LineFault
+few_fault None count = None
+few_fault (Some size) count = if nat_lt count size.entries then Some few else None
 
 -- what is wrong at the end of the input
 abbrev pub end_fault : List (Numbered LineForm) → Option LineFault
 end_fault [] = Some bad_size
-end_fault (size ∷ entries) = few_fault size.form (length entries)
+end_fault (first ∷ entries) = few_fault first.form.size (length entries)
 
--- the places that a line stands for
-abbrev pub places_by : Symmetry → LineForm → List Place
-places_by General (form.Entry row column) = (row, column) ∷ []
-places_by Symmetric (form.Entry row column) = (row, column) ∷ (column, row) ∷ []
-places_by kind _ = []
+-- what an entry adds at its place
+abbrev pub addend_of : Entry → Addend
+addend_of entry = ((entry.row, entry.column), entry.value)
 
-abbrev pub named_places : Symmetry → List (Numbered LineForm) → List Place
-named_places kind [] = []
-named_places kind (line ∷ lines) = places_by kind line.form ++ named_places kind lines
+-- the entry with row and column exchanged
+abbrev pub mirrored : Entry → Entry
+mirrored entry = record { row = entry.column; column = entry.row; value = entry.value }
 
--- the pattern of that size with these places
-abbrev pub pattern_among : ℕ → ℕ → List Place → Pattern
-pattern_among rows columns named = record { rows = rows; cols = columns; places = places_among rows columns named }
+-- What an entry adds: its value at its place and, in a symmetric matrix, at the place with row and column exchanged, if
+-- that is another.
+abbrev pub addends_by : Symmetry → Option Entry → List Addend
+addends_by kind None = []
+addends_by General (Some entry) = addend_of entry ∷ []
+addends_by Symmetric (Some entry) = if entry.row == entry.column then addend_of entry ∷ [] else addend_of entry ∷ addend_of (mirrored entry) ∷ []
 
-abbrev pub pattern_by : LineForm → List Place → Pattern
-pattern_by (form.Size size) named = pattern_among size.rows size.columns named
-pattern_by _ named = pattern_among 0 0 named
+-- what the entries of these lines add
+abbrev pub addends_of : Symmetry → List (Numbered LineForm) → List Addend
+addends_of kind [] = []
+addends_of kind (line ∷ lines) = addends_by kind line.form.entry ++ addends_of kind lines
+
+-- the pattern of that size where so much is added
+abbrev pub pattern_by : Field → Option Size → List Addend → Pattern
+pattern_by field None addends = record { rows = 0; cols = 0; places = [] }
+pattern_by field (Some size) addends = record { rows = size.rows; cols = size.columns; places = ones_among field size.rows size.columns addends }
 
 -- the pattern of lines that have no fault
-abbrev pub pattern_with : Symmetry → List (Numbered LineForm) → Pattern
-pattern_with kind [] = pattern_among 0 0 []
-pattern_with kind (size ∷ entries) = pattern_by size.form (named_places kind entries)
+abbrev pub pattern_with : Banner → List (Numbered LineForm) → Pattern
+pattern_with banner [] = pattern_by banner.field None []
+pattern_with banner (first ∷ entries) = pattern_by banner.field first.form.size (addends_of banner.symmetry entries)
 
 -- what holds of each pattern that was read
 pub record IsPattern (pattern : Pattern) : Type 0 where

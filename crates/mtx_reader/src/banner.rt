@@ -1,5 +1,5 @@
 ghost use Rattle.std.specs.Prelude.{◌≡◌, ◌∷◌, [], true, IfOk, IfErr};
-ghost use Rattle.mtx_reader.specs.LineForms.{words_of, spells, layout_fault, field_fault, symmetry_of, banner_of};
+ghost use Rattle.mtx_reader.specs.LineForms.{words_of, spells, layout_fault, field_of, symmetry_of, banner_of};
 
 use crate::faults::{BANNER, UNSUPPORTED};
 use kdg_text::{LineFault, Tokens};
@@ -8,6 +8,15 @@ use kdg_text::{LineFault, Tokens};
 pub(crate) const NO_MARKS: &[u8] = b"";
 
 const MARK: &[u8] = b"%%MatrixMarket";
+
+/// What an entry has beside its place.
+#[derive(Clone, Copy)]
+pub(crate) enum Field {
+    /// Nothing.
+    Pattern,
+    /// A whole number, which is its value.
+    Integer,
+}
 
 /// Which places an entry stands for.
 #[derive(Clone, Copy)]
@@ -18,8 +27,15 @@ pub(crate) enum Symmetry {
     Symmetric,
 }
 
+/// What the first line says of the entries.
+#[derive(Clone, Copy)]
+pub(crate) struct Banner {
+    pub(crate) field: Field,
+    pub(crate) symmetry: Symmetry,
+}
+
 /// What the first line says.
-pub(crate) fn banner_of(line: &[u8]) -> Result<Symmetry, LineFault>
+pub(crate) fn banner_of(line: &[u8]) -> Result<Banner, LineFault>
     ensures { result ≡ banner_of (words_of line.now) }
 {
     let mut words = Tokens::new(line, NO_MARKS);
@@ -31,10 +47,12 @@ pub(crate) fn banner_of(line: &[u8]) -> Result<Symmetry, LineFault>
     if words.next_token().is_some() || mark != MARK || !spells(object, b"matrix") {
         return Err(BANNER);
     }
-    match layout_fault(layout).or(field_fault(field)) {
-        Some(fault) => Err(fault),
-        None => symmetry_of(symmetry),
+    if let Some(fault) = layout_fault(layout) {
+        return Err(fault);
     }
+    let field = field_of(field)?;
+    let symmetry = symmetry_of(symmetry)?;
+    Ok(Banner { field, symmetry })
 }
 
 /// The next word of a line that has to have one.
@@ -66,16 +84,18 @@ fn layout_fault(word: &[u8]) -> Option<LineFault>
     }
 }
 
-/// What is wrong with the word for what an entry has beside its place.
-fn field_fault(word: &[u8]) -> Option<LineFault>
-    ensures { result ≡ field_fault word.now }
+/// What an entry has beside its place, by the last word but one.
+fn field_of(word: &[u8]) -> Result<Field, LineFault>
+    ensures { result ≡ field_of word.now }
 {
     if spells(word, b"pattern") {
-        None
-    } else if spells(word, b"real") || spells(word, b"complex") || spells(word, b"integer") {
-        Some(UNSUPPORTED)
+        Ok(Field::Pattern)
+    } else if spells(word, b"integer") {
+        Ok(Field::Integer)
+    } else if spells(word, b"real") || spells(word, b"complex") {
+        Err(UNSUPPORTED)
     } else {
-        Some(BANNER)
+        Err(BANNER)
     }
 }
 

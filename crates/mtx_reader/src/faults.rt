@@ -12,7 +12,7 @@ pub(crate) const UNSUPPORTED: LineFault = LineFault { kind: 2, bound: 0 };
 /// The size is missing, isn't three numbers, or isn't square where the matrix is symmetric.
 pub(crate) const SIZE: LineFault = LineFault { kind: 3, bound: 0 };
 
-/// An entry isn't two numbers.
+/// An entry isn't two numbers and, where entries have values, a third.
 pub(crate) const ENTRY: LineFault = LineFault { kind: 4, bound: 0 };
 
 /// An entry lies outside of the matrix.

@@ -1,9 +1,9 @@
-ghost use Rattle.std.specs.Prelude.{◌≡◌, ◌∷◌, Some};
+ghost use Rattle.std.specs.Prelude.{◌≡◌, ◌∷◌, [], Some};
 ghost use Rattle.kdg_text.specs.Numbers.{u64_of};
-ghost use Rattle.mtx_reader.specs.LineForms.{is_comment, form_of, form_of_words, pair_of, triple_of};
+ghost use Rattle.mtx_reader.specs.LineForms.{is_comment, form_of, form_of_words, size_from, entry_from};
 
-use crate::banner::NO_MARKS;
-use kdg_text::{Tokens, read_u64};
+use crate::banner::{Field, NO_MARKS};
+use kdg_text::{NumFault, Tokens, read_i64, read_u64};
 
 /// How large a matrix is, and how many entries follow.
 #[derive(Clone, Copy)]
@@ -13,27 +13,36 @@ pub(crate) struct Size {
     pub(crate) entries: u64,
 }
 
-/// What a line below the banner says.
+/// A place, and what is added there: 1 where entries have no value.
 #[derive(Clone, Copy)]
-pub(crate) enum LineForm {
-    /// Three numbers.
-    Size(Size),
-    /// Two numbers.
-    Entry { row: u64, column: u64 },
-    /// Anything else.
-    Other,
+pub(crate) struct Entry {
+    pub(crate) row: u64,
+    pub(crate) column: u64,
+    pub(crate) value: i64,
 }
 
-/// What a line says, or nothing where it is a comment or has no words.
-pub(crate) fn form_of(line: &[u8]) -> Option<LineForm>
-    ensures { result ≡ form_of line.now }
+/// What a line below the banner says, as each of the two that it may have to be.
+#[derive(Clone, Copy)]
+pub(crate) struct LineForm {
+    pub(crate) size: Option<Size>,
+    pub(crate) entry: Option<Entry>,
+}
+
+const NEITHER: LineForm = LineForm {
+    size: None,
+    entry: None,
+};
+
+/// What a line says where entries have that field, or nothing where it is a comment or has no words.
+pub(crate) fn form_of(field: Field, line: &[u8]) -> Option<LineForm>
+    ensures { result ≡ form_of field line.now }
 {
     if is_comment(line) {
         return None;
     }
     let mut words = Tokens::new(line, NO_MARKS);
     let first = words.next_token()?;
-    Some(form_by(first, &mut words))
+    Some(form_by(field, first, &mut words))
 }
 
 /// Whether a line is a comment.
@@ -44,41 +53,68 @@ fn is_comment(line: &[u8]) -> bool
 }
 
 /// What a line says behind its first word.
-fn form_by(first: &[u8], words: &mut Tokens) -> LineForm
-    ensures { Some result ≡ form_of_words (first.now ∷ words.old) }
+fn form_by(field: Field, first: &[u8], words: &mut Tokens) -> LineForm
+    ensures { Some result ≡ form_of_words field (first.now ∷ words.old) }
 {
     let Some(second) = words.next_token() else {
-        return LineForm::Other;
+        return NEITHER;
     };
     let Some(third) = words.next_token() else {
-        return pair_of(first, second);
+        return form_of_two(field, first, second);
     };
     match words.next_token() {
-        None => triple_of(first, second, third),
-        Some(_) => LineForm::Other,
+        None => form_of_three(field, first, second, third),
+        Some(_) => NEITHER,
     }
 }
 
-/// An entry, where both words are numbers.
-fn pair_of(first: &[u8], second: &[u8]) -> LineForm
-    ensures { result ≡ pair_of (u64_of first.now) (u64_of second.now) }
+/// What two words say: an entry without a value.
+fn form_of_two(field: Field, first: &[u8], second: &[u8]) -> LineForm
+    ensures { Some result ≡ form_of_words field (first.now ∷ second.now ∷ []) }
 {
-    match (read_u64(first), read_u64(second)) {
-        (Ok(row), Ok(column)) => LineForm::Entry { row, column },
-        _ => LineForm::Other,
+    match field {
+        Field::Pattern => LineForm {
+            size: None,
+            entry: entry_from(first, second, Ok(1)),
+        },
+        Field::Integer => NEITHER,
+    }
+}
+
+/// What three words say: a size, and an entry with a value.
+fn form_of_three(field: Field, first: &[u8], second: &[u8], third: &[u8]) -> LineForm
+    ensures { Some result ≡ form_of_words field (first.now ∷ second.now ∷ third.now ∷ []) }
+{
+    let entry = match field {
+        Field::Pattern => None,
+        Field::Integer => entry_from(first, second, read_i64(third)),
+    };
+    LineForm {
+        size: size_from(first, second, third),
+        entry,
     }
 }
 
 /// A size, where all words are numbers.
-fn triple_of(first: &[u8], second: &[u8], third: &[u8]) -> LineForm
-    ensures { result ≡ triple_of (u64_of first.now) (u64_of second.now) (u64_of third.now) }
+fn size_from(rows: &[u8], columns: &[u8], entries: &[u8]) -> Option<Size>
+    ensures { result ≡ size_from (u64_of rows.now) (u64_of columns.now) (u64_of entries.now) }
 {
-    match (read_u64(first), read_u64(second), read_u64(third)) {
-        (Ok(rows), Ok(columns), Ok(entries)) => LineForm::Size(Size {
+    match (read_u64(rows), read_u64(columns), read_u64(entries)) {
+        (Ok(rows), Ok(columns), Ok(entries)) => Some(Size {
             rows,
             columns,
             entries,
         }),
-        _ => LineForm::Other,
+        _ => None,
+    }
+}
+
+/// An entry, where both words are numbers and the value is one.
+fn entry_from(row: &[u8], column: &[u8], value: Result<i64, NumFault>) -> Option<Entry>
+    ensures { result ≡ entry_from (u64_of row.now) (u64_of column.now) value }
+{
+    match (read_u64(row), read_u64(column), value) {
+        (Ok(row), Ok(column), Ok(value)) => Some(Entry { row, column, value }),
+        _ => None,
     }
 }

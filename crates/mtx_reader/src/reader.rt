@@ -3,13 +3,13 @@ ghost use Rattle.std.specs.Option.{option_or};
 ghost use Rattle.std.specs.List.{AllByRecursion};
 ghost use Rattle.kdg_text.specs.Faults.{Answers};
 ghost use Rattle.mtx_reader.specs.Grammar.{answer_below, pattern_of, Refuses};
-ghost use Rattle.mtx_reader.specs.Patterns.{IsPattern, limit_fault, is_skew, most_rows, most_columns, most_entries, pattern_among, place_fault, places_by, size_fault};
+ghost use Rattle.mtx_reader.specs.Patterns.{IsPattern, limit_fault, is_skew, most_rows, most_columns, most_entries, place_fault, addends_by, size_fault};
 ghost use Rattle.mtx_reader.specs.Places.{IsWithin};
-ghost use Rattle.mtx_reader.specs.Readings.{answer_from, end_of, forms_left, numbered_form};
+ghost use Rattle.mtx_reader.specs.Readings.{answer_from, end_of, forms_left, is_kept, kept_places, numbered_form, pattern_of_kept};
 
-use crate::banner::{Symmetry, banner_of};
+use crate::banner::{Banner, Field, Symmetry, banner_of};
 use crate::faults::{BANNER, ENTRY, FEW, MANY, PLACE, SIZE, beyond};
-use crate::line_form::{LineForm, Size, form_of};
+use crate::line_form::{Entry, LineForm, Size, form_of};
 use crate::{Pattern, PlaceList};
 use kdg_text::{LineFault, Lines, NoRoom, ReadFail};
 use std::alloc::Global;
@@ -20,11 +20,12 @@ const MOST_COLUMNS: u64 = 4096;
 
 const MOST_ENTRIES: u64 = 1_000_000;
 
-/// Reads a matrix in the Matrix Market format, of which only the places are kept that aren't zero.
-/// The first line is `%%MatrixMarket matrix coordinate pattern` and `general` or `symmetric`; lines
-/// that are blank or begin with `%` are skipped; then come a line of the numbers of rows, columns
-/// and entries, and a line of a row and a column for each entry. The first fault is answered with
-/// its line.
+/// Reads a matrix over the field of two elements in the Matrix Market format, and answers where it
+/// has its ones. The first line is `%%MatrixMarket matrix coordinate`, `pattern` or `integer`, and
+/// `general` or `symmetric`; lines that are blank or begin with `%` are skipped; then come a line of
+/// the numbers of rows, columns and entries, and a line of a row and a column for each entry. In a
+/// pattern each place that is named has a one. Of integers a line has a value too, and each place
+/// has a one where the sum of its values is odd. The first fault is answered with its line.
 pub fn read_mtx(alloc: Global, input: &[u8]) -> Result<Pattern, ReadFail>
     ensures found { IfOk result (λ pattern. pattern_of input.now ≡ Ok pattern) }
     ensures pattern { IfOk result IsPattern }
@@ -44,29 +45,29 @@ fn pattern_in(alloc: Global, input: &[u8]) -> Result<Pattern, ReadFail>
         None => Err(ReadFail::Bad(BANNER.on_line(1))),
         Some(line) => match banner_of(line.bytes) {
             Err(fault) => Err(ReadFail::Bad(fault.on_line(1))),
-            Ok(symmetry) => pattern_below(alloc, symmetry, &mut lines),
+            Ok(banner) => pattern_below(alloc, banner, &mut lines),
         },
     }
 }
 
 /// The pattern that the lines below the banner spell.
-fn pattern_below(alloc: Global, symmetry: Symmetry, lines: &mut Lines) -> Result<Pattern, ReadFail>
-    ensures answer { Answers result (answer_below symmetry (end_of lines.old) (forms_left lines.old)) }
+fn pattern_below(alloc: Global, banner: Banner, lines: &mut Lines) -> Result<Pattern, ReadFail>
+    ensures answer { Answers result (answer_below banner (end_of lines.old) (forms_left banner.field lines.old)) }
     ensures pattern { IfOk result IsPattern }
 {
-    let Some(line) = next_said(lines) else {
+    let Some(line) = next_said(banner.field, lines) else {
         return Err(ReadFail::Bad(SIZE.on_line(lines.number())));
     };
-    match size_of(symmetry, line.form) {
+    match size_of(banner.symmetry, line.form) {
         Err(fault) => Err(ReadFail::Bad(fault.on_line(line.number))),
         Ok(size) => {
-            let named = named_places(alloc, symmetry, size, lines)?;
+            let named = kept_places(alloc, banner, size, lines)?;
             let rows = size.rows as u32;
             let cols = size.columns as u32;
             Ok(Pattern {
                 rows,
                 cols,
-                places: PlaceList::of(rows, cols, named),
+                places: PlaceList::ones(banner.field, rows, cols, named),
             })
         }
     }
@@ -80,14 +81,14 @@ pub(crate) struct SaidLine {
 }
 
 /// The next line that says something. Where there is none, the lines are at their end.
-fn next_said(lines: &mut Lines) -> Option<SaidLine>
-    ensures said { MatchOption result (forms_left lines.old ≡ []) (λ line. forms_left lines.old ≡ numbered_form line ∷ forms_left lines.new) }
+fn next_said(field: Field, lines: &mut Lines) -> Option<SaidLine>
+    ensures said { MatchOption result (forms_left field lines.old ≡ []) (λ line. forms_left field lines.old ≡ numbered_form line ∷ forms_left field lines.new) }
     ensures end { end_of lines.new ≡ end_of lines.old }
     ensures at_end { IfNone result (lines.new.number ≡ end_of lines.old) }
     ensures shorter { OnSome result (length lines.new.lines < length lines.old.lines) }
 {
     while let Some(line) = lines.next_line() {
-        if let Some(form) = form_of(line.bytes) {
+        if let Some(form) = form_of(field, line.bytes) {
             return Some(SaidLine {
                 number: line.number,
                 form,
@@ -99,20 +100,18 @@ fn next_said(lines: &mut Lines) -> Option<SaidLine>
 
 /// The size that the first line below the banner says, unless that is wrong.
 fn size_of(symmetry: Symmetry, form: LineForm) -> Result<Size, LineFault>
-    ensures fits { IfOk result (λ size. (form ≡ LineForm.Size size) × (size_fault symmetry form ≡ None)) }
-    ensures refused { IfErr result (λ fault. size_fault symmetry form ≡ Some fault) }
+    ensures fits { IfOk result (λ size. (form.size ≡ Some size) × (size_fault symmetry form.size ≡ None)) }
+    ensures refused { IfErr result (λ fault. size_fault symmetry form.size ≡ Some fault) }
 {
-    match form {
-        LineForm::Size(size) => {
-            if is_skew(symmetry, size) {
-                return Err(SIZE);
-            }
-            match limit_fault(size) {
-                Some(fault) => Err(fault),
-                None => Ok(size),
-            }
-        }
-        _ => Err(SIZE),
+    let Some(size) = form.size else {
+        return Err(SIZE);
+    };
+    if is_skew(symmetry, size) {
+        return Err(SIZE);
+    }
+    match limit_fault(size) {
+        Some(fault) => Err(fault),
+        None => Ok(size),
     }
 }
 
@@ -141,27 +140,27 @@ fn limit_fault(size: Size) -> Option<LineFault>
     }
 }
 
-/// The places that the entries stand for, in the order of their lines.
-fn named_places(
+/// The places that count of those that the entries stand for, in the order of their lines.
+fn kept_places(
     alloc: Global,
-    symmetry: Symmetry,
+    banner: Banner,
     size: Size,
     lines: &mut Lines,
 ) -> Result<Vec<(u32, u32)>, ReadFail>
-    requires right { size_fault symmetry (LineForm.Size size) ≡ None }
-    ensures found { IfOk result (λ named. answer_from symmetry size 0 [] (end_of lines.old) (forms_left lines.old) ≡ Ok (pattern_among size.rows size.columns named.items)) }
+    requires right { size_fault banner.symmetry (Some size) ≡ None }
+    ensures found { IfOk result (λ named. answer_from banner size 0 [] (end_of lines.old) (forms_left banner.field lines.old) ≡ Ok (pattern_of_kept banner.field size named.items)) }
     ensures within { IfOk result (λ named. AllByRecursion (IsWithin size.rows size.columns) named.items) }
-    ensures refused { IfErr result (λ fail. Answers (Err fail) (answer_from symmetry size 0 [] (end_of lines.old) (forms_left lines.old))) }
+    ensures refused { IfErr result (λ fail. Answers (Err fail) (answer_from banner size 0 [] (end_of lines.old) (forms_left banner.field lines.old))) }
 {
     let mut named = Vec::new(alloc);
     let mut count = 0u64;
-    while let Some(line) = next_said(lines) {
+    while let Some(line) = next_said(banner.field, lines) {
         if count == size.entries {
             return Err(ReadFail::Bad(MANY.on_line(line.number)));
         }
-        match place_of(size, line.form) {
+        match entry_of(size, line.form) {
             Err(fault) => return Err(ReadFail::Bad(fault.on_line(line.number))),
-            Ok(place) => push_places(&mut named, symmetry, place)?,
+            Ok(entry) => push_kept(&mut named, banner, entry)?,
         }
         count += 1;
     }
@@ -171,39 +170,50 @@ fn named_places(
     Ok(named)
 }
 
-/// The place that an entry names, unless that is wrong.
-fn place_of(size: Size, form: LineForm) -> Result<(u32, u32), LineFault>
-    requires rows { size.rows ≤ 4096 }
-    requires columns { size.columns ≤ 4096 }
-    ensures named { IfOk result (λ place. form ≡ LineForm.Entry place.0 place.1) }
-    ensures within { IfOk result (IsWithin size.rows size.columns) }
-    ensures fits { IfOk result (λ place. place_fault size form ≡ None) }
-    ensures refused { IfErr result (λ fault. place_fault size form ≡ Some fault) }
+/// The entry that a line says, unless that is wrong.
+fn entry_of(size: Size, form: LineForm) -> Result<Entry, LineFault>
+    ensures said { IfOk result (λ entry. form.entry ≡ Some entry) }
+    ensures within { IfOk result (λ entry. IsWithin size.rows size.columns (entry.row, entry.column)) }
+    ensures fits { IfOk result (λ entry. place_fault size form.entry ≡ None) }
+    ensures refused { IfErr result (λ fault. place_fault size form.entry ≡ Some fault) }
 {
-    match form {
-        LineForm::Entry { row, column } => {
-            if 1 <= row && row <= size.rows && 1 <= column && column <= size.columns {
-                Ok((row as u32, column as u32))
-            } else {
-                Err(PLACE)
-            }
-        }
-        _ => Err(ENTRY),
+    let Some(entry) = form.entry else {
+        return Err(ENTRY);
+    };
+    let Entry { row, column, .. } = entry;
+    if 1 <= row && row <= size.rows && 1 <= column && column <= size.columns {
+        Ok(entry)
+    } else {
+        Err(PLACE)
     }
 }
 
-/// Adds the places that an entry stands for.
-fn push_places(
-    named: &mut Vec<(u32, u32)>,
-    symmetry: Symmetry,
-    place: (u32, u32),
-) -> Result<(), NoRoom>
-    ensures { OnOk result (named.new.items ≡ named.old.items ++ places_by symmetry (LineForm.Entry place.0 place.1)) }
+/// Adds the places that count of those that an entry stands for.
+fn push_kept(named: &mut Vec<(u32, u32)>, banner: Banner, entry: Entry) -> Result<(), NoRoom>
+    requires row { entry.row ≤ 4096 }
+    requires column { entry.column ≤ 4096 }
+    ensures { OnOk result (named.new.items ≡ named.old.items ++ kept_places banner.field (addends_by banner.symmetry (Some entry))) }
 {
-    named.push(place)?;
-    match symmetry {
+    if !is_kept(banner.field, entry.value) {
+        return Ok(());
+    }
+    let row = entry.row as u32;
+    let column = entry.column as u32;
+    named.push((row, column))?;
+    match banner.symmetry {
         Symmetry::General => {}
-        Symmetry::Symmetric => named.push((place.1, place.0))?,
+        Symmetry::Symmetric if row == column => {}
+        Symmetry::Symmetric => named.push((column, row))?,
     }
     Ok(())
+}
+
+/// Whether the places of an entry of that value count: an even number makes no sum odd.
+fn is_kept(field: Field, value: i64) -> bool
+    ensures { result ≡ is_kept field value }
+{
+    match field {
+        Field::Pattern => true,
+        Field::Integer => value.unsigned_abs() % 2 == 1,
+    }
 }

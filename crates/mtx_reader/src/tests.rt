@@ -19,11 +19,11 @@ fn shown(alloc: Global, pattern: &Pattern) -> Result<Text, Fail> {
     Ok(text)
 }
 
-/// An input with this banner's last word, and these lines below the banner.
-fn below_banner(alloc: Global, symmetry: &str, lines: &str) -> Result<Text, Fail> {
+/// An input with this banner's last two words, and these lines below the banner.
+fn below_banner(alloc: Global, words: &str, lines: &str) -> Result<Text, Fail> {
     let mut text = Text::new(alloc);
-    text.push_all(b"%%MatrixMarket matrix coordinate pattern ")?;
-    text.push_all(symmetry.as_bytes())?;
+    text.push_all(b"%%MatrixMarket matrix coordinate ")?;
+    text.push_all(words.as_bytes())?;
     text.push_byte(b'\n')?;
     text.push_all(lines.as_bytes())?;
     Ok(text)
@@ -67,7 +67,7 @@ fn general_patterns(rt: HostRuntime) -> Result<(), Fail> {
         reads(
             &rt,
             alloc,
-            below_banner(alloc, "general", lines)?.bytes(),
+            below_banner(alloc, "pattern general", lines)?.bytes(),
             want,
         )?;
     }
@@ -86,9 +86,66 @@ fn symmetric_patterns(rt: HostRuntime) -> Result<(), Fail> {
         reads(
             &rt,
             alloc,
-            below_banner(alloc, "symmetric", lines)?.bytes(),
+            below_banner(alloc, "pattern symmetric", lines)?.bytes(),
             want,
         )?;
+    }
+    Ok(())
+}
+
+#[test]
+fn integers(rt: HostRuntime) -> Result<(), Fail> {
+    let alloc = rt.alloc();
+    for (words, lines, want) in [
+        (
+            "integer general",
+            "2 2 4\n1 1 3\n1 2 2\n2 2 -1\n2 2 2",
+            "2 2|1 1|2 2",
+        ),
+        ("integer general", "0 0 0", "0 0"),
+        // three of a place, apart and in any order, and two of another
+        (
+            "integer general",
+            "2 2 5\n2 1 1\n1 2 1\n2 1 1\n1 2 3\n2 1 1",
+            "2 2|2 1",
+        ),
+        // zeros, and the sign of an odd number
+        (
+            "integer general",
+            "1 4 4\n1 1 0\n1 2 -0\n1 3 -1\n1 4 -001",
+            "1 4|1 3|1 4",
+        ),
+        // the least and the greatest value, whose sum is odd, and twice the greatest
+        (
+            "integer general",
+            "1 2 4\n1 1 -9223372036854775808\n1 1 9223372036854775807\n1 2 9223372036854775807\n1 2 9223372036854775807",
+            "1 2|1 1",
+        ),
+        // blank lines, comments, tabs, carriage returns and leading zeros
+        (
+            "integer general",
+            "%c\n\n\t02 2 1\r\n%1 1 1\n 001\t2 03 \r\n%\r\n",
+            "2 2|1 2",
+        ),
+        // three numbers are a size and an entry, each at its place
+        ("integer general", "1 1 1\n1 1 1", "1 1|1 1"),
+        (
+            "integer symmetric",
+            "2 2 2\n2 1 1\n1 1 1",
+            "2 2|1 1|1 2|2 1",
+        ),
+        // both sides of the diagonal, which cancel
+        ("integer symmetric", "2 2 2\n1 2 1\n2 1 1", "2 2"),
+        // the diagonal, once and twice
+        ("integer symmetric", "1 1 1\n1 1 1", "1 1|1 1"),
+        ("integer symmetric", "1 1 2\n1 1 1\n1 1 1", "1 1"),
+        (
+            "integer symmetric",
+            "3 3 3\n3 1 2\n2 3 -3\n1 3 2",
+            "3 3|2 3|3 2",
+        ),
+    ] {
+        reads(&rt, alloc, below_banner(alloc, words, lines)?.bytes(), want)?;
     }
     Ok(())
 }
@@ -98,6 +155,8 @@ fn banners(rt: HostRuntime) -> Result<(), Fail> {
     let alloc = rt.alloc();
     let upper = b"\t%%MatrixMarket  MATRIX Coordinate PATTERN General \r\n1 1 1\n1 1";
     reads(&rt, alloc, upper, "1 1|1 1")?;
+    let mixed = b"%%MatrixMarket matrix coordinate InTeGeR symmetric\n1 1 1\n1 1 -1";
+    reads(&rt, alloc, mixed, "1 1|1 1")?;
     for (input, kind) in [
         ("", 1),
         ("\n", 1),
@@ -116,7 +175,10 @@ fn banners(rt: HostRuntime) -> Result<(), Fail> {
         ("%%MatrixMarket matrix ARRAY pattern general", 2),
         ("%%MatrixMarket matrix coordinate real general", 2),
         ("%%MatrixMarket matrix coordinate Complex general", 2),
-        ("%%MatrixMarket matrix coordinate integer general", 2),
+        ("%%MatrixMarket matrix coordinate integer hermitian", 2),
+        ("%%MatrixMarket matrix coordinate integers general", 1),
+        ("%%MatrixMarket matrix integer integer general", 1),
+        ("%%MatrixMarket matrix array integer general", 2),
         ("%%MatrixMarket matrix coordinate pattern Skew-Symmetric", 2),
         ("%%MatrixMarket matrix coordinate pattern hermitian", 2),
         // the number of words comes first, and then the words from left to right
@@ -136,39 +198,74 @@ fn banners(rt: HostRuntime) -> Result<(), Fail> {
 #[test]
 fn faults_below_the_banner(rt: HostRuntime) -> Result<(), Fail> {
     let alloc = rt.alloc();
-    for (symmetry, lines, line, kind) in [
+    for (words, lines, line, kind) in [
         // the size
-        ("general", "", 2, 3),
-        ("general", "% c\n\n", 4, 3),
-        ("general", "1 1", 2, 3),
-        ("general", "1 1 1 1", 2, 3),
-        ("general", "1 1 x", 2, 3),
-        ("general", "-1 1 1", 2, 3),
-        ("general", "1 1 18446744073709551616", 2, 3),
-        ("symmetric", "2 3 0", 2, 3),
+        ("pattern general", "", 2, 3),
+        ("pattern general", "% c\n\n", 4, 3),
+        ("pattern general", "1 1", 2, 3),
+        ("pattern general", "1 1 1 1", 2, 3),
+        ("pattern general", "1 1 x", 2, 3),
+        ("pattern general", "-1 1 1", 2, 3),
+        ("pattern general", "1 1 18446744073709551616", 2, 3),
+        ("pattern symmetric", "2 3 0", 2, 3),
         // entries
-        ("general", "2 2 1\n1", 3, 4),
-        ("general", "2 2 1\n1 1 1", 3, 4),
-        ("general", "2 2 1\n1 x", 3, 4),
-        ("general", "2 2 1\n +1 1", 3, 4),
-        ("general", "2 2 1\n0 1", 3, 5),
-        ("general", "2 2 1\n1 0", 3, 5),
-        ("general", "2 2 1\n3 1", 3, 5),
-        ("general", "2 2 1\n1 3", 3, 5),
-        ("general", "0 0 1\n1 1", 3, 5),
+        ("pattern general", "2 2 1\n1", 3, 4),
+        ("pattern general", "2 2 1\n1 1 1", 3, 4),
+        ("pattern general", "2 2 1\n1 x", 3, 4),
+        ("pattern general", "2 2 1\n +1 1", 3, 4),
+        ("pattern general", "2 2 1\n0 1", 3, 5),
+        ("pattern general", "2 2 1\n1 0", 3, 5),
+        ("pattern general", "2 2 1\n3 1", 3, 5),
+        ("pattern general", "2 2 1\n1 3", 3, 5),
+        ("pattern general", "0 0 1\n1 1", 3, 5),
         // their number
-        ("general", "2 2 3\n1 1\n2 2", 5, 6),
-        ("general", "1 1 1000000", 3, 6),
-        ("general", "2 2 1\n1 1\n% c\n2 2", 5, 7),
-        ("general", "2 2 0\nx", 3, 7),
-        ("general", "2 2 0\n3 3", 3, 7),
+        ("pattern general", "2 2 3\n1 1\n2 2", 5, 6),
+        ("pattern general", "1 1 1000000", 3, 6),
+        ("pattern general", "2 2 1\n1 1\n% c\n2 2", 5, 7),
+        ("pattern general", "2 2 0\nx", 3, 7),
+        ("pattern general", "2 2 0\n3 3", 3, 7),
         // what a line has first, and the first line that has any
-        ("symmetric", "5000 1 0", 2, 3),
-        ("general", "2 2 2\n1 1 1\n3 3", 3, 4),
-        ("general", "2 2 3\n3 3\nx", 3, 5),
-        ("general", "2 2 3\n1 1\nx", 4, 4),
+        ("pattern symmetric", "5000 1 0", 2, 3),
+        ("pattern general", "2 2 2\n1 1 1\n3 3", 3, 4),
+        ("pattern general", "2 2 3\n3 3\nx", 3, 5),
+        ("pattern general", "2 2 3\n1 1\nx", 4, 4),
     ] {
-        let input = below_banner(alloc, symmetry, lines)?;
+        let input = below_banner(alloc, words, lines)?;
+        refused(&rt, alloc, input.bytes(), line, kind, 0);
+    }
+    Ok(())
+}
+
+#[test]
+fn faults_of_integers(rt: HostRuntime) -> Result<(), Fail> {
+    let alloc = rt.alloc();
+    for (words, lines, line, kind) in [
+        // the size
+        ("integer general", "1 1", 2, 3),
+        ("integer general", "1 1 -1", 2, 3),
+        ("integer symmetric", "2 3 0", 2, 3),
+        // entries
+        ("integer general", "1 1 1\n1 1", 3, 4),
+        ("integer general", "1 1 1\n1 1 1 1", 3, 4),
+        ("integer general", "1 1 1\n1 x 1", 3, 4),
+        ("integer general", "1 1 1\n-1 1 1", 3, 4),
+        ("integer general", "1 1 1\n1 1 1.0", 3, 4),
+        ("integer general", "1 1 1\n1 1 +1", 3, 4),
+        ("integer general", "1 1 1\n1 1 -", 3, 4),
+        ("integer general", "1 1 1\n1 1 9223372036854775808", 3, 4),
+        ("integer general", "1 1 1\n1 1 -9223372036854775809", 3, 4),
+        ("integer general", "1 1 1\n1 1 18446744073709551615", 3, 4),
+        ("integer general", "2 2 1\n3 1 2", 3, 5),
+        ("integer general", "2 2 1\n1 0 2", 3, 5),
+        // their number
+        ("integer general", "2 2 3\n1 1 2\n2 2 1", 5, 6),
+        ("integer general", "2 2 1\n1 1 2\n2 2 1", 4, 7),
+        ("integer general", "2 2 0\n3 3", 3, 7),
+        // what a line has first, and the first line that has any
+        ("integer general", "2 2 2\n3 3\n3 3 1", 3, 4),
+        ("integer general", "2 2 2\n3 3 1\nx", 3, 5),
+    ] {
+        let input = below_banner(alloc, words, lines)?;
         refused(&rt, alloc, input.bytes(), line, kind, 0);
     }
     Ok(())
@@ -177,15 +274,16 @@ fn faults_below_the_banner(rt: HostRuntime) -> Result<(), Fail> {
 #[test]
 fn limits(rt: HostRuntime) -> Result<(), Fail> {
     let alloc = rt.alloc();
-    for (symmetry, lines, line, bound) in [
-        ("general", "4097 1 0", 2, 4096),
-        ("general", "1 4097 0", 2, 4096),
-        ("general", "% c\n1 1 1000001", 3, 1_000_000),
-        ("general", "4097 1 1000001\nx", 2, 4096),
-        ("general", "1 4097 1000001", 2, 4096),
-        ("symmetric", "4097 4097 0", 2, 4096),
+    for (words, lines, line, bound) in [
+        ("pattern general", "4097 1 0", 2, 4096),
+        ("pattern general", "1 4097 0", 2, 4096),
+        ("pattern general", "% c\n1 1 1000001", 3, 1_000_000),
+        ("pattern general", "4097 1 1000001\nx", 2, 4096),
+        ("pattern general", "1 4097 1000001", 2, 4096),
+        ("pattern symmetric", "4097 4097 0", 2, 4096),
+        ("integer general", "1 1 18446744073709551615", 2, 1_000_000),
     ] {
-        let input = below_banner(alloc, symmetry, lines)?;
+        let input = below_banner(alloc, words, lines)?;
         refused(&rt, alloc, input.bytes(), line, 8, bound);
     }
     Ok(())

@@ -4,7 +4,7 @@ use Rattle.mtx_reader.proofs.reader.next_said.Given as goal
 
 abbrev pub invariant-loop-line : goal.invariant-loop-line
 invariant-loop-line l = record {
-  said : forms_left l.lines ≡ forms_left l.fn.lines;
+  said : forms_left l.field l.lines ≡ forms_left l.field l.fn.lines;
   end : end_of l.lines ≡ end_of l.fn.lines;
   shorter : length l.lines.lines ≤ length l.fn.lines.lines;
 }

@@ -12,21 +12,21 @@ pub returns-in_err-named-in-Ok-clause-answer : goal.returns-in_err-named-in-Ok-c
 returns-in_err-named-in-Ok-clause-answer c =
     let given = err_from_is_err_and c.from_residual.result c.from_residual.ensures.1 in
     let end : end_of c.next_said.new.lines ≡ end_of c.args.lines.now = c.in-Some.ensures.end in
-    let whole : answer_below c.args.symmetry (end_of c.args.lines.now) (forms_left c.args.lines.now) ≡ answer_from c.args.symmetry c.in-Ok.size 0 [] (end_of c.next_said.new.lines) (forms_left c.next_said.new.lines) =
-    ap (answer_below c.args.symmetry (end_of c.args.lines.now)) c.in-Some.ensures.said
-    ∙ answer-entries c.args.symmetry c.in-Ok.size c.in-Some.line.number (end_of c.args.lines.now) c.in-Some.line.form (forms_left c.next_said.new.lines) c.in-Ok.ensures.fits.0 c.in-Ok.ensures.fits.1
-    ∙ ap (λ last. answer_from c.args.symmetry c.in-Ok.size 0 [] last (forms_left c.next_said.new.lines)) (sym end) in
+    let whole : answer_below c.args.banner (end_of c.args.lines.now) (forms_left c.args.banner.field c.args.lines.now) ≡ answer_from c.args.banner c.in-Ok.size 0 [] (end_of c.next_said.new.lines) (forms_left c.args.banner.field c.next_said.new.lines) =
+    ap (answer_below c.args.banner (end_of c.args.lines.now)) c.in-Some.ensures.said
+    ∙ answer-entries c.args.banner c.in-Ok.size c.in-Some.line.number (end_of c.args.lines.now) c.in-Some.line.form (forms_left c.args.banner.field c.next_said.new.lines) c.in-Ok.ensures.fits.0 c.in-Ok.ensures.fits.1
+    ∙ ap (λ last. answer_from c.args.banner c.in-Ok.size 0 [] last (forms_left c.args.banner.field c.next_said.new.lines)) (sym end) in
     rw (given.1, given.2) (subst (Answers (Err c.in_err-named-in-Ok.field-0.0)) (sym whole) c.in_err-named-in-Ok.ensures.refused)
 
 pub returns-in_ok-named-in-Ok-clause-answer : goal.returns-in_ok-named-in-Ok-clause-answer
 returns-in_ok-named-in-Ok-clause-answer c =
     let end : end_of c.next_said.new.lines ≡ end_of c.args.lines.now = c.in-Some.ensures.end in
-    ap (answer_below c.args.symmetry (end_of c.args.lines.now)) c.in-Some.ensures.said
-    ∙ answer-entries c.args.symmetry c.in-Ok.size c.in-Some.line.number (end_of c.args.lines.now) c.in-Some.line.form (forms_left c.next_said.new.lines) c.in-Ok.ensures.fits.0 c.in-Ok.ensures.fits.1
-    ∙ ap (λ last. answer_from c.args.symmetry c.in-Ok.size 0 [] last (forms_left c.next_said.new.lines)) (sym end)
+    ap (answer_below c.args.banner (end_of c.args.lines.now)) c.in-Some.ensures.said
+    ∙ answer-entries c.args.banner c.in-Ok.size c.in-Some.line.number (end_of c.args.lines.now) c.in-Some.line.form (forms_left c.args.banner.field c.next_said.new.lines) c.in-Ok.ensures.fits.0 c.in-Ok.ensures.fits.1
+    ∙ ap (λ last. answer_from c.args.banner c.in-Ok.size 0 [] last (forms_left c.args.banner.field c.next_said.new.lines)) (sym end)
     ∙ c.in_ok-named-in-Ok.ensures.found
-    ∙ ap (λ places. Ok (record { rows = c.in-Ok.size.rows; cols = c.in-Ok.size.columns; places = places })) (sym c.of.ensures)
+    ∙ ap (λ places. Ok (record { rows = c.in-Ok.size.rows; cols = c.in-Ok.size.columns; places = places })) (sym c.ones.ensures)
 
 pub returns-in_ok-named-in-Ok-clause-pattern : goal.returns-in_ok-named-in-Ok-clause-pattern
 returns-in_ok-named-in-Ok-clause-pattern c =
-    rw c.of.ensures (pattern-sound c.args.symmetry c.in-Ok.size c.in_ok-named-in-Ok.named.items (subst (λ form. size_fault c.args.symmetry form ≡ _) c.in-Ok.ensures.fits.0 c.in-Ok.ensures.fits.1))
+    rw c.ones.ensures (pattern-sound c.args.banner.field c.args.banner.symmetry c.in-Ok.size c.in_ok-named-in-Ok.named.items (subst (λ said. size_fault c.args.banner.symmetry said ≡ _) c.in-Ok.ensures.fits.0 c.in-Ok.ensures.fits.1))
