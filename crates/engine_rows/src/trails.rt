@@ -99,7 +99,7 @@ fn places_keep_the_paths_of_the_births(rt: HostRuntime) -> Result<(), Fail> {
 }
 
 #[test]
-fn who_says_it_works_at_home_without_a_way_to_ends_at_once(rt: HostRuntime) -> Result<(), Fail> {
+fn acting_at_home_without_a_way_ends_at_once(rt: HostRuntime) -> Result<(), Fail> {
     let alloc = rt.alloc();
     let trails = Trails::new(alloc);
     let (cells, first) = (trails.first_cells()?, trails.first_tasks(1)?);
