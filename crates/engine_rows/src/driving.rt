@@ -2,20 +2,16 @@
 
 ghost use Rattle.std.specs.Prelude.{◌≡◌, ◌+◌, ◌<◌, ◌≤◌, ◌^◌, [], length, IfOk, IfErr, IfSome, OnOk};
 ghost use Rattle.app_laws.specs.Applications.{AreFitStarts};
-ghost use Rattle.graph_update.specs.Engine.{FinishStaysSound, IsBeginFault, IsDone};
+ghost use Rattle.graph_update.specs.Engine.{IsBeginFault, IsDone};
 ghost use Rattle.engine_rows.specs.InHand.{AreInHand, IsDoneBeside};
 
 use app_laws::App;
 use cell_store::Held;
-use graph_update::{
-    BeginFault, Claim, Done, Engine, FinishFault, Job, OverCause, job_laws, perform,
-};
+use graph_update::{BeginFault, Claim, Done, Engine, Job, OverCause, job_laws, perform};
 use kdg_graph::node_laws;
-use kdg_text::{NoRoom, Steps};
+use kdg_text::NoRoom;
 use outer_edge::Still;
 use std::alloc::Global;
-use std::marker::Brand;
-use std::sync::ledger::{Blank, Ledger};
 use task_order::{Path, StartList};
 
 /// What a claim answers, where its job goes to those in hand.
@@ -52,30 +48,7 @@ pub fn begin<'a, A: App>(
     ensures in_hand { IfOk result (λ engine. AreInHand (A.meaning engine.app) engine.progress []) }
     ensures fault { IfErr result (IsBeginFault first budget) }
 {
-    counted_begin::<A, Brand>(alloc, app, cells, first, budget, Blank::new(1))
-}
-
-/// The same, with a count of the sets that it asks for.
-fn counted_begin<'a, A: App, L: Ledger>(
-    alloc: Global,
-    app: &'a A,
-    cells: Vec<A::Val>,
-    first: StartList,
-    budget: u64,
-    blank: Blank,
-) -> Result<Engine<'a, A>, BeginFault>
-    requires name { blank.name ≡ L.name }
-    requires parts { blank.parts ≡ L.parts }
-    requires some { 0 < blank.parts }
-    requires fit_cells { (A.meaning app.now).is_fit_cells cells.items }
-    requires fit_first { AreFitStarts (A.meaning app.now) first }
-    requires few { length first < 2 ^ 32 }
-    requires budget { budget ≤ 1_000_000_000 }
-    ensures in_hand { IfOk result (λ engine. AreInHand (A.meaning engine.app) engine.progress []) }
-    ensures fault { IfErr result (IsBeginFault first budget) }
-{
-    let mut steps = Steps::<L>::new(blank);
-    Engine::begin(alloc, app, cells, first, budget, &mut steps)
+    Engine::begin_uncounted(alloc, app, cells, first, budget)
 }
 
 /// Claims a task. Its job becomes the first of those in hand.
@@ -211,35 +184,6 @@ pub fn value_left<'a, A: App>(
     Some(done.effect.bundle.get(loc))
 }
 
-/// Ends a task that was performed.
-pub fn finish<A: App>(
-    engine: &mut Engine<'_, A>,
-    done: Done<A::Val>,
-) -> Result<(), FinishFault<A::Val>>
-    requires { IsDone (A.meaning engine.old.app) engine.old.progress done }
-    ensures app { engine.new.app ≡ engine.old.app }
-    ensures sound { OnOk result (FinishStaysSound (A.meaning engine.old.app) engine.old.progress done engine.new.progress) }
-{
-    counted_finish::<A, Brand>(engine, done, Blank::new(1))
-}
-
-/// The same, with a count of the sets that it asks for.
-fn counted_finish<A: App, L: Ledger>(
-    engine: &mut Engine<'_, A>,
-    done: Done<A::Val>,
-    blank: Blank,
-) -> Result<(), FinishFault<A::Val>>
-    requires name { blank.name ≡ L.name }
-    requires parts { blank.parts ≡ L.parts }
-    requires some { 0 < blank.parts }
-    requires done { IsDone (A.meaning engine.old.app) engine.old.progress done }
-    ensures app { engine.new.app ≡ engine.old.app }
-    ensures sound { OnOk result (FinishStaysSound (A.meaning engine.old.app) engine.old.progress done engine.new.progress) }
-{
-    let mut steps = Steps::<L>::new(blank);
-    engine.finish(done, &mut steps)
-}
-
 /// Performs the job at a place among those in hand, and ends its task.
 pub fn finish_at<A: App>(
     engine: &mut Engine<'_, A>,
@@ -251,16 +195,9 @@ pub fn finish_at<A: App>(
     ensures in_hand { OnOk result (AreInHand (A.meaning engine.new.app) engine.new.progress jobs.new.items) }
     ensures fewer { OnOk result (length jobs.new.items + 1 ≡ length jobs.old.items) }
 {
-    let Ok(done) = perform_at(engine, jobs, place) else {
-        return Err(OverCause::NoRoom);
-    };
-    match finish(engine, done) {
-        Ok(()) => Ok(()),
-        Err(FinishFault::Budget { created, limit, .. }) => {
-            Err(OverCause::Budget { created, limit })
-        }
-        Err(FinishFault::NoRoom { .. }) => Err(OverCause::NoRoom),
-    }
+    let done = perform_at(engine, jobs, place)?;
+    engine.finish_uncounted(done)?;
+    Ok(())
 }
 
 /// Performs all jobs in hand and ends their tasks.

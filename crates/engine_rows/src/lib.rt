@@ -13,10 +13,14 @@ mod matrices;
 #[cfg(test)]
 mod meetings;
 #[cfg(test)]
+mod outcomes;
+#[cfg(test)]
 mod random_runs;
 #[cfg(test)]
 mod recorded_sets;
 #[cfg(test)]
 mod rounds;
+#[cfg(test)]
+mod trails;
 #[cfg(test)]
 mod trials;

@@ -1,52 +1,93 @@
 //! Rounds over an engine.
 
-ghost use Rattle.std.specs.Prelude.{◌≡◌, ◌≤◌, ◌<◌};
+ghost use Rattle.std.specs.Prelude.{◌≡◌, ◌≤◌, ◌<◌, ◌^◌, length};
+ghost use Rattle.app_laws.specs.Applications.{AreFitStarts};
 
 use super::circuits::circuit_of;
 use super::decks::C17;
-use app_laws::Finals;
+use super::meetings::{contacts, six_meetings};
+use super::outcomes::{
+    Outcome, are_alike, cause_of, copies_of, list_of, outcome_of, serial_outcome,
+};
+use app_laws::App;
+use example_app::Introductions;
 use graph_update::Engine;
-use kdg_text::Steps;
+use kdg_text::Text;
 use logic_sim::Circuit;
-use outer_edge::Seeded;
+use outer_edge::{Gate, Seeded};
 use source_pool::{RunFault, run_rounds};
 use std::alloc::Global;
-use std::marker::Brand;
-use std::sync::ledger::{Blank, Ledger};
 use std::test::Fail;
 use std::thread::Threads;
+use task_order::{Key, Start};
 
-/// What a circuit comes to in rounds, by three workers and the choices of a seed.
+/// The choices of a seed at a gate that isn't open, so that each of them counts.
+struct Watched;
+
+impl Gate for Watched {
+    fn choose(&self, seed: u64, worker: u32, turn: u64) -> u64 {
+        Seeded.choose(seed, worker, turn)
+    }
+
+    fn pass(&self, _worker: u32, _key: &Key) {}
+}
+
+/// What rounds by three workers at a gate come to, from these cells and first tasks, and how many
+/// there are.
+fn rounds_outcome<R: Threads + Sync, A: App + Sync, G: Gate + Sync>(
+    rt: &R,
+    alloc: Global,
+    gate: &G,
+    app: &A,
+    cells: &[A::Val],
+    first: &[Start],
+    budget: u64,
+) -> Result<(Outcome<A::Val>, u64), RunFault>
+    requires fit_cells { (A.meaning app.now).is_fit_cells cells.now }
+    requires fit_first { AreFitStarts (A.meaning app.now) first.now }
+    requires few { length first.now < 2 ^ 32 }
+    requires budget { budget ≤ 1_000_000_000 }
+{
+    let (cells, first) = (copies_of(alloc, cells)?, list_of(alloc, first)?);
+    let engine = match Engine::begin_uncounted(alloc, app, cells, first, budget) {
+        Ok(engine) => engine,
+        Err(fault) => return Err(RunFault::from(cause_of(fault))),
+    };
+    let (finals, rounds) = run_rounds(rt, alloc, engine, gate, 1, 3)?;
+    Ok((outcome_of(finals, Text::new(alloc))?, rounds))
+}
+
+/// What the serial run comes to, and rounds at a gate that is open and at one that isn't.
+pub fn outcomes_of<R: Threads + Sync, A: App + Sync>(
+    rt: &R,
+    alloc: Global,
+    app: &A,
+    cells: &[A::Val],
+    first: &[Start],
+    budget: u64,
+) -> Result<[Outcome<A::Val>; 3], RunFault>
+    requires fit_cells { (A.meaning app.now).is_fit_cells cells.now }
+    requires fit_first { AreFitStarts (A.meaning app.now) first.now }
+    requires few { length first.now < 2 ^ 32 }
+    requires budget { budget ≤ 1_000_000_000 }
+{
+    let in_turn = serial_outcome(alloc, app, cells, first, budget)?;
+    let (open, _) = rounds_outcome(rt, alloc, &Seeded, app, cells, first, budget)?;
+    let (watched, _) = rounds_outcome(rt, alloc, &Watched, app, cells, first, budget)?;
+    Ok([in_turn, open, watched])
+}
+
+/// What a circuit comes to in rounds at an open gate, and how many there are.
 fn rounds_of<R: Threads + Sync>(
     rt: &R,
     alloc: Global,
     circuit: &Circuit,
     budget: u64,
-) -> Result<(Finals<u8>, u64), RunFault>
+) -> Result<(Outcome<u8>, u64), RunFault>
     requires { budget ≤ 1_000_000_000 }
 {
-    counted_rounds_of::<R, Brand>(rt, alloc, circuit, budget, Blank::new(1))
-}
-
-/// The same, with a count of the sets that it asks for.
-fn counted_rounds_of<R: Threads + Sync, L: Ledger>(
-    rt: &R,
-    alloc: Global,
-    circuit: &Circuit,
-    budget: u64,
-    blank: Blank,
-) -> Result<(Finals<u8>, u64), RunFault>
-    requires name { blank.name ≡ L.name }
-    requires parts { blank.parts ≡ L.parts }
-    requires some { 0 < blank.parts }
-    requires budget { budget ≤ 1_000_000_000 }
-{
-    let mut steps = Steps::<L>::new(blank);
-    let (cells, tasks) = (circuit.first_cells()?, circuit.first_tasks()?);
-    match Engine::begin(alloc, circuit, cells, tasks, budget, &mut steps) {
-        Ok(engine) => run_rounds(rt, alloc, engine, &Seeded, 1, 3),
-        Err(_) => Err(RunFault::NoRoom),
-    }
+    let (cells, first) = (circuit.first_cells()?, circuit.first_tasks()?);
+    rounds_outcome(rt, alloc, &Seeded, circuit, &cells, first.items(), budget)
 }
 
 #[test]
@@ -54,7 +95,7 @@ fn rounds_come_to_all_tasks(rt: HostRuntime) -> Result<(), Fail> {
     let alloc = rt.alloc();
     let circuit = circuit_of(alloc, C17)?;
     match rounds_of(&rt, alloc, &circuit, 20) {
-        Ok((finals, rounds)) => assert_eq!(rt; (finals.count, rounds), (20, 5)),
+        Ok((outcome, rounds)) => assert_eq!(rt; (outcome.count, rounds), (20, 5)),
         Err(_) => panic!(rt; "the run didn't end"),
     }
     Ok(())
@@ -66,5 +107,17 @@ fn rounds_with_a_task_too_many_are_refused(rt: HostRuntime) -> Result<(), Fail> 
     let circuit = circuit_of(alloc, C17)?;
     let refused = rounds_of(&rt, alloc, &circuit, 19).err();
     assert!(rt; matches!(refused, Some(RunFault::Budget { limit: 19, .. })));
+    Ok(())
+}
+
+/// Meetings, whose sets move, come to the same in rounds as one after another.
+#[test]
+fn rounds_of_meetings_are_as_the_serial_run(rt: HostRuntime) -> Result<(), Fail> {
+    let alloc = rt.alloc();
+    let app = Introductions::new(alloc, 10);
+    let (cells, first) = (contacts(alloc)?, six_meetings(alloc)?);
+    let [in_turn, open, watched] = outcomes_of(&rt, alloc, &app, &cells, first.items(), 36)?;
+    assert_eq!(rt; in_turn.count, 36);
+    assert!(rt; are_alike(&open, &in_turn) && are_alike(&watched, &in_turn));
     Ok(())
 }

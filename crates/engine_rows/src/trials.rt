@@ -4,7 +4,7 @@ ghost use Rattle.std.specs.Prelude.{[]};
 ghost use Rattle.engine_rows.specs.InHand.{AreInHand};
 
 use super::driving::{
-    Answer, answer_of, claim, finish, finish_all, give_first_tasks, gives, perform_next, value_left,
+    Answer, answer_of, claim, finish_all, give_first_tasks, gives, perform_next, value_left,
 };
 use app_laws::{App, Finals};
 use cell_store::Held;
@@ -86,7 +86,7 @@ pub fn first_end<A: App>(
     let Some(done) = perform_next(&mut engine, &mut jobs)? else {
         return Ok(None);
     };
-    let ended = finish(&mut engine, done);
+    let ended = engine.finish_uncounted(done);
     let answer = answer_alone(&mut engine)?;
     Ok(Some((ended, answer)))
 }
