@@ -22,7 +22,7 @@ use Rattle.graph_update.specs.declared.answers.OverCause.{OverCause}
 use Rattle.graph_update.specs.declared.answers.OverCause.TheVariants as cause
 use Rattle.graph_update.specs.declared.job.Done.{Done}
 use Rattle.graph_update.specs.declared.job.Job.{Job}
-use Rattle.graph_update.specs.Acting.{HasActed, IsActFault, IsPlayed, IsStarted, IsTooMany}
+use Rattle.graph_update.specs.Acting.{HasActed, IsActFault, IsPlayed, IsStarted, IsStuck, IsTooMany}
 use Rattle.graph_update.specs.AtHome.{done_of}
 use Rattle.graph_update.specs.Basis.{Basis}
 use Rattle.graph_update.specs.Engine.{IsDone, IsKept, IsOfClear, MayRun}
@@ -80,13 +80,13 @@ module _ {V : Type 0} (app : Application V) where
     pub task : Task
     pub bundle : Part V
     pub there : HasNode nodes id
-    pub started : IsStarted app old id (midway_of old set nodes) (record { node = id; task = task; bundle = part_of old.cells set })
     pub kept : (over : Option OverCause) → IsKept app (record (midway_of old set nodes) { over = over })
     pub is_done : IsDone app (midway_of old set nodes) (done_of id task bundle children text)
     pub given : home ≡ cells_given (cells_taken old.cells set) bundle
     pub acted : ¬ IsOverLimit app (midway_of old set nodes) (done_of id task bundle children text) → (now : Progress V) → IsFinished app (midway_of old set nodes) (done_of id task bundle children text) now → HasActed app old id now
     pub too_many : old.over ≡ None → old.limit < old.created + length children
         → IsTooMany app old id (record (midway_of old set nodes) { over = Some (cause.Budget (old.created + length children) old.limit) }) (old.created + length children) old.limit
+    pub stuck : old.over ≡ None → ¬ IsOverLimit app (midway_of old set nodes) (done_of id task bundle children text) → IsStuck app old id (record (midway_of old set nodes) { over = Some cause.NoRoom })
     pub steps : (first last : ℕ) → ((of : Node) → node_at nodes id ≡ Some of → last ≤ first + length (laters_of nodes of)) → (of : Node) → node_at old.nodes id ≡ Some of → last ≤ first + length (laters_of old.nodes of)
 
 -- ---- the claim
@@ -194,17 +194,26 @@ module _ {V : Type 0} {app : Application V} (basis : Basis app) (old : Progress 
           after = ap (λ (over : Option OverCause). let now : Progress V = record midway { over = option_or over (Some (cause.Budget (old.created + length children) old.limit)) } in now) (sym not_over);
         }
 
+        is_stuck : old.over ≡ None → ¬ IsOverLimit app midway done → IsStuck app old id (record midway { over = Some cause.NoRoom })
+        is_stuck not_over within = record {
+          midway = midway;
+          done = done;
+          played = played;
+          within = within;
+          after = ap (λ (over : Option OverCause). let now : Progress V = record midway { over = option_or over (Some cause.NoRoom) } in now) (sym not_over);
+        }
+
         pub is_midway : IsMidway app old id set nodes home children text
         is_midway = record {
           task = task;
           bundle = made.bundle;
           there = subst IsSome (sym after) refl;
-          started = is_started;
           kept = kept_midway;
           is_done = record { jobs = job ∷ kept.jobs; values = kept.values; sound = sound_midway; job = job; others = kept.jobs; performed = performed kept.jobs };
           given = made.given;
           acted = λ within now finished. record { midway = midway; done = done; played = played; within = within; finished = finished };
           too_many = is_too_many;
+          stuck = is_stuck;
           steps = steps_before;
         }
 
@@ -222,9 +231,6 @@ module _ {A V : Type 0} (meaning : A → Application V) (inside engine : EngineS
       subst (λ (cells : List (Cell V)). IsTooMany (meaning inside.app) inside.progress id (record inside.progress { cells = cells; nodes = nodes; over = over }) created limit) (sym left_is) many in
       subst (λ (state : EngineState A V). IsTooMany (meaning state.app) state.progress id (record inside.progress { cells = left; nodes = nodes; over = over }) created limit) same out
 
-  pub engine_started : (out now : Progress V) (job : Job V) → now ≡ out → IsStarted (meaning inside.app) inside.progress id out job → IsActFault (meaning engine.app) engine.progress id now cause.NoRoom
-  engine_started out now job is started = inr (
-    job,
-    subst (λ (state : EngineState A V). IsStarted (meaning state.app) state.progress id now job) same
-        (subst (λ (now : Progress V). IsStarted (meaning inside.app) inside.progress id now job) (sym is) started),
-  )
+  pub engine_stuck : (out now : Progress V) → now ≡ out → IsStuck (meaning inside.app) inside.progress id out → IsActFault (meaning engine.app) engine.progress id now cause.NoRoom
+  engine_stuck out now is stuck = inr (subst (λ (state : EngineState A V). IsStuck (meaning state.app) state.progress id now) same
+      (subst (λ (now : Progress V). IsStuck (meaning inside.app) inside.progress id now) (sym is) stuck))

@@ -1,3 +1,4 @@
+pub mod ActsKeep
 pub mod AllHome
 pub mod AtRest
 pub mod Beginnings

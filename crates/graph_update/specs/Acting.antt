@@ -1,17 +1,18 @@
 -- Tasks that act one after the other, with nothing between the claim of one and its end.
-use Rattle.std.specs.Prelude.{◌≡◌, ◌⊎◌, ℕ, ◌+◌, List, [], ◌∷◌, length, unwrap_or}
+use Rattle.std.specs.Prelude.{◌≡◌, ◌⊎◌, ℕ, ◌+◌, List, [], ◌∷◌, length, Some, unwrap_or}
 use Rattle.task_order.specs.declared.task.Task.{Task}
 use Rattle.kdg_graph.specs.declared.node_id.NodeId.{NodeId}
 use Rattle.kdg_graph.specs.Node.{Node}
-use Rattle.kdg_graph.specs.Nodes.{task_at}
+use Rattle.kdg_graph.specs.Nodes.{node_at, task_at}
 use Rattle.app_laws.specs.Applications.{Application}
 use Rattle.graph_update.specs.declared.answers.OverCause.{OverCause}
 use Rattle.graph_update.specs.declared.answers.OverCause.TheVariants as cause
 use Rattle.graph_update.specs.declared.job.Done.{Done}
 use Rattle.graph_update.specs.declared.job.Job.{Job}
-use Rattle.graph_update.specs.Events.{IsClaimed, IsFinished, IsOverLimit, budget_marked}
+use Rattle.graph_update.specs.Events.{IsClaimed, IsFinished, IsOverLimit, budget_marked, marked}
 use Rattle.graph_update.specs.Laws.{IsPerformed}
 use Rattle.graph_update.specs.Progress.{Progress}
+use Rattle.graph_update.specs.Sound.{IsSound}
 
 -- a task that stands for none
 abbrev pub no_task : Task
@@ -20,6 +21,10 @@ no_task = record { key = record { prio = 0; path = [] }; body = record { kind = 
 -- the task of the node with the id, where there is one
 abbrev pub task_named : List Node → NodeId → Task
 task_named nodes id = unwrap_or (task_at nodes id) no_task
+
+-- something holds of these jobs, or of these and a job of the node of the id
+abbrev pub HoldsOfJobs : {V : Type 0} → NodeId → List (Job V) → (List (Job V) → Type 0) → Type 0
+HoldsOfJobs {V} id jobs P = P jobs ⊎ ((job : Job V) × (job.node ≡ id) × P (job ∷ jobs))
 
 module _ {V : Type 0} (app : Application V) where
   -- a claim, with some pick, gives the job of the node
@@ -52,7 +57,26 @@ module _ {V : Type 0} (app : Application V) where
     pub limit_is : limit ≡ midway.limit
     pub after : now ≡ budget_marked app midway done
 
+  -- it is claimed and performed, within what may be created, but for want of memory it isn't ended, which the mark tells
+  pub record IsStuck (old : Progress V) (id : NodeId) (now : Progress V) : Type 0 where
+    pub midway : Progress V
+    pub done : Done V
+    pub played : IsPlayed old id midway done
+    pub within : ¬ IsOverLimit app midway done
+    pub after : now ≡ marked app midway cause.NoRoom
+
   -- it hasn't acted: for too many children; or for want of memory, which leaves all as it was, or the task claimed
   abbrev pub IsActFault : Progress V → NodeId → Progress V → OverCause → Type 0
   IsActFault old id now (cause.Budget created limit) = IsTooMany old id now created limit
-  IsActFault old id now cause.NoRoom = (now ≡ old) ⊎ ((job : Job V) × IsStarted old id now job)
+  IsActFault old id now cause.NoRoom = (now ≡ old) ⊎ IsStuck old id now
+
+  -- whatever the jobs and the whole cells are with which an execution is sound, once the task of the node has acted it is sound with the same
+  -- jobs, and with the whole cells as that task makes them
+  abbrev pub ActStaysSound : Progress V → NodeId → Progress V → Type 0
+  ActStaysSound old id now = (jobs : List (Job V)) (values : List V) (node : Node) → node_at old.nodes id ≡ Some node →
+      IsSound app old jobs values → IsSound app now jobs (app.act node.task values).cells
+
+  -- where it hasn't acted, the execution is sound with the same whole cells, and with the same jobs or with one of that node more
+  abbrev pub RefusedActStaysSound : Progress V → NodeId → Progress V → Type 0
+  RefusedActStaysSound old id now = (jobs : List (Job V)) (values : List V) →
+      IsSound app old jobs values → HoldsOfJobs id jobs (λ held. IsSound app now held values)

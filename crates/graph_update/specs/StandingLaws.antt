@@ -1,5 +1,5 @@
 -- What holds of an execution that stands for the sequential run from its start.
-use Rattle.std.specs.Prelude.{◌≡◌, ◌↔◌, ◌+◌, ◌≤◌, ℕ, true, false, List, Contains, [], ◌∷◌, ◌++◌, length, map, drop, None, IsSomeAnd}
+use Rattle.std.specs.Prelude.{◌≡◌, ◌↔◌, ◌+◌, ◌≤◌, ℕ, true, false, List, Contains, [], ◌∷◌, ◌++◌, length, map, drop, None, Some, IsSomeAnd}
 use Rattle.std.specs.List.{AllByRecursion}
 use Rattle.std.specs.declared.cmp.Ordering.TheVariants.{Less}
 use Rattle.task_order.specs.declared.start.Start.{Start}
@@ -8,7 +8,9 @@ use Rattle.task_order.specs.TaskList.{put_all}
 use Rattle.cell_store.specs.declared.cell.Cell.TheVariants.{Home}
 use Rattle.cell_store.specs.Values.{values_of}
 use Rattle.output_log.specs.Entries.{Entry, IsInKeyOrder, IsNewEntry, ShareNoKey, entries_before, joined_by_key, with_entry}
+use Rattle.kdg_graph.specs.declared.node_id.NodeId.{NodeId}
 use Rattle.kdg_graph.specs.Node.{Node}
+use Rattle.kdg_graph.specs.Nodes.{node_at}
 use Rattle.app_laws.specs.Applications.{Application, AreFitStarts, set_in}
 use Rattle.app_laws.specs.Execution.{Execution, after_steps, first_from, run_until, run_to_end}
 use Rattle.commuting.specs.Commuting.{BothEnd}
@@ -19,6 +21,7 @@ use Rattle.graph_update.specs.declared.answers.FinishFault.{FinishFault}
 use Rattle.graph_update.specs.declared.answers.OverCause.{OverCause}
 use Rattle.graph_update.specs.declared.job.Done.{Done}
 use Rattle.graph_update.specs.declared.job.Job.{Job}
+use Rattle.graph_update.specs.Acting.{HasActed, HoldsOfJobs, IsActFault}
 use Rattle.graph_update.specs.Answers.{IsBegun, IsClaimAnswer, IsFinishRefusal}
 use Rattle.graph_update.specs.Events.{IsClaimed, IsFinished, IsOverLimit, budget_marked, drainable, drained, is_clear, marked}
 use Rattle.graph_update.specs.Laws.{Event, Moment, IsPerformed, IsSoundMoment, Reaches}
@@ -97,6 +100,16 @@ module _ {V : Type 0} (app : Application V) where
   abbrev pub GivingUpKeepsStanding : Type 0
   GivingUpKeepsStanding = (start : State V) (progress : Progress V) (jobs : List (Job V)) (values : List V) →
       StandsFor app start progress jobs values → StandsFor app start (marked app progress OverCause.NoRoom) jobs values
+
+  -- so it does where a task acts, with the same jobs and with the whole cells as that task makes them
+  abbrev pub ActsKeepStanding : Type 0
+  ActsKeepStanding = (start : State V) (old now : Progress V) (id : NodeId) (node : Node) (jobs : List (Job V)) (values : List V) →
+      StandsFor app start old jobs values → HasActed app old id now → node_at old.nodes id ≡ Some node → StandsFor app start now jobs (app.act node.task values).cells
+
+  -- where it doesn't, with the same jobs, or with one of its node more
+  abbrev pub ActFaultsKeepStanding : Type 0
+  ActFaultsKeepStanding = (start : State V) (old now : Progress V) (id : NodeId) (fault : OverCause) (jobs : List (Job V)) (values : List V) →
+      StandsFor app start old jobs values → IsActFault app old id now fault → HoldsOfJobs id jobs (λ held. StandsFor app start now held values)
 
   abbrev pub DrainsKeepStanding : Type 0
   DrainsKeepStanding = (start : State V) (progress : Progress V) (jobs : List (Job V)) (values : List V) →

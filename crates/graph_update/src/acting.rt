@@ -1,10 +1,10 @@
 //! How clear tasks act one after the other, each claimed, performed and ended at once.
 
-ghost use Rattle.std.specs.Prelude.{◌≡◌, ◌+◌, ◌≤◌, length, None, Some, IfErr, OnOk};
+ghost use Rattle.std.specs.Prelude.{◌≡◌, ◌+◌, ◌≤◌, length, None, Some, IfErr, OnOk, OnErr};
 ghost use Rattle.kdg_graph.specs.Edges.{laters_of};
 ghost use Rattle.kdg_graph.specs.Node.{Node};
 ghost use Rattle.kdg_graph.specs.Nodes.{ids_of, node_at, tasks_of};
-ghost use Rattle.graph_update.specs.Acting.{HasActed, IsActFault};
+ghost use Rattle.graph_update.specs.Acting.{ActStaysSound, HasActed, IsActFault, RefusedActStaysSound};
 ghost use Rattle.graph_update.specs.Engine.{AreCovered, AsksForNoFixedSet, HaveFixedSets, IsOfClear};
 ghost use Rattle.graph_update.specs.Events.{clear_nodes};
 
@@ -33,15 +33,17 @@ impl<'a, A: App> Engine<'a, A> {
     /// are copied, as they are where a job is handed out: it works on the cells where they are.
     ///
     /// Where its children are more than may be created, it stays claimed, and the mark tells. For want
-    /// of memory either nothing changes, or it stays claimed. What it wrote is dropped then, as where a
-    /// job is dropped. Sets are asked for as by a finish.
+    /// of memory either nothing changes, or it stays claimed within the limit, and the mark tells. What
+    /// it wrote is dropped then, as where a job is dropped. Sets are asked for as by a finish.
     #[inline(always)]
     pub fn act<L: Ledger>(&mut self, node: NodeId, steps: &mut Steps<L>) -> Result<(), OverCause>
         requires clear { IsOfClear (A.meaning self.old.app) self.old.progress.nodes node }
         requires not_over { self.old.progress.over ≡ None }
         ensures app { self.new.app ≡ self.old.app }
         ensures acted { OnOk result (HasActed (A.meaning self.old.app) self.old.progress node self.new.progress) }
+        ensures sound { OnOk result (ActStaysSound (A.meaning self.old.app) self.old.progress node self.new.progress) }
         ensures fault { IfErr result (IsActFault (A.meaning self.old.app) self.old.progress node self.new.progress) }
+        ensures refused_sound { OnErr result (RefusedActStaysSound (A.meaning self.old.app) self.old.progress node self.new.progress) }
         ensures steps { (of : Node) → node_at self.old.progress.nodes node ≡ Some of → steps.new ≤ steps.old + length (laters_of self.old.progress.nodes of) }
         ensures no_step { AsksForNoFixedSet (A.has_fixed_sets self.old.app) steps.old steps.new }
     {
@@ -83,6 +85,7 @@ impl<'a, A: App> Engine<'a, A> {
             }
             Err(_) => {
                 self.store.drop_written(self.graph.set(node));
+                self.over = Some(OverCause::NoRoom);
                 Err(OverCause::NoRoom)
             }
         }

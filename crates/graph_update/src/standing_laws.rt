@@ -1,5 +1,5 @@
 ghost use Rattle.graph_update.specs.StandingBasis.{StandingBasis};
-ghost use Rattle.graph_update.specs.StandingLaws.{BeginningsStand, ClaimsKeepStanding, ClaimAnswersKeepStanding, FinishesKeepStanding, EndsAddTheirEntry, PassedLimitsKeepStanding, PassedLimitsNeverEnd, RefusalsKeepStanding, GivingUpKeepsStanding, DrainsKeepStanding, DrainsTakeTheNext, EventsKeepStanding, ExecutionsStand, StandingMeansTheSequentialRun, NoNodesAreTheEnd, NoJobsWhereNoneRuns, NoJobsAreRest, IdleIsSound, ClearNodesStayClear};
+ghost use Rattle.graph_update.specs.StandingLaws.{ActFaultsKeepStanding, ActsKeepStanding, BeginningsStand, ClaimsKeepStanding, ClaimAnswersKeepStanding, FinishesKeepStanding, EndsAddTheirEntry, PassedLimitsKeepStanding, PassedLimitsNeverEnd, RefusalsKeepStanding, GivingUpKeepsStanding, DrainsKeepStanding, DrainsTakeTheNext, EventsKeepStanding, ExecutionsStand, StandingMeansTheSequentialRun, NoNodesAreTheEnd, NoJobsWhereNoneRuns, NoJobsAreRest, IdleIsSound, ClearNodesStayClear};
 
 use crate::finish_laws::sound_finish_laws;
 use crate::{finish_laws, laws};
@@ -47,6 +47,15 @@ pub fn finish_standing_laws<A: App>()
     ensures over_limit { (app : A) → PassedLimitsKeepStanding (A.meaning app) }
     ensures never_ends { (app : A) → PassedLimitsNeverEnd (A.meaning app) }
     ensures refused { (app : A) → RefusalsKeepStanding (A.meaning app) }
+{
+    standing_basis::<A>();
+}
+
+/// So it does where a task acts, with the same jobs in hand; and where it doesn't, with these or with the
+/// job of its node more.
+pub fn act_standing_laws<A: App>()
+    ensures stands { (app : A) → ActsKeepStanding (A.meaning app) }
+    ensures fault { (app : A) → ActFaultsKeepStanding (A.meaning app) }
 {
     standing_basis::<A>();
 }

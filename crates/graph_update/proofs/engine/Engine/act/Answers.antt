@@ -7,7 +7,8 @@ use Rattle.kdg_graph.specs.Nodes.{HasNode, node_at, set_at}
 use Rattle.graph_update.specs.declared.answers.OverCause.TheVariants as cause
 use Rattle.graph_update.specs.Engine.{HaveFixedSets, IsKept, IsOfClear}
 use Rattle.graph_update.specs.Progress.{EngineState, Progress}
-use Rattle.graph_update.proofs.ClearActs.{engine_acted, engine_started, engine_too_many, is_home, is_midway, is_node, may_act}
+use Rattle.graph_update.proofs.ActsKeep.{act_faults_keep_sound, acts_keep_sound}
+use Rattle.graph_update.proofs.ClearActs.{engine_acted, engine_stuck, engine_too_many, is_home, is_midway, is_node, may_act}
 use Rattle.graph_update.proofs.FixedSets.{fixed_started}
 use Rattle.graph_update.proofs.ReadyIds.{some_are_ready}
 use Rattle.graph_update.proofs.TaskEnds.{dropped, finished_at_home, is_back, not_over, progress_back, stays_fixed, stays_kept, written_home}
@@ -80,6 +81,9 @@ returns-then-created-limit-clause-fault g c =
     let free = ap (λ (state : EngineState _ _). state.progress.over) c.self.view_is ∙ c.requires.not_over in
     engine_too_many g.A.App.meaning _ _ c.self.view_is c.args.node _ c.drop_written.new.self c.mark_running.new.self _ _ _ left (midway.too_many free c.if-created-limit.true)
 
+pub returns-then-created-limit-clause-refused_sound : goal.returns-then-created-limit-clause-refused_sound
+returns-then-created-limit-clause-refused_sound g c = act_faults_keep_sound (c.basis.ensures c.args.self.now.app) (cause.Budget _ _) (returns-then-created-limit-clause-fault g c)
+
 pub end_at_home-ended-requires-clause-home : goal.end_at_home-ended-requires-clause-home
 end_at_home-ended-requires-clause-home g c κs within =
     let clear = subst (λ (state : EngineState _ _). IsOfClear (g.A.App.meaning state.app) state.progress.nodes c.args.node) (sym c.self.view_is) c.requires.clear in
@@ -122,6 +126,9 @@ returns-in-Ok-ended-clause-acted g c =
     let within = not_over basis _ _ midway.is_done (c.self.inside.created + length c.items-children.result.now) refl c.if-created-limit.false in
     engine_acted g.A.App.meaning _ _ c.self.view_is c.args.node _ (midway.acted within _ finished)
 
+pub returns-in-Ok-ended-clause-sound : goal.returns-in-Ok-ended-clause-sound
+returns-in-Ok-ended-clause-sound g c = acts_keep_sound (c.basis.ensures c.args.self.now.app) (c.sound_finish_laws.ensures c.args.self.now.app) (returns-in-Ok-ended-clause-acted g c)
+
 pub returns-in-Ok-ended-clause-steps : goal.returns-in-Ok-ended-clause-steps
 returns-in-Ok-ended-clause-steps g c =
     let clear = subst (λ (state : EngineState _ _). IsOfClear (g.A.App.meaning state.app) state.progress.nodes c.args.node) (sym c.self.view_is) c.requires.clear in
@@ -155,7 +162,7 @@ invariant_of-self-in-Err g c =
     let at = ap (λ (nodes : List Node). set_at nodes c.args.node) (sym c.in-Err.ensures.nodes) ∙ c.set-in-Err.ensures in
     let left = dropped basis _ _ midway.is_done c.act_at_home.new.store midway.given c.set-in-Err.result.now at c.drop_written-in-Err.new.self c.drop_written-in-Err.ensures.taken in
     let back = progress_back _ c.drop_written-in-Err.new.self c.end_at_home-ended.new.graph c.end_at_home-ended.new.log.entries left c.in-Err.ensures.nodes c.in-Err.ensures.entries in (
-      subst (IsKept (g.A.App.meaning c.self.inside.app.now)) (sym back) (midway.kept c.self.inside.over),
+      subst (IsKept (g.A.App.meaning c.self.inside.app.now)) (sym back) (midway.kept (Some cause.NoRoom)),
       some_are_ready (g.A.App.meaning c.self.inside.app.now) c.end_at_home-ended.new.graph c.forget.new.self [] c.forget.ensures.ids c.forget.ensures.current tt,
       subst (HaveFixedSets (g.A.App.meaning c.self.inside.app.now)) (sym c.in-Err.ensures.nodes) (fixed_started (g.A.App.meaning c.self.inside.app.now) c.args.node c.self.inside.graph c.mark_running.new.self c.mark_running.ensures.marked c.self.invariant.2),
       c.in-Err.ensures.told,
@@ -170,7 +177,12 @@ returns-clause-fault g c =
     let at = ap (λ (nodes : List Node). set_at nodes c.args.node) (sym c.in-Err.ensures.nodes) ∙ c.set-in-Err.ensures in
     let left = dropped basis _ _ midway.is_done c.act_at_home.new.store midway.given c.set-in-Err.result.now at c.drop_written-in-Err.new.self c.drop_written-in-Err.ensures.taken in
     let back = progress_back _ c.drop_written-in-Err.new.self c.end_at_home-ended.new.graph c.end_at_home-ended.new.log.entries left c.in-Err.ensures.nodes c.in-Err.ensures.entries in
-    engine_started g.A.App.meaning _ _ c.self.view_is c.args.node _ _ _ back midway.started
+    let within = not_over basis _ _ midway.is_done (c.self.inside.created + length c.items-children.result.now) refl c.if-created-limit.false in
+    let free = ap (λ (state : EngineState _ _). state.progress.over) c.self.view_is ∙ c.requires.not_over in
+    engine_stuck g.A.App.meaning _ _ c.self.view_is c.args.node _ _ back (midway.stuck free within)
+
+pub returns-clause-refused_sound : goal.returns-clause-refused_sound
+returns-clause-refused_sound g c = act_faults_keep_sound (c.basis.ensures c.args.self.now.app) cause.NoRoom (returns-clause-fault g c)
 
 pub returns-clause-steps : goal.returns-clause-steps
 returns-clause-steps g c =
