@@ -4,6 +4,7 @@ pub mod Answers
 pub mod Basis
 pub mod Engine
 pub mod Events
+pub mod Faults
 pub mod FinishBasis
 pub mod Finishes
 pub mod IdChunks

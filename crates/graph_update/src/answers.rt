@@ -27,6 +27,20 @@ impl From<NoRoom> for OverCause {
     }
 }
 
+impl<V: Held> From<FinishFault<V>> for OverCause {
+    ghost use Rattle.std.specs.Prelude.{◌≡◌};
+    ghost use Rattle.graph_update.specs.Faults.{cause_of};
+
+    ghost from_gives = { λ fault cause. cause ≡ cause_of fault };
+
+    fn from(fault: FinishFault<V>) -> OverCause {
+        match fault {
+            FinishFault::Budget { created, limit, .. } => OverCause::Budget { created, limit },
+            FinishFault::NoRoom { .. } => OverCause::NoRoom,
+        }
+    }
+}
+
 /// How far an execution has come.
 #[derive(Clone, Copy, Debug, PartialEq, Eq)]
 pub struct Counts {
