@@ -18,6 +18,7 @@ mod renaming;
 mod rewriting;
 mod standing_laws;
 mod touching;
+mod uncounted;
 
 pub use answers::{BeginFault, Claim, Counts, FinishFault, OverCause};
 pub use engine::Engine;
