@@ -24,6 +24,10 @@ impl<'a, A: App> Engine<'a, A> {
     /// their paths, as first tasks are. So they keep their order, and their children theirs among them.
     /// What is logged writes nothing, and is forgotten.
     ///
+    /// To stand for the sequential run from a start, an execution has the entries of all ended tasks. So
+    /// where some have ended, it stands for no start after this, which is for callers who look at
+    /// what is left to run alone.
+    ///
     /// Each one's set is asked for once. After `NoRoom` all is dropped.
     pub fn renamed<L: Ledger>(self, steps: &mut Steps<L>) -> Result<Engine<'a, A>, NoRoom>
         requires idle { AllByRecursion (λ node. node.running ≡ false) self.progress.nodes }
