@@ -5,7 +5,6 @@ use Rattle.kdg_graph.specs.declared.node_id.NodeId.{NodeId}
 use Rattle.kdg_graph.specs.Node.{Node}
 use Rattle.kdg_graph.specs.Nodes.{IsGraph, node_at}
 use Rattle.app_laws.specs.Applications.{Application}
-use Rattle.commuting.specs.States.{State}
 use Rattle.graph_update.specs.declared.answers.OverCause.{OverCause}
 use Rattle.graph_update.specs.declared.answers.OverCause.TheVariants as cause
 use Rattle.graph_update.specs.declared.job.Done.{Done}

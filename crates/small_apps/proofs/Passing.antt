@@ -1,5 +1,5 @@
 -- What a passing task leaves.
-use Rattle.std.proofs.Common.{◌≡◌, ◌<◌, ◌-◌, ℕ, Bool, true, false, cond, List, [], ◌∷◌, length, map, arith, refl, sym, ap, ◌∙◌}
+use Rattle.std.proofs.Common.{◌≡◌, ◌<◌, ◌-◌, ℕ, true, false, cond, List, [], ◌∷◌, length, map, arith, refl, sym, ◌∙◌}
 use Rattle.std.specs.Prelude.{◌==◌, slice_set}
 use Rattle.task_order.specs.declared.task.Body.{Body}
 use Rattle.task_order.specs.declared.task.Task.{Task}
@@ -7,7 +7,6 @@ use Rattle.cell_store.specs.Part.{Part}
 use Rattle.cell_store.specs.Cells.{part_of, with_value}
 use Rattle.cell_store.specs.Values.{homes}
 use Rattle.cell_store.specs.Laws.{HomesByLocation}
-use Rattle.app_laws.specs.declared.app.Effect.{Effect}
 use Rattle.app_laws.specs.declared.child.Child.{Child}
 use Rattle.app_laws.specs.Applications.{handed, effect_of}
 use Rattle.small_apps.specs.declared.trails.Trail.{Trail}

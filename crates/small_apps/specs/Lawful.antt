@@ -1,7 +1,7 @@
 -- The laws of places where tasks leave their paths.
-use Rattle.std.specs.Prelude.{◌≡◌, ◌≢◌, ◌==◌, ℕ, zero, suc, ◌+◌, ◌<◌, ◌≤◌, ◌^◌, Bool, true, false, List, [], ◌∷◌, length, slice_get, slice_set, IsSome, IsFalse, refl}
+use Rattle.std.specs.Prelude.{◌≡◌, ◌≢◌, ◌==◌, ℕ, zero, suc, ◌<◌, ◌≤◌, ◌^◌, Bool, List, [], ◌∷◌, length, slice_get, slice_set, IsSome, IsFalse, refl}
 use Rattle.std.specs.List.{AllByRecursion, filter}
-use Rattle.std.proofs.Common.{arith, lit<, sym, ap, ◌∙◌, subst}
+use Rattle.std.proofs.Common.{arith, lit<, ap, ◌∙◌, subst}
 use Rattle.std.proofs.lemmas.Bool.{cond_both}
 use Rattle.std.proofs.lemmas.Bool.Decides.{nat_tests}
 use Rattle.std.proofs.lemmas.List.{length-set}
@@ -11,7 +11,7 @@ use Rattle.task_order.specs.declared.task.Task.{Task}
 use Rattle.rw_sets.specs.Accesses.{IsAscending, Conflicts, access_at, writes}
 use Rattle.rw_sets.specs.AccessLaws.{ascending_cons, ascending_none}
 use Rattle.rw_sets.specs.LookupLaws.{merges_hold_both}
-use Rattle.app_laws.specs.Applications.{AgreeOn, set_in, CellsAreCounted, SetsAreInRange, ActsAreFit, SetsAreLocal, ActsAreLocal, ChildrenComeNoEarlier, SetsStayWithin, WalksAreTrue, IsSafeAlone, SafeTasksStaySafe, IsLawful}
+use Rattle.app_laws.specs.Applications.{set_in, CellsAreCounted, SetsAreInRange, ActsAreFit, SetsAreLocal, ActsAreLocal, ChildrenComeNoEarlier, SetsStayWithin, WalksAreTrue, IsSafeAlone, SafeTasksStaySafe, IsLawful}
 use Rattle.app_laws.specs.Execution.{children_from}
 use Rattle.small_apps.specs.declared.trails.Trail.{Trail}
 use Rattle.small_apps.specs.Trails.{place_of, follower, followers, trails}
