@@ -51,7 +51,7 @@ fn rounds_outcome<R: Threads + Sync, A: App + Sync, G: Gate + Sync>(
     let (cells, first) = (copies_of(alloc, cells)?, list_of(alloc, first)?);
     let engine = match Engine::begin_uncounted(alloc, app, cells, first, budget) {
         Ok(engine) => engine,
-        Err(fault) => return Err(RunFault::from(cause_of(fault))),
+        Err(fault) => return Err(cause_of(fault)),
     };
     let (finals, rounds) = run_rounds(rt, alloc, engine, gate, 1, 3)?;
     Ok((outcome_of(finals, Text::new(alloc))?, rounds))

@@ -17,11 +17,11 @@ use Rattle.app_laws.specs.declared.serial_run.Finals.{Finals}
 use Rattle.commuting.specs.Clear.{IsReady}
 use Rattle.commuting.specs.Rounds.{RoundsAreOneNumber, TakesRounds}
 use Rattle.commuting.specs.States.{run_from, state_of}
+use Rattle.graph_update.specs.declared.answers.OverCause.{OverCause}
+use Rattle.graph_update.specs.declared.answers.OverCause.TheVariants as faults
 use Rattle.graph_update.specs.Answers.{IsBegun}
 use Rattle.graph_update.specs.Progress.{Progress}
 use Rattle.source_pool.specs.Runs.{IsRoundsEnd, IsRunFault, rest_of_run, state_at_rest}
-use Rattle.source_pool.specs.declared.rounds.RunFault.{RunFault}
-use Rattle.source_pool.specs.declared.rounds.RunFault.TheVariants as faults
 use Rattle.task_order.specs.declared.start.Start.{Start}
 use Rattle.kdg_prog.specs.declared.status.Status.{Status}
 use Rattle.kdg_prog.specs.declared.words.Mode.TheVariants.{Rounds}
@@ -58,7 +58,7 @@ module _ {V : Type 0} (options : Options) (problem : Problem V) (progress : Prog
       let limit : progress.limit - progress.ended ≡ options.budget = omega (arith, begun.limit_is, begun.none_ended) in
       (λ i. run_from problem.app.act (limit i) end (begins i))
 
-  pub refusal_of_rounds : options.mode ≡ Rounds → (fault : RunFault) (answer : Status) → IsRunFault problem.app progress fault → AnswersRounds fault answer → IsRunRefusal options problem answer
+  pub refusal_of_rounds : options.mode ≡ Rounds → (fault : OverCause) (answer : Status) → IsRunFault problem.app progress fault → AnswersRounds fault answer → IsRunRefusal options problem answer
   refusal_of_rounds in_rounds (faults.Budget created limit) answer over told =
       refusal_when_endless options problem in_rounds created limit (sym rest_is_whole ∙ over.too_long) (over.limit_is ∙ begun.limit_is) over.above answer told
   refusal_of_rounds in_rounds faults.NoRoom answer over told = inr (inr told)

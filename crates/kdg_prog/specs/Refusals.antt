@@ -7,10 +7,10 @@ use Rattle.kdg_text.specs.declared.fault.ReadFail.{ReadFail}
 use Rattle.kdg_text.specs.declared.fault.ReadFail.TheVariants as reader
 use Rattle.graph_update.specs.declared.answers.BeginFault.{BeginFault}
 use Rattle.graph_update.specs.declared.answers.BeginFault.TheVariants as begin
+use Rattle.graph_update.specs.declared.answers.OverCause.{OverCause}
+use Rattle.graph_update.specs.declared.answers.OverCause.TheVariants as rounds
 use Rattle.outer_edge.specs.declared.whole_input.ReadAllFault.{ReadAllFault}
 use Rattle.outer_edge.specs.declared.whole_input.ReadAllFault.TheVariants as input
-use Rattle.source_pool.specs.declared.rounds.RunFault.{RunFault}
-use Rattle.source_pool.specs.declared.rounds.RunFault.TheVariants as rounds
 use Rattle.kdg_prog.specs.declared.status.Status.{Status}
 use Rattle.kdg_prog.specs.declared.status.Status.TheVariants as status
 use Rattle.kdg_prog.specs.declared.words.Mode.TheVariants.{Serial}
@@ -38,7 +38,7 @@ abbrev pub AnswersBegin : BeginFault → Status → Type 0
 AnswersBegin (begin.Budget asked limit) answer = answer ≡ status.Budget asked limit
 AnswersBegin begin.NoRoom answer = answer ≡ status.NoMemory
 
-abbrev pub AnswersRounds : RunFault → Status → Type 0
+abbrev pub AnswersRounds : OverCause → Status → Type 0
 AnswersRounds (rounds.Budget created limit) answer = answer ≡ status.Budget created limit
 AnswersRounds rounds.NoRoom answer = answer ≡ status.NoMemory
 

@@ -15,7 +15,7 @@ use Rattle.mtx_reader.specs.declared.pattern.Pattern.{Pattern}
 use Rattle.mtx_reader.specs.Addends.{Addend, ones_among}
 use Rattle.mtx_reader.specs.Ascending.{IsAscendingBy}
 use Rattle.mtx_reader.specs.Faults.{bad_size, bad_entry, bad_place, few, many, beyond}
-use Rattle.mtx_reader.specs.Places.{Place, place_cmp, IsWithin}
+use Rattle.mtx_reader.specs.Places.{place_cmp, IsWithin}
 
 abbrev pub most_rows : ℕ
 most_rows = 4096

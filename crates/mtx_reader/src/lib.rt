@@ -1,4 +1,5 @@
-//! Reads patterns of matrices in the Matrix Market format, as it is used for sparse matrices.
+//! Reads where matrices over the field of two elements have their ones, in the Matrix Market
+//! format, as it is used for sparse matrices.
 #![tactic(auto)]
 
 mod banner;

@@ -102,7 +102,7 @@ fn keep_odd(places: &mut Vec<(u32, u32)>)
     for next in 0..places.len() {
         let place = places[next];
         if kept > 0 && places[kept - 1] == place {
-            // the one before and this one make an even number
+            // equal ones cancel in pairs
             kept -= 1;
         } else {
             places[kept] = place;
@@ -112,13 +112,13 @@ fn keep_odd(places: &mut Vec<(u32, u32)>)
     places.truncate(kept);
 }
 
-/// Which places of a matrix aren't zero.
+/// Where a matrix over the field of two elements has its ones.
 #[derive(Drop)]
 pub struct Pattern {
     /// How many rows there are.
     pub rows: u32,
     /// How many columns there are.
     pub cols: u32,
-    /// The places that aren't zero.
+    /// The places that have a one.
     pub places: PlaceList,
 }

@@ -9,7 +9,6 @@ use Rattle.graph_update.specs.declared.answers.OverCause.TheVariants as cause
 use Rattle.graph_update.specs.Acting.{IsActFault}
 use Rattle.graph_update.specs.Progress.{Progress}
 use Rattle.source_pool.specs.Course.{IsActing}
-use Rattle.source_pool.specs.Faults.{fault_by}
 use Rattle.source_pool.specs.Laws.{TooManyActsNeverEnd}
 use Rattle.source_pool.specs.Runs.{IsRunFault}
 
@@ -25,7 +24,7 @@ next_left xs k default inside =
 
 module _ {V : Type 0} (app : Application V) where
   pub not_acted : TooManyActsNeverEnd app → (start now next : Progress V) (target : State V) (text : List ℕ) (id : NodeId) (ids : List NodeId)
-      → IsActing app start (values_of start.cells) target text now (id ∷ ids) → (why : OverCause) → IsActFault app now id next why → IsRunFault app start (fault_by why)
+      → IsActing app start (values_of start.cells) target text now (id ∷ ids) → (why : OverCause) → IsActFault app now id next why → IsRunFault app start why
   not_acted never start now next target text id ids acting (cause.Budget created limit) many =
       let ends = never start now next (values_of start.cells) target text id ids created limit acting many in
       record { too_long = ends.0; limit_is = ends.1; above = ends.2 }

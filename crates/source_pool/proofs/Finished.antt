@@ -10,9 +10,9 @@ use Rattle.graph_update.specs.declared.answers.FinishFault.TheVariants as refusa
 use Rattle.graph_update.specs.declared.job.Done.{Done}
 use Rattle.graph_update.specs.Answers.{IsFinishRefusal}
 use Rattle.graph_update.specs.Engine.{IsDone}
+use Rattle.graph_update.specs.Faults.{cause_of}
 use Rattle.graph_update.specs.Progress.{Progress}
 use Rattle.source_pool.specs.Course.{IsEnding}
-use Rattle.source_pool.specs.Faults.{fault_of}
 use Rattle.source_pool.specs.Laws.{MayEnd, TooManyNeverEnd}
 use Rattle.source_pool.specs.Runs.{IsRunFault}
 use Rattle.source_pool.specs.Turns.{slot_at, taken_in_turn}
@@ -42,7 +42,7 @@ module _ {V : Type 0} (app : Application V) where
   is_done now done may = record { jobs = may.jobs; values = may.values; sound = may.sound; job = may.job; others = may.others; performed = may.performed }
 
   pub refused : TooManyNeverEnd app → (start now next : Progress V) (target : State V) (text : List ℕ) (done : Done V) (dones : List (Done V))
-      → IsEnding app start (values_of start.cells) target text now (done ∷ dones) → (fault : FinishFault V) → IsFinishRefusal app now done next fault → IsRunFault app start (fault_of fault)
+      → IsEnding app start (values_of start.cells) target text now (done ∷ dones) → (fault : FinishFault V) → IsFinishRefusal app now done next fault → IsRunFault app start (cause_of fault)
   refused never start now next target text done dones ending (refusal.Budget back created limit) is = record {
     too_long = never start now (values_of start.cells) target text done dones ending is.1;
     limit_is = is.3 ∙ ending.come.limit;

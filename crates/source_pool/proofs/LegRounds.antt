@@ -1,16 +1,16 @@
 -- Legs of a run: one more round, the end of the last one, and what the next one begins with.
-use Rattle.std.proofs.Common.{◌≡◌, ◌≢◌, ◌+◌, ◌++◌, ℕ, suc, List, [], refl, sym, ap, subst, ◌∙◌, add-one, append_assoc, arith}
+use Rattle.std.proofs.Common.{◌≡◌, ◌≢◌, ◌+◌, ◌++◌, ℕ, suc, List, [], refl, sym, ap, subst, ◌∙◌, add-one, append_assoc}
 use Rattle.cell_store.specs.Values.{values_of}
 use Rattle.kdg_graph.specs.Nodes.{tasks_of}
 use Rattle.output_log.specs.Entries.{joined_texts}
 use Rattle.app_laws.specs.declared.serial_run.Finals.{Finals}
 use Rattle.app_laws.specs.Applications.{Application}
 use Rattle.commuting.specs.Rounds.{after_round}
+use Rattle.graph_update.specs.declared.answers.OverCause.{OverCause}
+use Rattle.graph_update.specs.declared.answers.OverCause.TheVariants as cause
 use Rattle.graph_update.specs.Progress.{Progress}
 use Rattle.graph_update.specs.Renaming.{IsRenamed}
 use Rattle.graph_update.specs.Sound.{IsSound}
-use Rattle.source_pool.specs.declared.rounds.RunFault.{RunFault}
-use Rattle.source_pool.specs.declared.rounds.RunFault.TheVariants as fault
 use Rattle.source_pool.specs.Course.{IsAtRest, LeadsByRounds}
 use Rattle.source_pool.specs.Laws.{RestWithoutNodesIsTheEnd, RoundsAdd, RoundsAreTaken, StartsAreAtRest, WholeIsHome}
 use Rattle.source_pool.specs.Legs.{BeginsAtRest, GoesOnFrom}
@@ -55,10 +55,10 @@ module _ {V : Type 0} {app : Application V} where
       (record { store = refl; text_is = texts ∙ append_assoc text more (joined_texts now.log); count = refl })
 
   -- what ends a leg too early ends the run so
-  pub leg_fails : (start now : Progress V) (text : List ℕ) (rounds : ℕ) → GoesOnFrom app start text rounds now → (why : RunFault) → IsRunFault app now why → IsRunFault app start why
-  leg_fails start now text rounds goes_on (fault.Budget created limit) over = record {
+  pub leg_fails : (start now : Progress V) (text : List ℕ) (rounds : ℕ) → GoesOnFrom app start text rounds now → (why : OverCause) → IsRunFault app now why → IsRunFault app start why
+  leg_fails start now text rounds goes_on (cause.Budget created limit) over = record {
     too_long = goes_on.too_long over.too_long;
     limit_is = over.limit_is ∙ goes_on.limit;
     above = over.above;
   }
-  leg_fails start now text rounds goes_on fault.NoRoom over = tt
+  leg_fails start now text rounds goes_on cause.NoRoom over = tt

@@ -1,5 +1,5 @@
 -- Rounds add up, and where nothing is left they have come to the end of the sequential run.
-use Rattle.std.proofs.Common.{false, ◌≡◌, ◌≢◌, ℕ, zero, suc, ◌+◌, ◌-◌, List, [], ◌∷◌, Option, Some, None, length, refl, sym, ap, subst, ◌∙◌, arith}
+use Rattle.std.proofs.Common.{◌≡◌, ◌≢◌, ℕ, zero, suc, ◌+◌, ◌-◌, List, [], Option, Some, None, length, refl, sym, ap, subst, ◌∙◌, arith}
 use Rattle.std.specs.Prelude.{IsSomeAnd}
 use Rattle.std.proofs.lemmas.Bool.{true≢false}
 use Rattle.task_order.specs.Key.{end}
@@ -18,12 +18,8 @@ use Rattle.commuting.specs.States.{State, run_from}
 use Rattle.graph_update.specs.Progress.{Progress, whole_state}
 use Rattle.graph_update.specs.Sound.{IsSound}
 use Rattle.source_pool.specs.Basis.{Basis}
-use Rattle.graph_update.specs.declared.job.Job.{Job}
-use Rattle.kdg_graph.specs.Node.{Node}
-use Rattle.source_pool.proofs.Jobs.{node_of}
-use Rattle.source_pool.proofs.Lists.{all_at, here}
 use Rattle.source_pool.proofs.Logged.{texts_in_all}
-use Rattle.source_pool.specs.Course.{IsAtRest, LeadsByRounds, NothingRuns}
+use Rattle.source_pool.specs.Course.{IsAtRest, LeadsByRounds}
 use Rattle.source_pool.specs.Laws.{IsSequentialEnd, RestWithoutNodesIsTheEnd, RoundsAdd, RoundsAreTaken, WholeIsHome}
 
 module _ {V : Type 0} (app : Application V) where

@@ -18,7 +18,7 @@ use Rattle.graph_update.specs.Events.{IsClaimed, IsFinished, IsOverLimit, clear_
 use Rattle.graph_update.specs.Laws.{IsPerformed}
 use Rattle.graph_update.specs.Progress.{Progress, whole_state}
 use Rattle.graph_update.specs.Sound.{IsSound}
-use Rattle.source_pool.specs.Course.{AreAllDone, HaveOwnKeys, IsActing, IsAtRest, IsDrawing, IsEnding, LeadsByRounds, NothingRuns, done_tasks, idle_count}
+use Rattle.source_pool.specs.Course.{AreAllDone, HaveOwnKeys, IsActing, IsAtRest, IsDrawing, IsEnding, LeadsByRounds, done_tasks, idle_count}
 
 module _ {V : Type 0} (app : Application V) where
   -- ---- claims

@@ -1,6 +1,5 @@
 pub mod Basis
 pub mod Course
-pub mod Faults
 pub mod Laws
 pub mod Legs
 pub mod Performing

@@ -8,9 +8,9 @@ use Rattle.app_laws.specs.declared.serial_run.Finals.{Finals}
 use Rattle.app_laws.specs.Execution.{Execution}
 use Rattle.commuting.specs.Rounds.{TakesRounds}
 use Rattle.commuting.specs.States.{State, run_from}
+use Rattle.graph_update.specs.declared.answers.OverCause.{OverCause}
+use Rattle.graph_update.specs.declared.answers.OverCause.TheVariants as cause
 use Rattle.graph_update.specs.Progress.{Progress, whole_state}
-use Rattle.source_pool.specs.declared.rounds.RunFault.{RunFault}
-use Rattle.source_pool.specs.declared.rounds.RunFault.TheVariants as fault
 
 -- the state of an execution in which nothing is running: its cells are those of the store
 abbrev pub state_at_rest : {V : Type 0} → Progress V → State V
@@ -38,6 +38,6 @@ module _ {V : Type 0} (app : Application V) (start : Progress V) where
     pub above : limit < created
 
   -- too many tasks; want of memory may come at any time
-  abbrev pub IsRunFault : RunFault → Type 0
-  IsRunFault (fault.Budget created limit) = IsOverLimit created limit
-  IsRunFault fault.NoRoom = Unit {0}
+  abbrev pub IsRunFault : OverCause → Type 0
+  IsRunFault (cause.Budget created limit) = IsOverLimit created limit
+  IsRunFault cause.NoRoom = Unit {0}

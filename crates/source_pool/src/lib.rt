@@ -12,8 +12,9 @@ mod performing;
 mod round_lists;
 mod rounds;
 
+pub use graph_update::OverCause as RunFault;
 pub use laws::{acting_laws, draining_laws, drawing_laws, ending_laws, leg_laws, rounds_laws};
-pub use rounds::{RunFault, run_rounds};
+pub use rounds::run_rounds;
 
 #[cfg(test)]
 mod tests;

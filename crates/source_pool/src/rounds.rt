@@ -8,6 +8,7 @@ ghost use Rattle.source_pool.specs.Course.{IsAtRest, LeadsByRounds, NothingRuns,
 ghost use Rattle.source_pool.specs.Legs.{BeginsAtRest};
 ghost use Rattle.source_pool.specs.Runs.{IsRoundsEnd, IsRunFault, state_at_rest};
 
+use crate::RunFault;
 use crate::acting::act_round;
 use crate::claiming::Picks;
 use crate::draining::drain;
@@ -16,67 +17,13 @@ use crate::laws::{drawing_laws, leg_laws, rounds_laws};
 use crate::performing::{perform_round, stays_alone};
 use crate::round_lists::RoundLists;
 use app_laws::{App, Finals, new_paths_pay};
-use cell_store::Held;
-use graph_update::{Engine, FinishFault, OverCause, rest_laws};
+use graph_update::{Engine, rest_laws};
 use kdg_text::{NoRoom, Steps, Text};
 use outer_edge::Gate;
 use std::alloc::Global;
 use std::marker::Brand;
 use std::sync::ledger::{Blank, Ledger};
 use std::thread::Threads;
-
-/// Why a run in rounds did not end.
-#[derive(Clone, Copy, Debug, PartialEq, Eq)]
-pub enum RunFault {
-    /// More tasks would have been created than allowed.
-    Budget {
-        /// How many tasks there would have been.
-        created: u64,
-        /// How many are allowed.
-        limit: u64,
-    },
-    /// No memory was to be had.
-    NoRoom,
-}
-
-impl From<NoRoom> for RunFault {
-    ghost use Rattle.std.specs.Prelude.{◌≡◌};
-    ghost use Rattle.source_pool.specs.declared.rounds.RunFault.TheVariants.{NoRoom};
-
-    ghost from_gives = { λ _ fault. fault ≡ NoRoom };
-
-    fn from(_: NoRoom) -> RunFault {
-        RunFault::NoRoom
-    }
-}
-
-impl From<OverCause> for RunFault {
-    ghost use Rattle.std.specs.Prelude.{◌≡◌};
-    ghost use Rattle.source_pool.specs.Faults.{fault_by};
-
-    ghost from_gives = { λ cause fault. fault ≡ fault_by cause };
-
-    fn from(cause: OverCause) -> RunFault {
-        match cause {
-            OverCause::Budget { created, limit } => RunFault::Budget { created, limit },
-            OverCause::NoRoom => RunFault::NoRoom,
-        }
-    }
-}
-
-impl<V: Held> From<FinishFault<V>> for RunFault {
-    ghost use Rattle.std.specs.Prelude.{◌≡◌};
-    ghost use Rattle.source_pool.specs.Faults.{fault_of};
-
-    ghost from_gives = { λ refusal fault. fault ≡ fault_of refusal };
-
-    fn from(refusal: FinishFault<V>) -> RunFault {
-        match refusal {
-            FinishFault::Budget { created, limit, .. } => RunFault::Budget { created, limit },
-            FinishFault::NoRoom { .. } => RunFault::NoRoom,
-        }
-    }
-}
 
 /// Runs an execution to its end in rounds, and counts them: all tasks that are clear are claimed and
 /// performed, each by its worker, and then ended in the order of their keys. A task may be performed
@@ -85,7 +32,9 @@ impl<V: Held> From<FinishFault<V>> for RunFault {
 /// Worker 0 claims, and the gate chooses for it at each turn, counted from 0; job number `i` of a
 /// round is worker `i mod workers`'s. But where the gate is open, a round in which no thread is likely
 /// to start asks for no choice: its tasks are claimed, performed and ended one after the other, in the
-/// order of their keys. What was handed in is dropped after a fault.
+/// order of their keys. Where the application ignores paths too, pending tasks may get shorter ones between
+/// two rounds; a gate that isn't open is passed by each task under the key that it began with. What was
+/// handed in is dropped after a fault.
 pub fn run_rounds<'a, R: Threads + Sync, A: App + Sync, G: Gate + Sync>(
     rt: &R,
     alloc: Global,

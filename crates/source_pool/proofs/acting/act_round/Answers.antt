@@ -9,22 +9,29 @@ use Rattle.source_pool.specs.Course.{IsActing}
 use Rattle.source_pool.proofs.Acted.{some_in}
 use Rattle.source_pool.proofs.acting.act_round.Goals as goal
 
-pub act_in_turn-requires-send-A-Val : goal.act_in_turn-requires-send-A-Val
-act_in_turn-requires-send-A-Val g c κs within =
+pub act_in_turn-requires : goal.act_in_turn-requires
+act_in_turn-requires g c κs within =
     let app = g.A.App.meaning c.args.engine.now.app in
     let now = c.args.engine.now.progress in
-    let acting = c.acting_laws.ensures.begins c.args.engine.now.app g.from.start now (values_of g.from.start.cells) g.from.state g.from.text c.requires.1.1.1.1.0 in
+    let acting = c.acting_laws.ensures.begins c.args.engine.now.app g.from.start now (values_of g.from.start.cells) g.from.state g.from.text c.requires.1.1.1.1.1.1.0 in
     let same : c.deref.result.now ≡ ids_of (clear_nodes app now.nodes) = c.deref.ensures.value ∙ c.in_ok-find_clear.ensures.ids in
-    let sent = c.requires.1.1.1.0 in (
+    let sent = c.requires.1.1.1.1.0 in
+    let horizon = c.requires.1.1.1.1.1.0 in (
       within.0,
       (
         within.1.0,
         (
-          within.1.1,
+          within.1.1.0,
           (
-            record { owned = sent.owned; leaving = λ k. sent.leaving (λ _. k (of_param 2)) },
-            subst (λ (state : EngineState g.row.A.Denot g.row.A-Val.Denot). IsActing (g.A.App.meaning state.app) g.from.start (values_of g.from.start.cells) (after_round (g.A.App.meaning state.app) g.from.state) g.from.text state.progress c.deref.result.now) (sym c.find_clear.ensures.same)
-                (subst (IsActing app g.from.start (values_of g.from.start.cells) (after_round app g.from.state) g.from.text now) (sym same) acting),
+            within.1.1.1,
+            (
+              record { owned = sent.owned; leaving = λ k. sent.leaving (λ _. k (of_param 2)) },
+              (
+                record { owned = horizon.owned; leaving = λ k. horizon.leaving (λ _. k (of_param 3)) },
+                subst (λ (state : EngineState g.row.A.Denot g.row.A-Val.Denot). IsActing (g.A.App.meaning state.app) g.from.start (values_of g.from.start.cells) (after_round (g.A.App.meaning state.app) g.from.state) g.from.text state.progress c.deref.result.now) (sym c.find_clear.ensures.same)
+                    (subst (IsActing app g.from.start (values_of g.from.start.cells) (after_round app g.from.state) g.from.text now) (sym same) acting),
+              ),
+            ),
           ),
         ),
       ),
@@ -36,5 +43,5 @@ returns-clause-ended g c =
     let now = c.args.engine.now.progress in
     let same : c.deref.result.now ≡ ids_of (clear_nodes app now.nodes) = c.deref.ensures.value ∙ c.in_ok-find_clear.ensures.ids in
     let some = some_in (ids_of (clear_nodes app now.nodes))
-    (c.acting_laws.ensures.some c.args.engine.now.app g.from.start now (values_of g.from.start.cells) g.from.state g.from.text c.requires.1.1.1.1.0 c.requires.1.1.1.1.1) in
+    (c.acting_laws.ensures.some c.args.engine.now.app g.from.start now (values_of g.from.start.cells) g.from.state g.from.text c.requires.1.1.1.1.1.1.0 c.requires.1.1.1.1.1.1.1) in
     omega (arith, c.in_ok-cells.ensures.ended, ap (λ (state : EngineState g.row.A.Denot g.row.A-Val.Denot). state.progress.ended) c.find_clear.ensures.same, ap length same, some)

@@ -1,3 +1,4 @@
+use mir.Syntax.{of_param}
 use Rattle.std.proofs.Common.{List, Option, subst}
 use Rattle.std.proofs.lemmas.Result.{on_ok_weaker}
 use Rattle.cell_store.specs.Values.{values_of}
@@ -6,6 +7,34 @@ use Rattle.graph_update.specs.declared.job.Done.{Done}
 use Rattle.source_pool.specs.Turns.{AreTurns}
 use Rattle.source_pool.proofs.AsDrawn.{ends_in_turn, some_in_turn}
 use Rattle.source_pool.proofs.performing.perform_round.Goals as goal
+
+pub perform_each-requires : goal.perform_each-requires
+perform_each-requires g c κs within =
+    let asked = c.requires.1.1.1.1.1 in
+    let sent = asked.0 in
+    let horizon = asked.1.0 in
+    let others = asked.1.1 in (
+      within.0,
+      (
+        within.1.0,
+        (
+          within.1.1.0,
+          (
+            within.1.1.1.0,
+            (
+              within.1.1.1.1,
+              (
+                record { owned = sent.owned; leaving = λ k. sent.leaving (λ _. k (of_param 3)) },
+                (
+                  record { owned = horizon.owned; leaving = λ k. horizon.leaving (λ _. k (of_param 4)) },
+                  (others.0, (others.1.0, (others.1.1.0, (others.1.1.1.0, others.1.1.1.1.0)))),
+                ),
+              ),
+            ),
+          ),
+        ),
+      ),
+    )
 
 pub returns-clause-ending : goal.returns-clause-ending
 returns-clause-ending g c =
@@ -18,7 +47,7 @@ returns-clause-ending g c =
 
 pub returns-clause-some : goal.returns-clause-some
 returns-clause-some g c =
-    let at_rest = c.requires.1.1.1.1.1.1.1.1.1 in
+    let at_rest = c.requires.1.1.1.1.1.1.1.1.1.1.1 in
     let app : Application g.row.A-Val.Denot = g.A.App.meaning c.args.engine.now.app in
     let slots : List (Option (Done g.row.A-Val.Denot)) = c.perform_each.new.lists.dones.items in
     on_ok_weaker c.order_turns.result (λ (are : AreTurns c.deref.result.now c.order_turns.new.turns.items).

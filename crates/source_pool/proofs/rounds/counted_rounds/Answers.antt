@@ -16,8 +16,8 @@ use Rattle.source_pool.proofs.rounds.counted_rounds.Goals as goal
 pub loop-more-init : goal.loop-more-init
 loop-more-init g c =
     let app = g.A.App.meaning c.args.engine.app in
-    let rest = c.requires.1.1.1.1.1.1.1.1.1.1.1.1.1.0 in
-    let begins = c.requires.1.1.1.1.1.1.1.1.1.1.1.1.1.1.0 in
+    let rest = c.requires.1.1.1.1.1.1.1.1.1.1.1.1.1.1.1.0 in
+    let begins = c.requires.1.1.1.1.1.1.1.1.1.1.1.1.1.1.1.1.0 in
     let leg = subst (λ (text : List ℕ). GoesOnFrom app g.start text 0 g.start) (sym c.new-text.ensures) (c.leg_laws.ensures.begins c.args.engine.app g.start) in
     record {
       app = refl;
@@ -28,8 +28,9 @@ loop-more-init g c =
 
 pub play_leg-requires : goal.play_leg-requires
 play_leg-requires g c κs within =
-    let bounds = c.requires.1.1.1.1.1 in
-    let limited = c.requires.1.1.1.1.1.1.1.1.1.1.1.1.1.1.1 in
+    let bounds = c.requires.1.1.1.1.1.1 in
+    let others = bounds.1.1 in
+    let limited = c.requires.1.1.1.1.1.1.1.1.1.1.1.1.1.1.1.1.1 in
     let at = c.loop-more in
     let now = at.engine.progress in
     let rest = subst (λ (app : g.row.A.Denot). BeginsAtRest (g.A.App.meaning app) now) (sym at.invariant.app) at.invariant.rest in
@@ -42,8 +43,8 @@ play_leg-requires g c κs within =
           (
             within.1.1.1.0,
             (
-              within.1.1.1.1,
-              (bounds.0, (bounds.1.0, (bounds.1.1.0, (bounds.1.1.1.0, (bounds.1.1.1.1.1.1.1.0, (rest, (refl, (limited, c.new-more.ensures)))))))),
+              within.1.1.1.1.0,
+              (within.1.1.1.1.1, (bounds.0, (bounds.1.0, (others.0, (others.1.0, (others.1.1.0, (others.1.1.1.1.1.1.0, (rest, (refl, (limited, c.new-more.ensures)))))))))),
             ),
           ),
         ),

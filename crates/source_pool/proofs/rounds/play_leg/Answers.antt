@@ -4,24 +4,25 @@ use Rattle.commuting.specs.Rounds.{after_round}
 use Rattle.kdg_graph.specs.Nodes.{least_of}
 use Rattle.source_pool.specs.Course.{IsAtRest}
 use Rattle.source_pool.specs.Runs.{state_at_rest}
-use Rattle.source_pool.proofs.EngineAtRest.{no_node, rest_at, some_node}
+use Rattle.source_pool.proofs.EngineAtRest.{rest_at, some_node}
 use Rattle.source_pool.proofs.LegRounds.{leads_on}
 use Rattle.source_pool.proofs.rounds.play_leg.Goals as goal
 
 pub play_round-requires : goal.play_round-requires
 play_round-requires g c κs within =
-    let bounds = c.requires.1.1.1.1.1 in
-    let workers = bounds.1.1.1.1.0 in
+    let bounds = c.requires.1.1.1.1.1.1 in
+    let others = bounds.1.1 in
+    let workers = others.1.1.1.0 in
     let at = c.loop-engine in
     let rest = subst (λ (app : g.row.A.Denot). IsAtRest (g.A.App.meaning app) g.start (values_of g.start.cells) (state_at_rest at.engine.progress) at.text at.engine.progress) (sym at.invariant.app) at.invariant.rest in
     let some = some_node at.engine.progress.nodes c.least.result (c.least.ensures.least ∙ ap least_of c.graph.ensures.nodes) (sym c.is_some.ensures ∙ c.loop-engine-test.true) in (
       within.0,
-      (within.1.0, (within.1.1.0, (within.1.1.1.0, (within.1.1.1.1, (bounds.0, (bounds.1.0, (bounds.1.1.0, (bounds.1.1.1.0, (workers, (rest, (refl, some))))))))))),
+      (within.1.0, (within.1.1.0, (within.1.1.1.0, (within.1.1.1.1.0, (within.1.1.1.1.1, (bounds.0, (bounds.1.0, (others.0, (others.1.0, (others.1.1.0, (workers, (rest, (refl, some))))))))))))),
     )
 
 pub overflow_add-rounds : goal.overflow_add-rounds
 overflow_add-rounds g c =
-    let limited = c.requires.1.1.1.1.1.1.1.1.1.1.1.1.0 in
+    let limited = c.requires.1.1.1.1.1.1.1.1.1.1.1.1.1.1.0 in
     let come = c.in_ok-play_round.ensures.rest.come in
     omega (arith, c.loop-engine.invariant.few, c.in_ok-play_round.ensures.ended, come.sound.keys_and_counts.created, come.sound.keys_and_counts.within, come.limit, limited)
 

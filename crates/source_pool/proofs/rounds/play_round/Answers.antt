@@ -11,27 +11,12 @@ use Rattle.source_pool.specs.Turns.{taken_in_turn}
 use Rattle.source_pool.proofs.rounds.play_round.Goals as goal
 use Rattle.source_pool.proofs.rounds.play_round.Goals.{then-is_open+then-stays_alone+in_ok-act_round, else-is_open+in_ok-perform_round+in_ok-end_all}
 
-pub act_round-requires-send-A-Val : goal.act_round-requires-send-A-Val
-act_round-requires-send-A-Val g c κs within =
-    let asked = c.requires.1.1.1.1.1 in
-    let sent = asked.0 in (
-      within.0,
-      (
-        within.1.0,
-        (
-          within.1.1,
-          (
-            record { owned = sent.owned; leaving = λ k. sent.leaving (λ _. k (of_param 2)) },
-            (asked.1.1.1.1.1.0, asked.1.1.1.1.1.1.1),
-          ),
-        ),
-      ),
-    )
-
-pub perform_round-requires : goal.perform_round-requires
-perform_round-requires g c κs within =
-    let asked = c.requires.1.1.1.1.1 in
-    let sent = asked.0 in (
+pub act_round-requires : goal.act_round-requires
+act_round-requires g c κs within =
+    let asked = c.requires.1.1.1.1.1.1 in
+    let sent = asked.0 in
+    let horizon = asked.1.0 in
+    let others = asked.1.1 in (
       within.0,
       (
         within.1.0,
@@ -40,39 +25,74 @@ perform_round-requires g c κs within =
           (
             within.1.1.1,
             (
-              record { owned = sent.owned; leaving = λ k. sent.leaving (λ _. k (of_param 3)) },
-              (asked.1.0, (asked.1.1.0, (asked.1.1.1.0, (asked.1.1.1.1.0, (asked.1.1.1.1.1.0, asked.1.1.1.1.1.1.1))))),
+              record { owned = sent.owned; leaving = λ k. sent.leaving (λ _. k (of_param 2)) },
+              (record { owned = horizon.owned; leaving = λ k. horizon.leaving (λ _. k (of_param 3)) }, (others.1.1.1.1.0, others.1.1.1.1.1.1)),
             ),
           ),
         ),
       ),
     )
 
-pub end_all-requires-send-A-Val : goal.end_all-requires-send-A-Val
-end_all-requires-send-A-Val g c κs within =
-    let app = g.A.App.meaning c.args.engine.now.app in
-    let now = c.perform_round.new.engine in
-    let taken : List (Done g.row.A-Val.Denot) = taken_in_turn c.perform_round.new.lists.dones.items c.perform_round.new.lists.turns.items in
-    let same : taken ≡ taken_in_turn c.deref_mut.result.now c.deref.result.now = (λ i. taken_in_turn (sym c.deref_mut.ensures.value i) (sym c.deref.ensures.value i)) in
-    let ended = subst (λ (other : g.row.A.Denot). IsEnding (g.A.App.meaning other) g.from.start (values_of g.from.start.cells) (after_round (g.A.App.meaning other) g.from.state) g.from.text now.progress taken) (sym c.perform_round.ensures.app) c.in_ok-perform_round.ensures.ending in
-    let sent = c.requires.1.1.1.1.1.0 in (
+pub perform_round-requires : goal.perform_round-requires
+perform_round-requires g c κs within =
+    let asked = c.requires.1.1.1.1.1.1 in
+    let sent = asked.0 in
+    let horizon = asked.1.0 in
+    let others = asked.1.1 in (
       within.0,
       (
         within.1.0,
         (
-          within.1.1,
+          within.1.1.0,
           (
-            record { owned = sent.owned; leaving = λ k. sent.leaving (λ _. k (of_param 2)) },
-            subst (IsEnding (g.A.App.meaning now.app) g.from.start (values_of g.from.start.cells) (after_round (g.A.App.meaning now.app) g.from.state) g.from.text now.progress) same ended,
+            within.1.1.1.0,
+            (
+              within.1.1.1.1,
+              (
+                record { owned = sent.owned; leaving = λ k. sent.leaving (λ _. k (of_param 3)) },
+                (
+                  record { owned = horizon.owned; leaving = λ k. horizon.leaving (λ _. k (of_param 4)) },
+                  (others.0, (others.1.0, (others.1.1.0, (others.1.1.1.0, (others.1.1.1.1.0, others.1.1.1.1.1.1))))),
+                ),
+              ),
+            ),
           ),
         ),
       ),
     )
 
-pub drain-requires-send-A-Val : goal.drain-requires-send-A-Val
-drain-requires-send-A-Val g c κs within =
+pub end_all-requires : goal.end_all-requires
+end_all-requires g c κs within =
+    let app = g.A.App.meaning c.args.engine.now.app in
+    let now = c.perform_round.new.engine in
+    let taken : List (Done g.row.A-Val.Denot) = taken_in_turn c.perform_round.new.lists.dones.items c.perform_round.new.lists.turns.items in
+    let same : taken ≡ taken_in_turn c.deref_mut.result.now c.deref.result.now = (λ i. taken_in_turn (sym c.deref_mut.ensures.value i) (sym c.deref.ensures.value i)) in
+    let ended = subst (λ (other : g.row.A.Denot). IsEnding (g.A.App.meaning other) g.from.start (values_of g.from.start.cells) (after_round (g.A.App.meaning other) g.from.state) g.from.text now.progress taken) (sym c.perform_round.ensures.app) c.in_ok-perform_round.ensures.ending in
+    let sent = c.requires.1.1.1.1.1.1.0 in
+    let horizon = c.requires.1.1.1.1.1.1.1.0 in (
+      within.0,
+      (
+        within.1.0,
+        (
+          within.1.1.0,
+          (
+            within.1.1.1,
+            (
+              record { owned = sent.owned; leaving = λ k. sent.leaving (λ _. k (of_param 2)) },
+              (
+                record { owned = horizon.owned; leaving = λ k. horizon.leaving (λ _. k (of_param 3)) },
+                subst (IsEnding (g.A.App.meaning now.app) g.from.start (values_of g.from.start.cells) (after_round (g.A.App.meaning now.app) g.from.state) g.from.text now.progress) same ended,
+              ),
+            ),
+          ),
+        ),
+      ),
+    )
+
+pub drain-requires : goal.drain-requires
+drain-requires g c κs within =
     let start = g.from.start in
-    let text = c.requires.1.1.1.1.1.1.1.1.1.1.1.0 in
+    let text = c.requires.1.1.1.1.1.1.1.1.1.1.1.1.1.0 in
     let Rests = λ (app : g.row.A.Denot) (now : Progress g.row.A-Val.Denot) (text : List ℕ). IsAtRest (g.A.App.meaning app) start (values_of start.cells) (after_round (g.A.App.meaning app) g.from.state) text now in
     let rest : Rests c.if-is_open.engine.app c.if-is_open.engine.progress g.from.text = elim c.if-is_open.branch [
       | then-is_open+then-stays_alone+in_ok-act_round w ↦
@@ -82,13 +102,20 @@ drain-requires-send-A-Val g c κs within =
           subst (λ (e : EngineState g.row.A.Denot g.row.A-Val.Denot). Rests e.app e.progress g.from.text) (sym w.engine-is)
           (subst (λ (app : g.row.A.Denot). Rests app w.end_all.new.engine.progress g.from.text) (sym w.end_all.ensures.app) w.in_ok-end_all.ensures.rest)
     ] in
-    let sent = c.requires.1.1.1.1.1.0 in (
+    let sent = c.requires.1.1.1.1.1.1.0 in
+    let horizon = c.requires.1.1.1.1.1.1.1.0 in (
       within.0,
       (
-        within.1,
+        within.1.0,
         (
-          record { owned = sent.owned; leaving = λ k. sent.leaving (λ _. k (of_param 1)) },
-          subst (Rests c.if-is_open.engine.app c.if-is_open.engine.progress) (sym text) rest,
+          within.1.1,
+          (
+            record { owned = sent.owned; leaving = λ k. sent.leaving (λ _. k (of_param 1)) },
+            (
+              record { owned = horizon.owned; leaving = λ k. horizon.leaving (λ _. k (of_param 2)) },
+              subst (Rests c.if-is_open.engine.app c.if-is_open.engine.progress) (sym text) rest,
+            ),
+          ),
         ),
       ),
     )
