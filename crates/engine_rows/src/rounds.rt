@@ -11,11 +11,11 @@ use super::outcomes::{
 };
 use app_laws::App;
 use example_app::Introductions;
-use graph_update::Engine;
+use graph_update::{Engine, OverCause};
 use kdg_text::Text;
 use logic_sim::Circuit;
 use outer_edge::{Gate, Seeded};
-use source_pool::{RunFault, run_rounds};
+use source_pool::run_rounds;
 use std::alloc::Global;
 use std::test::Fail;
 use std::thread::Threads;
@@ -42,7 +42,7 @@ fn rounds_outcome<R: Threads + Sync, A: App + Sync, G: Gate + Sync>(
     cells: &[A::Val],
     first: &[Start],
     budget: u64,
-) -> Result<(Outcome<A::Val>, u64), RunFault>
+) -> Result<(Outcome<A::Val>, u64), OverCause>
     requires fit_cells { (A.meaning app.now).is_fit_cells cells.now }
     requires fit_first { AreFitStarts (A.meaning app.now) first.now }
     requires few { length first.now < 2 ^ 32 }
@@ -65,7 +65,7 @@ pub fn outcomes_of<R: Threads + Sync, A: App + Sync>(
     cells: &[A::Val],
     first: &[Start],
     budget: u64,
-) -> Result<[Outcome<A::Val>; 3], RunFault>
+) -> Result<[Outcome<A::Val>; 3], OverCause>
     requires fit_cells { (A.meaning app.now).is_fit_cells cells.now }
     requires fit_first { AreFitStarts (A.meaning app.now) first.now }
     requires few { length first.now < 2 ^ 32 }
@@ -83,7 +83,7 @@ fn rounds_of<R: Threads + Sync>(
     alloc: Global,
     circuit: &Circuit,
     budget: u64,
-) -> Result<(Outcome<u8>, u64), RunFault>
+) -> Result<(Outcome<u8>, u64), OverCause>
     requires { budget ≤ 1_000_000_000 }
 {
     let (cells, first) = (circuit.first_cells()?, circuit.first_tasks()?);
@@ -106,7 +106,7 @@ fn rounds_with_a_task_too_many_are_refused(rt: HostRuntime) -> Result<(), Fail> 
     let alloc = rt.alloc();
     let circuit = circuit_of(alloc, C17)?;
     let refused = rounds_of(&rt, alloc, &circuit, 19).err();
-    assert!(rt; matches!(refused, Some(RunFault::Budget { limit: 19, .. })));
+    assert!(rt; matches!(refused, Some(OverCause::Budget { limit: 19, .. })));
     Ok(())
 }
 

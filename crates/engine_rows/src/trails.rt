@@ -7,7 +7,6 @@ use cell_store::Seen;
 use graph_update::OverCause;
 use kdg_text::NoRoom;
 use small_apps::{HomelessTrails, Trail, Trails};
-use source_pool::RunFault;
 use std::alloc::Global;
 use std::test::Fail;
 use std::thread::Threads;
@@ -73,7 +72,7 @@ fn outcomes_after<R: Threads + Sync>(
     rt: &R,
     alloc: Global,
     more: u64,
-) -> Result<[Outcome<Trail>; 3], RunFault> {
+) -> Result<[Outcome<Trail>; 3], OverCause> {
     let app = Trails::new(alloc);
     let (cells, first) = (app.first_cells()?, app.first_tasks(more)?);
     outcomes_of(rt, alloc, &app, &cells, first.items(), 2000)
