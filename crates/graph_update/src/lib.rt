@@ -33,6 +33,7 @@ pub use laws::{
 };
 pub use performing::perform;
 pub use standing_laws::{
-    act_standing_laws, begin_standing_laws, claim_standing_laws, drain_standing_laws, end_laws, event_standing_laws,
-    finish_standing_laws, give_up_standing_laws, rest_laws, standing_run_laws, stay_clear_laws,
+    act_standing_laws, begin_standing_laws, claim_standing_laws, drain_standing_laws, end_laws,
+    event_standing_laws, finish_standing_laws, give_up_standing_laws, rest_laws, standing_run_laws,
+    stay_clear_laws,
 };
