@@ -232,13 +232,13 @@ module _ {A V : Type 0} (meaning : A → Application V) (inside engine : EngineS
   engine_acted now has = subst (λ (state : EngineState A V). HasActed (meaning state.app) state.progress id now) same has
 
   -- where the cells are out again
-  pub engine_too_many : (cells left : List (Cell V)) (nodes : List Node) (over : Option OverCause) (created limit : ℕ) → left ≡ cells
-      → IsTooMany (meaning inside.app) inside.progress id (record inside.progress { cells = cells; nodes = nodes; over = over }) created limit
-      → IsTooMany (meaning engine.app) engine.progress id (record inside.progress { cells = left; nodes = nodes; over = over }) created limit
-  engine_too_many cells left nodes over created limit left_is many =
-      let out : IsTooMany (meaning inside.app) inside.progress id (record inside.progress { cells = left; nodes = nodes; over = over }) created limit =
-      subst (λ (cells : List (Cell V)). IsTooMany (meaning inside.app) inside.progress id (record inside.progress { cells = cells; nodes = nodes; over = over }) created limit) (sym left_is) many in
-      subst (λ (state : EngineState A V). IsTooMany (meaning state.app) state.progress id (record inside.progress { cells = left; nodes = nodes; over = over }) created limit) same out
+  pub engine_too_many : (cells left : List (Cell V)) (nodes : List Node) (counted : ℕ) (over : Option OverCause) (created limit : ℕ) → left ≡ cells
+      → IsTooMany (meaning inside.app) inside.progress id (record inside.progress { cells = cells; nodes = nodes; created = counted; over = over }) created limit
+      → IsTooMany (meaning engine.app) engine.progress id (record inside.progress { cells = left; nodes = nodes; created = counted; over = over }) created limit
+  engine_too_many cells left nodes counted over created limit left_is many =
+      let out : IsTooMany (meaning inside.app) inside.progress id (record inside.progress { cells = left; nodes = nodes; created = counted; over = over }) created limit =
+      subst (λ (cells : List (Cell V)). IsTooMany (meaning inside.app) inside.progress id (record inside.progress { cells = cells; nodes = nodes; created = counted; over = over }) created limit) (sym left_is) many in
+      subst (λ (state : EngineState A V). IsTooMany (meaning state.app) state.progress id (record inside.progress { cells = left; nodes = nodes; created = counted; over = over }) created limit) same out
 
   pub engine_stuck : (out now : Progress V) → now ≡ out → IsStuck (meaning inside.app) inside.progress id out → IsActFault (meaning engine.app) engine.progress id now cause.NoRoom
   engine_stuck out now is stuck = inr (subst (λ (state : EngineState A V). IsStuck (meaning state.app) state.progress id now) same

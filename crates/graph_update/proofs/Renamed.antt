@@ -104,3 +104,7 @@ pub engine_stays_sound : {A V : Type 0} (meaning : A → Application V) (app : A
     → (values : List V) → IsSound (meaning engine.app) engine.progress [] values → IsSound (meaning engine.app) now [] values
 engine_stays_sound {A} {V} meaning app old now engine is stays =
     subst (λ (engine : EngineState A V). (values : List V) → IsSound (meaning engine.app) engine.progress [] values → IsSound (meaning engine.app) now [] values) is stays
+
+pub engine_renamed : {A V : Type 0} (meaning : A → Application V) (inside engine : EngineState A V) (now : Progress V) → inside ≡ engine
+    → IsRenamed (meaning inside.app) inside.progress now → IsRenamed (meaning engine.app) engine.progress now
+engine_renamed {A} {V} meaning inside engine now same is = subst (λ (state : EngineState A V). IsRenamed (meaning state.app) state.progress now) same is

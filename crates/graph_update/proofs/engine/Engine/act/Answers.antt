@@ -79,7 +79,7 @@ returns-then-created-limit-clause-fault g c =
     let basis = c.basis-2.ensures c.self.inside.app.now in
     let left = dropped basis _ _ midway.is_done c.act_at_home.new.store midway.given c.set.result.now c.set.ensures c.drop_written.new.self c.drop_written.ensures.taken in
     let free = ap (λ (state : EngineState _ _). state.progress.over) c.self.view_is ∙ c.requires.not_over in
-    engine_too_many g.A.App.meaning _ _ c.self.view_is c.args.node _ c.drop_written.new.self c.mark_running.new.self _ _ _ left (midway.too_many free _ (ap (λ nodes. c.self.inside.ended + nodes + length c.items-children.result.now) c.len.ensures.len) c.if-created-limit.true)
+    engine_too_many g.A.App.meaning _ _ c.self.view_is c.args.node _ c.drop_written.new.self c.mark_running.new.self _ _ _ _ left (midway.too_many free _ (ap (λ nodes. c.self.inside.ended + nodes + length c.items-children.result.now) c.len.ensures.len) c.if-created-limit.true)
 
 pub returns-then-created-limit-clause-refused_sound : goal.returns-then-created-limit-clause-refused_sound
 returns-then-created-limit-clause-refused_sound g c = act_faults_keep_sound (c.basis.ensures c.args.self.now.app) (cause.Budget _ _) (returns-then-created-limit-clause-fault g c)

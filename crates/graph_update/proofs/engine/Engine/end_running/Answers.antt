@@ -1,4 +1,4 @@
-use Rattle.std.proofs.Common.{◌+◌, ◌≤◌, ◌∙◌, length, sym, ap, subst}
+use Rattle.std.proofs.Common.{◌+◌, ◌≤◌, ◌∙◌, length, refl, sym, ap, subst}
 use Rattle.graph_update.specs.declared.job.Done.{Done}
 use Rattle.graph_update.specs.Engine.{AreReady, HaveFixedSets, IsKept, IsOneStepEach}
 use Rattle.graph_update.specs.IdChunks.{ids_in}
