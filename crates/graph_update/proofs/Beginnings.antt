@@ -6,6 +6,7 @@ use Rattle.std.specs.List.{AllByRecursion}
 use Rattle.std.proofs.lemmas.Bool.{true≢false}
 use Rattle.task_order.specs.declared.start.Start.{Start}
 use Rattle.task_order.specs.declared.task.Task.{Task}
+use Rattle.task_order.specs.Laws.{PutAllAddsEach}
 use Rattle.rw_sets.specs.Accesses.{IsWithin}
 use Rattle.cell_store.specs.Home.{IsHome}
 use Rattle.cell_store.specs.Values.{homes}
@@ -29,6 +30,15 @@ length-first_from : (number : ℕ) (first : List Start) → length (first_from n
 length-first_from number [] = refl
 length-first_from number (start ∷ first) = ap suc (length-first_from (suc number) first)
 
+-- as many nodes as first tasks
+pub as_many_first_nodes : PutAllAddsEach → {V : Type 0} (app : Application V) (cells : List V) (first : List Start) (nodes : List Node) → AreFirstNodes app cells first nodes → length nodes ≡ length first
+as_many_first_nodes adds_each app cells first nodes are =
+    let mapped = length-map nodes (λ (n : Node). n.task) in
+    let tasks = ap length are.tasks in
+    let put = adds_each (first_from 0 first) [] in
+    let all = length-first_from 0 first in
+    omega (arith, mapped, tasks, put, all)
+
 module _ {V : Type 0} {app : Application V} (basis : Basis app) (cells : List V) (first : List Start) (progress : Progress V) (fit_cells : app.is_fit_cells cells) (fit : AreFitStarts app first)
     (are : AreFirstNodes app cells first progress.nodes) (cells_are : progress.cells ≡ homes cells) (nothing_logged : progress.log ≡ []) where
   ready : IsReady app (whole_state progress cells)
@@ -38,12 +48,7 @@ module _ {V : Type 0} {app : Application V} (basis : Basis app) (cells : List V)
   none_runs node has running = true≢false (sym running ∙ all_at (λ (n : Node). n.running ≡ false) progress.nodes node are.none_runs has)
 
   as_many_nodes : length progress.nodes ≡ length first
-  as_many_nodes =
-      let nodes = length-map progress.nodes (λ (n : Node). n.task) in
-      let tasks = ap length are.tasks in
-      let put = basis.lower.put_all_length (first_from 0 first) [] in
-      let all = length-first_from 0 first in
-      omega (arith, nodes, tasks, put, all)
+  as_many_nodes = as_many_first_nodes basis.lower.put_all_length app cells first progress.nodes are
 
   whole : IsWhole app progress.cells [] cells
   whole = subst (λ held. IsWhole app held [] cells) (sym cells_are) (record {

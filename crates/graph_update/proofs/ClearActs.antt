@@ -35,7 +35,7 @@ use Rattle.graph_update.proofs.ClearClaims.{claimed, has_node, may_run, picked_h
 use Rattle.graph_update.proofs.Marks.{sound_marked}
 use Rattle.graph_update.proofs.Members.{from_filter, in_map, none}
 use Rattle.graph_update.proofs.Picked.{IsPicked, pick_is}
-use Rattle.graph_update.proofs.Starting.{start, start_runs, started_graph}
+use Rattle.graph_update.proofs.Starting.{as_many_started, start, start_runs, started_graph}
 
 Some-injective : {X : Type 0} (a b : X) → Some a ≡ Some b → a ≡ b
 Some-injective a b same = cc
@@ -69,9 +69,10 @@ laters_started set key id (node ∷ nodes) = same_head set key node (start id no
 -- ---- a task that was performed where its cells are
 
 module _ {V : Type 0} where
-  -- the execution while its cells are away: the node runs, and the cells that its set writes are out
+  -- the execution while its cells are away: the node runs, the cells that its set writes are out, and as many tasks were created as
+  -- have ended and are pending
   abbrev pub midway_of : Progress V → Accesses → List Node → Progress V
-  midway_of old set nodes = record old { nodes = nodes; cells = cells_taken old.cells set }
+  midway_of old set nodes = record old { nodes = nodes; cells = cells_taken old.cells set; created = old.ended + length nodes }
 
 module _ {V : Type 0} (app : Application V) where
   -- The task of the clear node of an id was performed, with these children and this text: its node is marked as running, and its
@@ -84,8 +85,9 @@ module _ {V : Type 0} (app : Application V) where
     pub is_done : IsDone app (midway_of old set nodes) (done_of id task bundle children text)
     pub given : home ≡ cells_given (cells_taken old.cells set) bundle
     pub acted : ¬ IsOverLimit app (midway_of old set nodes) (done_of id task bundle children text) → (now : Progress V) → IsFinished app (midway_of old set nodes) (done_of id task bundle children text) now → HasActed app old id now
-    pub too_many : old.over ≡ None → old.limit < old.created + length children
-        → IsTooMany app old id (record (midway_of old set nodes) { over = Some (cause.Budget (old.created + length children) old.limit) }) (old.created + length children) old.limit
+    pub counted : old.ended + length nodes ≡ old.created
+    pub too_many : old.over ≡ None → (created : ℕ) → created ≡ old.created + length children → old.limit < created
+        → IsTooMany app old id (record (midway_of old set nodes) { over = Some (cause.Budget created old.limit) }) created old.limit
     pub stuck : old.over ≡ None → ¬ IsOverLimit app (midway_of old set nodes) (done_of id task bundle children text) → IsStuck app old id (record (midway_of old set nodes) { over = Some cause.NoRoom })
     pub steps : (first last : ℕ) → ((of : Node) → node_at nodes id ≡ Some of → last ≤ first + length (laters_of nodes of)) → (of : Node) → node_at old.nodes id ≡ Some of → last ≤ first + length (laters_of old.nodes of)
 
@@ -123,6 +125,9 @@ module _ {V : Type 0} {app : Application V} (basis : Basis app) (old : Progress 
     module _ (nodes : List Node) (nodes_are : nodes ≡ started id old.nodes) where
       abbrev midway : Progress V
       midway = midway_of old set nodes
+
+      same_count : old.ended + length nodes ≡ old.created
+      same_count = ap (λ count. old.ended + count) (as_many_started id old.nodes nodes nodes_are) ∙ sym kept.sound.keys_and_counts.created
 
       is_started : IsStarted app old id midway job
       is_started = record {
@@ -182,17 +187,20 @@ module _ {V : Type 0} {app : Application V} (basis : Basis app) (old : Progress 
         played : IsPlayed app old id midway done
         played = record { job = job; started = is_started; performed = performed [] }
 
-        is_too_many : old.over ≡ None → old.limit < old.created + length children
-            → IsTooMany app old id (record midway { over = Some (cause.Budget (old.created + length children) old.limit) }) (old.created + length children) old.limit
-        is_too_many not_over above = record {
-          midway = midway;
-          done = done;
-          played = played;
-          above = above;
-          created_is = refl;
-          limit_is = refl;
-          after = ap (λ (over : Option OverCause). let now : Progress V = record midway { over = option_or over (Some (cause.Budget (old.created + length children) old.limit)) } in now) (sym not_over);
-        }
+        is_too_many : old.over ≡ None → (created : ℕ) → created ≡ old.created + length children → old.limit < created
+            → IsTooMany app old id (record midway { over = Some (cause.Budget created old.limit) }) created old.limit
+        is_too_many not_over created created_is above =
+            let same : created ≡ midway.created + length children = created_is ∙ ap (λ count. count + length children) (sym same_count) in
+            record {
+              midway = midway;
+              done = done;
+              played = played;
+              above = subst (λ count. old.limit < count) same above;
+              created_is = same;
+              limit_is = refl;
+              after = ap (λ (over : Option OverCause). let now : Progress V = record midway { over = option_or over (Some (cause.Budget created old.limit)) } in now) (sym not_over)
+                  ∙ ap (λ count. let now : Progress V = record midway { over = option_or old.over (Some (cause.Budget count old.limit)) } in now) same;
+            }
 
         is_stuck : old.over ≡ None → ¬ IsOverLimit app midway done → IsStuck app old id (record midway { over = Some cause.NoRoom })
         is_stuck not_over within = record {
@@ -212,6 +220,7 @@ module _ {V : Type 0} {app : Application V} (basis : Basis app) (old : Progress 
           is_done = record { jobs = job ∷ kept.jobs; values = kept.values; sound = sound_midway; job = job; others = kept.jobs; performed = performed kept.jobs };
           given = made.given;
           acted = λ within now finished. record { midway = midway; done = done; played = played; within = within; finished = finished };
+          counted = same_count;
           too_many = is_too_many;
           stuck = is_stuck;
           steps = steps_before;
@@ -223,13 +232,13 @@ module _ {A V : Type 0} (meaning : A → Application V) (inside engine : EngineS
   engine_acted now has = subst (λ (state : EngineState A V). HasActed (meaning state.app) state.progress id now) same has
 
   -- where the cells are out again
-  pub engine_too_many : (cells left : List (Cell V)) (nodes : List Node) (over : Option OverCause) (created limit : ℕ) → left ≡ cells
-      → IsTooMany (meaning inside.app) inside.progress id (record inside.progress { cells = cells; nodes = nodes; over = over }) created limit
-      → IsTooMany (meaning engine.app) engine.progress id (record inside.progress { cells = left; nodes = nodes; over = over }) created limit
-  engine_too_many cells left nodes over created limit left_is many =
-      let out : IsTooMany (meaning inside.app) inside.progress id (record inside.progress { cells = left; nodes = nodes; over = over }) created limit =
-      subst (λ (cells : List (Cell V)). IsTooMany (meaning inside.app) inside.progress id (record inside.progress { cells = cells; nodes = nodes; over = over }) created limit) (sym left_is) many in
-      subst (λ (state : EngineState A V). IsTooMany (meaning state.app) state.progress id (record inside.progress { cells = left; nodes = nodes; over = over }) created limit) same out
+  pub engine_too_many : (cells left : List (Cell V)) (nodes : List Node) (counted : ℕ) (over : Option OverCause) (created limit : ℕ) → left ≡ cells
+      → IsTooMany (meaning inside.app) inside.progress id (record inside.progress { cells = cells; nodes = nodes; created = counted; over = over }) created limit
+      → IsTooMany (meaning engine.app) engine.progress id (record inside.progress { cells = left; nodes = nodes; created = counted; over = over }) created limit
+  engine_too_many cells left nodes counted over created limit left_is many =
+      let out : IsTooMany (meaning inside.app) inside.progress id (record inside.progress { cells = left; nodes = nodes; created = counted; over = over }) created limit =
+      subst (λ (cells : List (Cell V)). IsTooMany (meaning inside.app) inside.progress id (record inside.progress { cells = cells; nodes = nodes; created = counted; over = over }) created limit) (sym left_is) many in
+      subst (λ (state : EngineState A V). IsTooMany (meaning state.app) state.progress id (record inside.progress { cells = left; nodes = nodes; created = counted; over = over }) created limit) same out
 
   pub engine_stuck : (out now : Progress V) → now ≡ out → IsStuck (meaning inside.app) inside.progress id out → IsActFault (meaning engine.app) engine.progress id now cause.NoRoom
   engine_stuck out now is stuck = inr (subst (λ (state : EngineState A V). IsStuck (meaning state.app) state.progress id now) same

@@ -1,5 +1,5 @@
 -- A claim takes a clear node.
-use Rattle.std.proofs.Common.{◌≡◌, ◌≢◌, ℕ, ◌||◌, Bool, true, false, List, [], ◌∷◌, Option, Some, is_some, refl, sym, ap, subst, ◌∙◌}
+use Rattle.std.proofs.Common.{◌≡◌, ◌≢◌, ℕ, ◌+◌, ◌||◌, Bool, true, false, List, [], ◌∷◌, Option, Some, length, is_some, refl, sym, ap, subst, ◌∙◌}
 use Rattle.std.specs.Prelude.{Contains, IsSome}
 use Rattle.std.specs.List.{list_any}
 use Rattle.std.specs.Option.{option_map}
@@ -26,6 +26,7 @@ use Rattle.graph_update.proofs.ClearNodes.{some_is_clear}
 use Rattle.graph_update.proofs.Ending.{no_jobs}
 use Rattle.graph_update.proofs.Members.{all_at, from_filter, here, in_map, none_passes, there as from_there}
 use Rattle.graph_update.proofs.Picked.{IsPicked}
+use Rattle.graph_update.proofs.Starting.{as_many_started}
 
 Some-injective : {X : Type 0} (a b : X) → Some a ≡ Some b → a ≡ b
 Some-injective a b same = cc
@@ -84,7 +85,7 @@ module _ {V : Type 0} {app : Application V} (basis : Basis app) where
       (task_is : task_at old.nodes id ≡ Some found) (copied : copy ≡ found) (set_is : set_at old.nodes id ≡ Some set) (bundle_is : bundle ≡ part_of old.cells set)
       (cells_are : cells ≡ cells_taken old.cells set) (nodes_are : nodes ≡ started id old.nodes) where
     abbrev now : Progress V
-    now = record old { nodes = nodes; cells = cells }
+    now = record old { nodes = nodes; cells = cells; created = old.ended + length nodes }
 
     abbrev job : Job V
     job = record { node = id; task = copy; bundle = bundle }
@@ -95,13 +96,16 @@ module _ {V : Type 0} {app : Application V} (basis : Basis app) where
     same_set : set ≡ picked.node.set
     same_set = sym (picked_set old kept.jobs kept.values kept.sound pick id picked set set_is)
 
+    same_count : old.ended + length nodes ≡ old.created
+    same_count = ap (λ count. old.ended + count) (as_many_started id old.nodes nodes nodes_are) ∙ sym kept.sound.keys_and_counts.created
+
     -- the claim of the picked node
     pub claimed : IsClaimed app old pick now job
     claimed = record {
       node = picked.node;
       chosen = picked.chosen;
       job_is = λ i. record { node = (sym picked.id_is) i; task = same_task i; bundle = (bundle_is ∙ ap (part_of old.cells) same_set) i };
-      after = λ i. record old { nodes = (nodes_are ∙ ap (λ one. started one old.nodes) (sym picked.id_is)) i; cells = (cells_are ∙ ap (cells_taken old.cells) same_set) i };
+      after = λ i. record old { nodes = (nodes_are ∙ ap (λ one. started one old.nodes) (sym picked.id_is)) i; cells = (cells_are ∙ ap (cells_taken old.cells) same_set) i; created = same_count i };
     }
 
     pub sound_after : (jobs : List (Job V)) (values : List V) → IsSound app old jobs values → IsSound app now (job ∷ jobs) values

@@ -1,5 +1,5 @@
 -- An execution whose pending tasks become first tasks.
-use Rattle.std.proofs.Common.{◌≡◌, ◌^◌, ◌<◌, List, [], length, sym, ap, subst, ◌∙◌, arith}
+use Rattle.std.proofs.Common.{◌≡◌, ℕ, ◌+◌, ◌^◌, ◌<◌, List, [], length, sym, ap, subst, ◌∙◌, arith}
 use Rattle.task_order.specs.declared.start.Start.{Start}
 use Rattle.task_order.specs.declared.task.Task.{Task}
 use Rattle.cell_store.specs.Values.{homes, values_of}
@@ -17,7 +17,7 @@ use Rattle.graph_update.specs.Renaming.{IsRenamed, RenamingsKeepSound}
 use Rattle.graph_update.specs.Sound.{IsSound}
 use Rattle.graph_update.specs.StandingLaws.{NoneRuns}
 use Rattle.graph_update.proofs.AtRest.{at_rest, home_values, idle_is_sound}
-use Rattle.graph_update.proofs.Beginnings.{first_nodes_are_sound}
+use Rattle.graph_update.proofs.Beginnings.{as_many_first_nodes, first_nodes_are_sound}
 use Rattle.graph_update.proofs.Listed.{listed_fit}
 use Rattle.graph_update.proofs.FinishTasks.{length-mapped}
 use Rattle.graph_update.proofs.FixedSets.{first_are_fixed}
@@ -70,14 +70,22 @@ module _ {V : Type 0} {app : Application V} (basis : Basis app) where
       -- what becomes of it
       module _ (nodes : List Node) (log : List Entry) (are : AreFirstNodes app (values_of old.cells) starts nodes) (empty : log ≡ []) where
         abbrev now : Progress V
-        now = record old { nodes = nodes; log = log }
+        now = record old { nodes = nodes; log = log; created = old.ended + length nodes }
+
+        same_count : old.ended + length nodes ≡ old.created
+        same_count =
+            let many = as_many_first_nodes basis.lower.put_all_length app (values_of old.cells) starts nodes are in
+            let before = own_many in
+            let created = kept.sound.keys_and_counts.created in
+            omega (arith, many, before, created)
 
         pub is_renamed : IsRenamed app old now
         is_renamed = record {
           first = starts;
           listed = own_listed;
           nodes = are;
-          after = ap (λ (entries : List Entry). let progress : Progress V = record old { nodes = nodes; log = entries } in progress) empty;
+          after = ap (λ (entries : List Entry). let progress : Progress V = record old { nodes = nodes; log = entries; created = old.ended + length nodes } in progress) empty
+              ∙ ap (λ (created : ℕ). let progress : Progress V = record old { nodes = nodes; log = []; created = created } in progress) same_count;
         }
 
         module _ (laws : RenamingsKeepSound app) where
@@ -96,3 +104,7 @@ pub engine_stays_sound : {A V : Type 0} (meaning : A → Application V) (app : A
     → (values : List V) → IsSound (meaning engine.app) engine.progress [] values → IsSound (meaning engine.app) now [] values
 engine_stays_sound {A} {V} meaning app old now engine is stays =
     subst (λ (engine : EngineState A V). (values : List V) → IsSound (meaning engine.app) engine.progress [] values → IsSound (meaning engine.app) now [] values) is stays
+
+pub engine_renamed : {A V : Type 0} (meaning : A → Application V) (inside engine : EngineState A V) (now : Progress V) → inside ≡ engine
+    → IsRenamed (meaning inside.app) inside.progress now → IsRenamed (meaning engine.app) engine.progress now
+engine_renamed {A} {V} meaning inside engine now same is = subst (λ (state : EngineState A V). IsRenamed (meaning state.app) state.progress now) same is

@@ -1,5 +1,6 @@
 -- The nodes with one of them marked running.
-use Rattle.std.proofs.Common.{◌≡◌, ◌≢◌, ◌⊎◌, inl, inr, ◌||◌, ◌&&◌, not, Bool, true, false, cond, List, [], ◌∷◌, refl, sym, ap, subst, ◌∙◌, eqb-true, eq-eqb}
+use Rattle.std.proofs.Common.{◌≡◌, ◌≢◌, ◌⊎◌, inl, inr, ◌||◌, ◌&&◌, not, Bool, true, false, cond, List, [], ◌∷◌, length, refl, sym, ap, subst, ◌∙◌, eqb-true, eq-eqb}
+use lib.ListN.{length-map}
 use Rattle.std.specs.List.{AllByRecursion, list_any}
 use Rattle.std.specs.Ordering.{is_lt}
 use Rattle.task_order.specs.declared.key.Key.{Key}
@@ -21,6 +22,9 @@ start id node = cond (is_at id node) (record node { running = true }) node
 
 pub start_keeps_task : (id : NodeId) (node : Node) → (start id node).task ≡ node.task
 start_keeps_task id node = elim (is_at id node) as (λ test. let now : Node = cond test (record node { running = true }) node in now.task ≡ node.task) [ true ↦ refl | false ↦ refl ]
+
+pub as_many_started : (id : NodeId) (nodes now : List Node) → now ≡ started id nodes → length now ≡ length nodes
+as_many_started id nodes now is = ap length is ∙ length-map nodes (start id)
 
 pub start_keeps_id : (id : NodeId) (node : Node) → (start id node).id ≡ node.id
 start_keeps_id id node = elim (is_at id node) as (λ test. let now : Node = cond test (record node { running = true }) node in now.id ≡ node.id) [ true ↦ refl | false ↦ refl ]

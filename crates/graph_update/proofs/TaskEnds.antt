@@ -56,12 +56,13 @@ effect_back {V} effect bundle text bundle_is text_is =
     ap (λ (bundle : Part V). let back : Effect V = record effect { bundle = bundle; text = text } in back) bundle_is
     ∙ ap (λ (text : List ℕ). let back : Effect V = record effect { text = text } in back) text_is
 
-pub progress_back : {V : Type 0} (old : Progress V) (cells : List (Cell V)) (nodes : List Node) (log : List Entry) → cells ≡ old.cells → nodes ≡ old.nodes → log ≡ old.log
-    → (record old { cells = cells; nodes = nodes; log = log }) ≡ old
-progress_back {V} old cells nodes log cells_are nodes_are log_is =
-    ap (λ (cells : List (Cell V)). let back : Progress V = record old { cells = cells; nodes = nodes; log = log } in back) cells_are
-    ∙ ap (λ (nodes : List Node). let back : Progress V = record old { nodes = nodes; log = log } in back) nodes_are
-    ∙ ap (λ (log : List Entry). let back : Progress V = record old { log = log } in back) log_is
+pub progress_back : {V : Type 0} (old : Progress V) (cells : List (Cell V)) (nodes : List Node) (log : List Entry) → old.created ≡ old.ended + length old.nodes
+    → cells ≡ old.cells → nodes ≡ old.nodes → log ≡ old.log → (record old { cells = cells; nodes = nodes; log = log; created = old.ended + length nodes }) ≡ old
+progress_back {V} old cells nodes log counted cells_are nodes_are log_is =
+    ap (λ (cells : List (Cell V)). let back : Progress V = record old { cells = cells; nodes = nodes; log = log; created = old.ended + length nodes } in back) cells_are
+    ∙ ap (λ (nodes : List Node). let back : Progress V = record old { nodes = nodes; log = log; created = old.ended + length nodes } in back) nodes_are
+    ∙ ap (λ (log : List Entry). let back : Progress V = record old { log = log; created = old.ended + length old.nodes } in back) log_is
+    ∙ ap (λ (created : ℕ). let back : Progress V = record old { created = created } in back) (sym counted)
 
 -- what is said of an engine is said of its parts, and the other way round
 module _ {A V : Type 0} (meaning : A → Application V) (inside engine : EngineState A V) (done : Done V) (same : inside ≡ engine) where
@@ -237,10 +238,14 @@ module _ {V : Type 0} {app : Application V} (basis : FinishBasis app) (old : Pro
       pub is_back : (counts : Progress V) × IsBackHome app (with_parts counts cells old.nodes old.log) done.node children done.effect.text
       is_back = (old, back_home)
 
-      pub finished_at_home : (nodes : List Node) (log : List Entry) → EndsAtHome app cells old.nodes old.log done.node children done.effect.text nodes log
-          → (created : ℕ) → created ≡ old.created + length done.effect.children
-          → IsFinished app old done (record old { cells = cells; nodes = nodes; log = log; created = created; ended = old.ended + 1 })
-      finished_at_home nodes log ends created created_are =
-          subst (λ (created : ℕ). IsFinished app old done (record old { cells = cells; nodes = nodes; log = log; created = created; ended = old.ended + 1 })) (ap (λ (children : List Child). old.created + length children) children_are ∙ sym created_are)
-          (subst (λ (some : List Child). IsFinished app old (done_of done.node done.task done.effect.bundle some done.effect.text)
-          (record old { cells = cells; nodes = nodes; log = log; created = old.created + length children; ended = old.ended + 1 })) children_are (ends old back_home))
+      -- as many tasks were created then as have ended and are pending
+      pub finished_at_home : FinishesKeepSound app → ¬ IsOverLimit app old done → (nodes : List Node) (log : List Entry)
+          → EndsAtHome app cells old.nodes old.log done.node children done.effect.text nodes log
+          → IsFinished app old done (record old { cells = cells; nodes = nodes; log = log; created = old.ended + 1 + length nodes; ended = old.ended + 1 })
+      finished_at_home keeps within nodes log ends =
+          let After = λ (created : ℕ). IsFinished app old done (record old { cells = cells; nodes = nodes; log = log; created = created; ended = old.ended + 1 }) in
+          let finished : After (old.created + length done.effect.children) =
+          subst (λ (some : List Child). IsFinished app old (done_of done.node done.task done.effect.bundle some done.effect.text)
+          (record old { cells = cells; nodes = nodes; log = log; created = old.created + length some; ended = old.ended + 1 })) children_are (ends old back_home) in
+          let sound = keeps old _ done is.job is.jobs is.others is.values is.sound is.performed within finished in
+          subst After sound.keys_and_counts.created finished

@@ -54,10 +54,13 @@ impl<'a, A: App> Engine<'a, A> {
         let Ok((children, text)) = act_at_home(self.app, task, set, &mut self.store) else {
             return Err(OverCause::NoRoom);
         };
+        let children = children.items();
+        let (created, limit) = (
+            self.ended + self.graph.len() as u64 + children.len() as u64,
+            self.limit,
+        );
         self.graph.mark_running(node);
         self.ready.forget();
-        let children = children.items();
-        let (created, limit) = (self.created + children.len() as u64, self.limit);
         if created > limit {
             self.store.drop_written(self.graph.set(node));
             let cause = OverCause::Budget { created, limit };
@@ -79,7 +82,6 @@ impl<'a, A: App> Engine<'a, A> {
         );
         match ended {
             Ok(()) => {
-                self.created = created;
                 self.ended += 1;
                 Ok(())
             }

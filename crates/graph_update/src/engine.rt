@@ -23,7 +23,7 @@ use std::sync::ledger::Ledger;
 use task_order::StartList;
 
 /// An execution of an ordered application: its cells, its pending tasks as nodes of a graph, what
-/// has been logged and not yet drained, and how many tasks there were and may be.
+/// has been logged and not yet drained, and how many tasks have ended and may be created.
 ///
 /// A task is claimed, performed elsewhere, and finished, and other tasks are claimed and finished
 /// meanwhile, in any order.
@@ -36,7 +36,6 @@ pub struct Engine<'a, A: App> {
     pub(crate) store: Store<A::Val>,
     pub(crate) graph: Graph,
     pub(crate) log: Log,
-    pub(crate) created: u64,
     pub(crate) ended: u64,
     pub(crate) limit: u64,
     pub(crate) over: Option<OverCause>,
@@ -46,6 +45,7 @@ pub struct Engine<'a, A: App> {
 }
 
 impl<'a, A: App> Model for Engine<'a, A> {
+    ghost use Rattle.std.specs.Prelude.{◌+◌, length};
     ghost use Rattle.kdg_graph.specs.Nodes.{tasks_of};
     ghost use Rattle.graph_update.specs.Engine.{AreReady, HaveFixedSets, IsKept};
     ghost use Rattle.graph_update.specs.Progress.{EngineState};
@@ -58,7 +58,7 @@ impl<'a, A: App> Model for Engine<'a, A> {
         cells = e.store;
         nodes = e.graph;
         log = e.log.entries;
-        created = e.created;
+        created = e.ended + length e.graph;
         ended = e.ended;
         limit = e.limit;
         over = e.over;
@@ -69,7 +69,7 @@ impl<'a, A: App> Model for Engine<'a, A> {
       cells = e.store;
       nodes = e.graph;
       log = e.log.entries;
-      created = e.created;
+      created = e.ended + length e.graph;
       ended = e.ended;
       limit = e.limit;
       over = e.over;
@@ -101,6 +101,7 @@ impl<'a, A: App> Engine<'a, A> {
         ensures fault { IfErr result (IsBeginFault first budget) }
         ensures steps { steps.new ≤ steps.old + length first }
     {
+        basis::<A>();
         begin_laws::<A>();
         value_laws::<A::Val>();
         let starts = first.items();
@@ -122,7 +123,6 @@ impl<'a, A: App> Engine<'a, A> {
             store,
             graph,
             log: Log::new(alloc),
-            created: asked,
             ended: 0,
             limit: budget,
             over: None,
@@ -153,7 +153,7 @@ impl<'a, A: App> Engine<'a, A> {
         ensures kept { IsKept (A.meaning self.now.app) self.now.progress }
     {
         Counts {
-            created: self.created,
+            created: self.ended + self.graph.len() as u64,
             ended: self.ended,
             nodes: self.graph.len() as u64,
             running: self.graph.running_len() as u64,

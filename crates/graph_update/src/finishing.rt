@@ -50,7 +50,7 @@ impl<'a, A: App> Engine<'a, A> {
     {
         drain_laws::<A>();
         let (created, limit) = (
-            self.created + done.effect.children.items().len() as u64,
+            self.ended + self.graph.len() as u64 + done.effect.children.items().len() as u64,
             self.limit,
         );
         if created > limit {
@@ -62,7 +62,7 @@ impl<'a, A: App> Engine<'a, A> {
             });
         }
         let Done { node, task, effect } = done;
-        match self.end_running(node, effect, created, steps) {
+        match self.end_running(node, effect, steps) {
             Ok(()) => Ok(()),
             Err(effect) => Err(FinishFault::NoRoom {
                 done: Done { node, task, effect },
@@ -80,13 +80,11 @@ impl<'a, A: App> Engine<'a, A> {
         &mut self,
         node: NodeId,
         effect: Effect<A::Val>,
-        created: u64,
         steps: &mut Steps<L>,
     ) -> Result<(), Effect<A::Val>>
         ghost task: { Task }
         requires done { IsDone (A.meaning self.old.app) self.old.progress (record { node = node; task = task; effect = effect }) }
-        requires created { created ≡ self.old.progress.created + length effect.children }
-        requires within { created ≤ self.old.progress.limit }
+        requires within { self.old.progress.created + length effect.children ≤ self.old.progress.limit }
         ensures app { self.new.app ≡ self.old.app }
         ensures finished { OnOk result (IsFinished (A.meaning self.old.app) self.old.progress (record { node = node; task = task; effect = effect }) self.new.progress) }
         ensures sound { OnOk result (FinishStaysSound (A.meaning self.old.app) self.old.progress (record { node = node; task = task; effect = effect }) self.new.progress) }
@@ -119,7 +117,6 @@ impl<'a, A: App> Engine<'a, A> {
         );
         match ended {
             Ok(()) => {
-                self.created = created;
                 self.ended += 1;
                 self.ready.expect_more();
                 Ok(())

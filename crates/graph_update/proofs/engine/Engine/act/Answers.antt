@@ -61,11 +61,11 @@ invariant_of-self-then-created-limit g c =
         cells = cells;
         nodes = c.mark_running.new.self;
         log = c.self.inside.log.entries;
-        created = c.self.inside.created;
+        created = c.self.inside.ended + length c.mark_running.new.self;
         ended = c.self.inside.ended;
         limit = c.self.inside.limit;
-        over = Some (cause.Budget (c.self.inside.created + length c.items-children.result.now) c.self.inside.limit);
-      } in IsKept (g.A.App.meaning c.self.inside.app.now) now) (sym left) (midway.kept (Some (cause.Budget (c.self.inside.created + length c.items-children.result.now) c.self.inside.limit))),
+        over = Some (cause.Budget (c.self.inside.ended + c.len.result + length c.items-children.result.now) c.self.inside.limit);
+      } in IsKept (g.A.App.meaning c.self.inside.app.now) now) (sym left) (midway.kept (Some (cause.Budget (c.self.inside.ended + c.len.result + length c.items-children.result.now) c.self.inside.limit))),
       some_are_ready (g.A.App.meaning c.self.inside.app.now) c.mark_running.new.self c.forget.new.self [] c.forget.ensures.ids c.forget.ensures.current tt,
       fixed_started (g.A.App.meaning c.self.inside.app.now) c.args.node c.self.inside.graph c.mark_running.new.self c.mark_running.ensures.marked c.self.invariant.2,
       told_started (g.A.App.tells c.self.inside.app.now c.self.inside.horizon) (c.basis.ensures c.self.inside.app.now).lower.starts_keep_tasks c.args.node c.self.inside.graph c.mark_running.new.self c.mark_running.ensures.marked c.self.invariant.3,
@@ -79,7 +79,7 @@ returns-then-created-limit-clause-fault g c =
     let basis = c.basis-2.ensures c.self.inside.app.now in
     let left = dropped basis _ _ midway.is_done c.act_at_home.new.store midway.given c.set.result.now c.set.ensures c.drop_written.new.self c.drop_written.ensures.taken in
     let free = ap (λ (state : EngineState _ _). state.progress.over) c.self.view_is ∙ c.requires.not_over in
-    engine_too_many g.A.App.meaning _ _ c.self.view_is c.args.node _ c.drop_written.new.self c.mark_running.new.self _ _ _ left (midway.too_many free c.if-created-limit.true)
+    engine_too_many g.A.App.meaning _ _ c.self.view_is c.args.node _ c.drop_written.new.self c.mark_running.new.self _ _ _ _ left (midway.too_many free _ (ap (λ nodes. c.self.inside.ended + nodes + length c.items-children.result.now) c.len.ensures.len) c.if-created-limit.true)
 
 pub returns-then-created-limit-clause-refused_sound : goal.returns-then-created-limit-clause-refused_sound
 returns-then-created-limit-clause-refused_sound g c = act_faults_keep_sound (c.basis.ensures c.args.self.now.app) (cause.Budget _ _) (returns-then-created-limit-clause-fault g c)
@@ -106,9 +106,10 @@ invariant_of-self-in-Ok-ended g c =
     let made = subst (λ (children : List Child). IsDoneAtHome (g.A.App.meaning c.self.inside.app.now) c.task-task.result.now c.set-set.result.now c.self.inside.store children c.in-Ok.text c.act_at_home.new.store) (sym c.items-children.ensures.all) c.in-Ok.ensures.done in
     let midway = is_midway (c.basis.ensures c.self.inside.app.now) _ c.self.invariant.0 c.args.node clear c.task-task.result.now c.task-task.ensures c.set-set.result.now c.set-set.ensures c.mark_running.new.self c.mark_running.ensures.marked c.items-children.result.now c.in-Ok.text c.act_at_home.new.store made in
     let basis = c.basis-2.ensures c.self.inside.app.now in
-    let finished = finished_at_home basis _ _ midway.is_done c.act_at_home.new.store midway.given c.items-children.result.now refl c.end_at_home-ended.new.graph c.end_at_home-ended.new.log.entries c.in-Ok-ended.ensures.ended
-    (c.self.inside.created + length c.items-children.result.now) refl in
-    let within = not_over basis _ _ midway.is_done (c.self.inside.created + length c.items-children.result.now) refl c.if-created-limit.false in (
+    let within = not_over basis _ _ midway.is_done (c.self.inside.ended + c.len.result + length c.items-children.result.now)
+    (ap (λ nodes. c.self.inside.ended + nodes + length c.items-children.result.now) c.len.ensures.len ∙ ap (λ created. created + length c.items-children.result.now) (sym midway.counted)) c.if-created-limit.false in
+    let finished = finished_at_home basis _ _ midway.is_done c.act_at_home.new.store midway.given c.items-children.result.now refl (c.sound_finish_laws.ensures c.self.inside.app.now) within
+    c.end_at_home-ended.new.graph c.end_at_home-ended.new.log.entries c.in-Ok-ended.ensures.ended in (
       stays_kept basis _ _ midway.is_done within _ finished (c.sound_finish_laws.ensures c.self.inside.app.now) c.self.invariant.0.limited,
       some_are_ready (g.A.App.meaning c.self.inside.app.now) c.end_at_home-ended.new.graph c.forget.new.self [] c.forget.ensures.ids c.forget.ensures.current tt,
       stays_fixed basis _ _ midway.is_done within _ finished (fixed_started (g.A.App.meaning c.self.inside.app.now) c.args.node c.self.inside.graph c.mark_running.new.self c.mark_running.ensures.marked c.self.invariant.2),
@@ -121,9 +122,10 @@ returns-in-Ok-ended-clause-acted g c =
     let made = subst (λ (children : List Child). IsDoneAtHome (g.A.App.meaning c.self.inside.app.now) c.task-task.result.now c.set-set.result.now c.self.inside.store children c.in-Ok.text c.act_at_home.new.store) (sym c.items-children.ensures.all) c.in-Ok.ensures.done in
     let midway = is_midway (c.basis.ensures c.self.inside.app.now) _ c.self.invariant.0 c.args.node clear c.task-task.result.now c.task-task.ensures c.set-set.result.now c.set-set.ensures c.mark_running.new.self c.mark_running.ensures.marked c.items-children.result.now c.in-Ok.text c.act_at_home.new.store made in
     let basis = c.basis-2.ensures c.self.inside.app.now in
-    let finished = finished_at_home basis _ _ midway.is_done c.act_at_home.new.store midway.given c.items-children.result.now refl c.end_at_home-ended.new.graph c.end_at_home-ended.new.log.entries c.in-Ok-ended.ensures.ended
-    (c.self.inside.created + length c.items-children.result.now) refl in
-    let within = not_over basis _ _ midway.is_done (c.self.inside.created + length c.items-children.result.now) refl c.if-created-limit.false in
+    let within = not_over basis _ _ midway.is_done (c.self.inside.ended + c.len.result + length c.items-children.result.now)
+    (ap (λ nodes. c.self.inside.ended + nodes + length c.items-children.result.now) c.len.ensures.len ∙ ap (λ created. created + length c.items-children.result.now) (sym midway.counted)) c.if-created-limit.false in
+    let finished = finished_at_home basis _ _ midway.is_done c.act_at_home.new.store midway.given c.items-children.result.now refl (c.sound_finish_laws.ensures c.self.inside.app.now) within
+    c.end_at_home-ended.new.graph c.end_at_home-ended.new.log.entries c.in-Ok-ended.ensures.ended in
     engine_acted g.A.App.meaning _ _ c.self.view_is c.args.node _ (midway.acted within _ finished)
 
 pub returns-in-Ok-ended-clause-sound : goal.returns-in-Ok-ended-clause-sound
@@ -161,7 +163,7 @@ invariant_of-self-in-Err g c =
     let basis = c.basis-2.ensures c.self.inside.app.now in
     let at = ap (λ (nodes : List Node). set_at nodes c.args.node) (sym c.in-Err.ensures.nodes) ∙ c.set-in-Err.ensures in
     let left = dropped basis _ _ midway.is_done c.act_at_home.new.store midway.given c.set-in-Err.result.now at c.drop_written-in-Err.new.self c.drop_written-in-Err.ensures.taken in
-    let back = progress_back _ c.drop_written-in-Err.new.self c.end_at_home-ended.new.graph c.end_at_home-ended.new.log.entries left c.in-Err.ensures.nodes c.in-Err.ensures.entries in (
+    let back = progress_back _ c.drop_written-in-Err.new.self c.end_at_home-ended.new.graph c.end_at_home-ended.new.log.entries refl left c.in-Err.ensures.nodes c.in-Err.ensures.entries in (
       subst (IsKept (g.A.App.meaning c.self.inside.app.now)) (sym back) (midway.kept (Some cause.NoRoom)),
       some_are_ready (g.A.App.meaning c.self.inside.app.now) c.end_at_home-ended.new.graph c.forget.new.self [] c.forget.ensures.ids c.forget.ensures.current tt,
       subst (HaveFixedSets (g.A.App.meaning c.self.inside.app.now)) (sym c.in-Err.ensures.nodes) (fixed_started (g.A.App.meaning c.self.inside.app.now) c.args.node c.self.inside.graph c.mark_running.new.self c.mark_running.ensures.marked c.self.invariant.2),
@@ -176,8 +178,9 @@ returns-clause-fault g c =
     let basis = c.basis-2.ensures c.self.inside.app.now in
     let at = ap (λ (nodes : List Node). set_at nodes c.args.node) (sym c.in-Err.ensures.nodes) ∙ c.set-in-Err.ensures in
     let left = dropped basis _ _ midway.is_done c.act_at_home.new.store midway.given c.set-in-Err.result.now at c.drop_written-in-Err.new.self c.drop_written-in-Err.ensures.taken in
-    let back = progress_back _ c.drop_written-in-Err.new.self c.end_at_home-ended.new.graph c.end_at_home-ended.new.log.entries left c.in-Err.ensures.nodes c.in-Err.ensures.entries in
-    let within = not_over basis _ _ midway.is_done (c.self.inside.created + length c.items-children.result.now) refl c.if-created-limit.false in
+    let back = progress_back _ c.drop_written-in-Err.new.self c.end_at_home-ended.new.graph c.end_at_home-ended.new.log.entries refl left c.in-Err.ensures.nodes c.in-Err.ensures.entries in
+    let within = not_over basis _ _ midway.is_done (c.self.inside.ended + c.len.result + length c.items-children.result.now)
+    (ap (λ nodes. c.self.inside.ended + nodes + length c.items-children.result.now) c.len.ensures.len ∙ ap (λ created. created + length c.items-children.result.now) (sym midway.counted)) c.if-created-limit.false in
     let free = ap (λ (state : EngineState _ _). state.progress.over) c.self.view_is ∙ c.requires.not_over in
     engine_stuck g.A.App.meaning _ _ c.self.view_is c.args.node _ _ back (midway.stuck free within)
 

@@ -1,4 +1,4 @@
-use Rattle.std.proofs.Common.{◌≡◌, ◌≢◌, ◌∙◌, ◌%◌, List, [], ◌∷◌, Option, Some, None, length, refl, subst}
+use Rattle.std.proofs.Common.{◌≡◌, ◌≢◌, ◌∙◌, ◌+◌, ◌%◌, List, [], ◌∷◌, Option, Some, None, length, refl, subst}
 use Rattle.graph_update.specs.declared.job.Job.{Job}
 use Rattle.graph_update.specs.Engine.{MayRun, SomeRuns}
 use Rattle.graph_update.specs.Events.{IsClaimed, clear_nodes}
@@ -29,7 +29,7 @@ pub returns-in_default-picked-clause-answer : goal.returns-in_default-picked-cla
 returns-in_default-picked-clause-answer g c =
     let app = g.A.App.meaning c.self.inside.app.now in
     let inside : Progress g.row.A-Val.Denot =
-    record { cells = c.self.inside.store; nodes = c.self.inside.graph; log = c.self.inside.log.entries; created = c.self.inside.created; ended = c.self.inside.ended; limit = c.self.inside.limit; over = c.self.inside.over } in
+    record { cells = c.self.inside.store; nodes = c.self.inside.graph; log = c.self.inside.log.entries; created = c.self.inside.ended + length c.self.inside.graph; ended = c.self.inside.ended; limit = c.self.inside.limit; over = c.self.inside.over } in
     subst (λ (state : EngineState g.row.A.Denot g.row.A-Val.Denot). (state.progress.over ≡ None) × (state.progress.nodes ≢ []) × (clear_nodes (g.A.App.meaning state.app) state.progress.nodes ≡ []) × (inside ≡ state.progress)) (c.self.view_is ∙ c.settle.ensures) (
       none_where_not c.self.inside.over c.in_default.not-Some,
       some_nodes c.self.inside.graph c.least.result c.least.ensures.least c.if-is_none.ensures,
@@ -65,7 +65,7 @@ invariant_of-self-2 g c = (
 pub returns-clause-answer : goal.returns-clause-answer
 returns-clause-answer g c =
     subst (λ (state : EngineState g.row.A.Denot g.row.A-Val.Denot). (state.progress.over ≡ None) × IsClaimed (g.A.App.meaning state.app) state.progress c.args.pick
-    (record { cells = c.take.new.self; nodes = c.mark_running.new.self; log = c.self.inside.log.entries; created = c.self.inside.created; ended = c.self.inside.ended; limit = c.self.inside.limit; over = c.self.inside.over }) (record { node = c.in-Some-picked.node; task = c.in_ok-task.task; bundle = c.in_ok-bundle.bundle })) (c.self.view_is ∙ c.settle.ensures) (
+    (record { cells = c.take.new.self; nodes = c.mark_running.new.self; log = c.self.inside.log.entries; created = c.self.inside.ended + length c.mark_running.new.self; ended = c.self.inside.ended; limit = c.self.inside.limit; over = c.self.inside.over }) (record { node = c.in-Some-picked.node; task = c.in_ok-task.task; bundle = c.in_ok-bundle.bundle })) (c.self.view_is ∙ c.settle.ensures) (
       none_where_not c.self.inside.over c.in_default.not-Some,
       claimed (c.basis.ensures c.self.inside.app.now) _ c.self.invariant.0 c.args.pick c.in-Some-picked.node (pick_is (g.A.App.meaning c.self.inside.app.now) c.self.inside.graph c.args.pick (ids_in c.look.new.self.ids) (Some c.in-Some-picked.node) c.in_ok-look.ensures.all c.in-Some-picked.ensures.id)
           c.task.result.now c.in_ok-task.task c.set.result.now c.in_ok-bundle.bundle c.take.new.self c.mark_running.new.self
@@ -75,7 +75,7 @@ returns-clause-answer g c =
 pub returns-clause-sound : goal.returns-clause-sound
 returns-clause-sound g c =
     subst (λ (state : EngineState g.row.A.Denot g.row.A-Val.Denot). (jobs : List (Job g.row.A-Val.Denot)) (values : List g.row.A-Val.Denot) → IsSound (g.A.App.meaning state.app) state.progress jobs values
-    → IsSound (g.A.App.meaning state.app) (record { cells = c.take.new.self; nodes = c.mark_running.new.self; log = c.self.inside.log.entries; created = c.self.inside.created; ended = c.self.inside.ended; limit = c.self.inside.limit; over = c.self.inside.over }) ((record { node = c.in-Some-picked.node; task = c.in_ok-task.task; bundle = c.in_ok-bundle.bundle }) ∷ jobs) values) (c.self.view_is ∙ c.settle.ensures)
+    → IsSound (g.A.App.meaning state.app) (record { cells = c.take.new.self; nodes = c.mark_running.new.self; log = c.self.inside.log.entries; created = c.self.inside.ended + length c.mark_running.new.self; ended = c.self.inside.ended; limit = c.self.inside.limit; over = c.self.inside.over }) ((record { node = c.in-Some-picked.node; task = c.in_ok-task.task; bundle = c.in_ok-bundle.bundle }) ∷ jobs) values) (c.self.view_is ∙ c.settle.ensures)
     (sound_after (c.basis.ensures c.self.inside.app.now) _ c.self.invariant.0 c.args.pick c.in-Some-picked.node (pick_is (g.A.App.meaning c.self.inside.app.now) c.self.inside.graph c.args.pick (ids_in c.look.new.self.ids) (Some c.in-Some-picked.node) c.in_ok-look.ensures.all c.in-Some-picked.ensures.id)
     c.task.result.now c.in_ok-task.task c.set.result.now c.in_ok-bundle.bundle c.take.new.self c.mark_running.new.self
     c.task.ensures c.in_ok-task.ensures c.set.ensures c.in_ok-bundle.ensures.bundle c.in_ok-bundle.ensures.ok c.mark_running.ensures.marked)

@@ -1,4 +1,4 @@
-use Rattle.std.proofs.Common.{◌+◌, ◌≤◌, ◌∙◌, length, sym, ap, subst}
+use Rattle.std.proofs.Common.{◌+◌, ◌≤◌, ◌∙◌, length, refl, sym, ap, subst}
 use Rattle.graph_update.specs.declared.job.Done.{Done}
 use Rattle.graph_update.specs.Engine.{AreReady, HaveFixedSets, IsKept, IsOneStepEach}
 use Rattle.graph_update.specs.IdChunks.{ids_in}
@@ -27,9 +27,9 @@ invariant_of-self g c =
     let done : Done _ = record { node = c.args.node; task = g.task; effect = c.args.effect } in
     let is = inside_done g.A.App.meaning _ _ done c.self.view_is c.requires.1.1.1.1.1.1.0 in
     let basis = c.basis.ensures c.self.inside.app.now in
-    let created_are = c.requires.1.1.1.1.1.1.1.0 ∙ ap (λ (engine : EngineState _ _). engine.progress.created + length c.args.effect.children) (sym c.self.view_is) in
-    let within = not_over basis _ done is c.args.created created_are (subst (λ (engine : EngineState _ _). c.args.created ≤ engine.progress.limit) (sym c.self.view_is) c.requires.1.1.1.1.1.1.1.1) in
-    let finished = finished_at_home basis _ done is c.give-shell.new.self c.give-shell.ensures.given c.items.result.now c.items.ensures.all c.end_at_home-ended.new.graph c.end_at_home-ended.new.log.entries c.in-Ok.ensures.ended c.args.created created_are in (
+    let within = not_over basis _ done is _ refl (subst (λ (engine : EngineState _ _). engine.progress.created + length c.args.effect.children ≤ engine.progress.limit) (sym c.self.view_is) c.requires.1.1.1.1.1.1.1) in
+    let finished = finished_at_home basis _ done is c.give-shell.new.self c.give-shell.ensures.given c.items.result.now c.items.ensures.all (c.sound_finish_laws.ensures c.self.inside.app.now) within
+    c.end_at_home-ended.new.graph c.end_at_home-ended.new.log.entries c.in-Ok.ensures.ended in (
       stays_kept basis _ done is within _ finished (c.sound_finish_laws.ensures c.self.inside.app.now) c.self.invariant.0.limited,
       some_are_ready (g.A.App.meaning c.self.inside.app.now) c.end_at_home-ended.new.graph c.expect_more.new.self (ids_in c.self.inside.ready.ids) (ap ids_in c.expect_more.ensures.ids) c.expect_more.ensures.current
           (stays_ready basis _ done is within _ finished (c.stay_clear_laws.ensures.stay c.self.inside.app.now) (ids_in c.self.inside.ready.ids) c.self.invariant.1.clear),
@@ -43,7 +43,7 @@ invariant_of-self-in-Err g c =
     let is = inside_done g.A.App.meaning _ _ done c.self.view_is c.requires.1.1.1.1.1.1.0 in
     let basis = c.basis.ensures c.self.inside.app.now in
     let cells_are = cells_back c.self.inside.store c.give-shell.new.self c.args.effect.bundle c.give-shell.result (bundle_is_out basis is.sound is.performed) c.give-shell.ensures.given c.give-shell.ensures.shell basis.takes_back c.regain-bundle.new.self c.regain-bundle.ensures.taken in
-    let back = progress_back _ c.regain-bundle.new.self c.end_at_home-ended.new.graph c.end_at_home-ended.new.log.entries cells_are c.in-Err.ensures.nodes c.in-Err.ensures.entries in (
+    let back = progress_back _ c.regain-bundle.new.self c.end_at_home-ended.new.graph c.end_at_home-ended.new.log.entries refl cells_are c.in-Err.ensures.nodes c.in-Err.ensures.entries in (
       subst (IsKept (g.A.App.meaning c.self.inside.app.now)) (sym back) c.self.invariant.0,
       subst (λ nodes. AreReady (g.A.App.meaning c.self.inside.app.now) nodes c.self.inside.ready) (sym c.in-Err.ensures.nodes) c.self.invariant.1,
       subst (HaveFixedSets (g.A.App.meaning c.self.inside.app.now)) (sym c.in-Err.ensures.nodes) c.self.invariant.2,
@@ -55,9 +55,9 @@ returns-in-Ok-clause-finished g c =
     let done : Done _ = record { node = c.args.node; task = g.task; effect = c.args.effect } in
     let is = inside_done g.A.App.meaning _ _ done c.self.view_is c.requires.1.1.1.1.1.1.0 in
     let basis = c.basis.ensures c.self.inside.app.now in
-    let created_are = c.requires.1.1.1.1.1.1.1.0 ∙ ap (λ (engine : EngineState _ _). engine.progress.created + length c.args.effect.children) (sym c.self.view_is) in
-    let within = not_over basis _ done is c.args.created created_are (subst (λ (engine : EngineState _ _). c.args.created ≤ engine.progress.limit) (sym c.self.view_is) c.requires.1.1.1.1.1.1.1.1) in
-    let finished = finished_at_home basis _ done is c.give-shell.new.self c.give-shell.ensures.given c.items.result.now c.items.ensures.all c.end_at_home-ended.new.graph c.end_at_home-ended.new.log.entries c.in-Ok.ensures.ended c.args.created created_are in
+    let within = not_over basis _ done is _ refl (subst (λ (engine : EngineState _ _). engine.progress.created + length c.args.effect.children ≤ engine.progress.limit) (sym c.self.view_is) c.requires.1.1.1.1.1.1.1) in
+    let finished = finished_at_home basis _ done is c.give-shell.new.self c.give-shell.ensures.given c.items.result.now c.items.ensures.all (c.sound_finish_laws.ensures c.self.inside.app.now) within
+    c.end_at_home-ended.new.graph c.end_at_home-ended.new.log.entries c.in-Ok.ensures.ended in
     engine_finished g.A.App.meaning _ _ done c.self.view_is _ finished
 
 pub returns-in-Ok-clause-sound : goal.returns-in-Ok-clause-sound
@@ -65,9 +65,9 @@ returns-in-Ok-clause-sound g c =
     let done : Done _ = record { node = c.args.node; task = g.task; effect = c.args.effect } in
     let is = inside_done g.A.App.meaning _ _ done c.self.view_is c.requires.1.1.1.1.1.1.0 in
     let basis = c.basis.ensures c.self.inside.app.now in
-    let created_are = c.requires.1.1.1.1.1.1.1.0 ∙ ap (λ (engine : EngineState _ _). engine.progress.created + length c.args.effect.children) (sym c.self.view_is) in
-    let within = not_over basis _ done is c.args.created created_are (subst (λ (engine : EngineState _ _). c.args.created ≤ engine.progress.limit) (sym c.self.view_is) c.requires.1.1.1.1.1.1.1.1) in
-    let finished = finished_at_home basis _ done is c.give-shell.new.self c.give-shell.ensures.given c.items.result.now c.items.ensures.all c.end_at_home-ended.new.graph c.end_at_home-ended.new.log.entries c.in-Ok.ensures.ended c.args.created created_are in
+    let within = not_over basis _ done is _ refl (subst (λ (engine : EngineState _ _). engine.progress.created + length c.args.effect.children ≤ engine.progress.limit) (sym c.self.view_is) c.requires.1.1.1.1.1.1.1) in
+    let finished = finished_at_home basis _ done is c.give-shell.new.self c.give-shell.ensures.given c.items.result.now c.items.ensures.all (c.sound_finish_laws.ensures c.self.inside.app.now) within
+    c.end_at_home-ended.new.graph c.end_at_home-ended.new.log.entries c.in-Ok.ensures.ended in
     engine_sound g.A.App.meaning _ _ done c.self.view_is _ (stays_sound basis _ done is within _ finished (c.sound_finish_laws.ensures c.self.inside.app.now))
 
 pub returns-in-Ok-clause-steps : goal.returns-in-Ok-clause-steps
@@ -101,5 +101,5 @@ returns-in-Err-clause-unchanged g c =
     let is = inside_done g.A.App.meaning _ _ done c.self.view_is c.requires.1.1.1.1.1.1.0 in
     let basis = c.basis.ensures c.self.inside.app.now in
     let cells_are = cells_back c.self.inside.store c.give-shell.new.self c.args.effect.bundle c.give-shell.result (bundle_is_out basis is.sound is.performed) c.give-shell.ensures.given c.give-shell.ensures.shell basis.takes_back c.regain-bundle.new.self c.regain-bundle.ensures.taken in
-    let back = progress_back _ c.regain-bundle.new.self c.end_at_home-ended.new.graph c.end_at_home-ended.new.log.entries cells_are c.in-Err.ensures.nodes c.in-Err.ensures.entries in
+    let back = progress_back _ c.regain-bundle.new.self c.end_at_home-ended.new.graph c.end_at_home-ended.new.log.entries refl cells_are c.in-Err.ensures.nodes c.in-Err.ensures.entries in
     ap (λ (progress : Progress _). let engine : EngineState _ _ = record { app = c.self.inside.app.now; progress = progress } in engine) back ∙ c.self.view_is

@@ -3,7 +3,7 @@ use Rattle.kdg_graph.specs.Nodes.{tasks_of}
 use Rattle.graph_update.specs.Progress.{EngineState}
 use Rattle.graph_update.specs.StandingLaws.{NoneRuns}
 use Rattle.graph_update.proofs.ReadyIds.{some_are_ready}
-use Rattle.graph_update.proofs.Renamed.{engine_stays_sound, is_renamed, own_few, own_fit, own_home, own_many, own_names, own_sound, stays_fixed, stays_kept}
+use Rattle.graph_update.proofs.Renamed.{engine_renamed, engine_stays_sound, is_renamed, own_few, own_fit, own_home, own_many, own_names, own_sound, stays_fixed, stays_kept}
 use Rattle.graph_update.proofs.engine.Engine.renamed.Goals as goal
 
 pub put_first-requires-clause-home : goal.put_first-requires-clause-home
@@ -58,6 +58,13 @@ invariant_of-result g c =
       subst (g.A.App.tells c.self.inside.app.now c.in_ok-horizon.horizon) (names.are_first ∙ sym c.in_ok-graph.ensures.nodes.tasks)
           (c.in_ok-horizon.ensures (tasks_of c.self.inside.graph) names.name names.has_name names.naming names.have_names c.self.invariant.3),
     )
+
+pub returns-clause-renamed : goal.returns-clause-renamed
+returns-clause-renamed g c =
+    let idle = subst (λ (engine : EngineState _ _). NoneRuns engine.progress.nodes) (sym c.self.view_is) c.requires.idle in
+    let is = is_renamed (c.basis.ensures c.self.inside.app.now) _ c.self.invariant.0 idle c.in_ok-tasks.tasks.items c.in_ok-first.first.items c.deref.result.now
+    c.in_ok-tasks.ensures.tasks c.in_ok-first.ensures c.deref.ensures.value c.in_ok-graph.graph c.new.result.entries c.in_ok-graph.ensures.nodes c.new.ensures in
+    engine_renamed g.A.App.meaning _ _ _ c.self.view_is is
 
 pub returns-clause-sound : goal.returns-clause-sound
 returns-clause-sound g c =
