@@ -5,12 +5,8 @@ ghost use Rattle.app_laws.specs.Applications.{AreFitStarts};
 
 use super::circuits::circuit_of;
 use super::decks::C17;
-use super::meetings::{contacts, six_meetings};
-use super::outcomes::{
-    Outcome, are_alike, cause_of, copies_of, list_of, outcome_of, serial_outcome,
-};
+use super::outcomes::{Outcome, cause_of, copies_of, list_of, outcome_of, serial_outcome};
 use app_laws::App;
-use example_app::Introductions;
 use graph_update::{Engine, OverCause};
 use kdg_text::Text;
 use logic_sim::Circuit;
@@ -107,17 +103,5 @@ fn rounds_with_a_task_too_many_are_refused(rt: HostRuntime) -> Result<(), Fail> 
     let circuit = circuit_of(alloc, C17)?;
     let refused = rounds_of(&rt, alloc, &circuit, 19).err();
     assert!(rt; matches!(refused, Some(OverCause::Budget { limit: 19, .. })));
-    Ok(())
-}
-
-/// Meetings, whose sets move, come to the same in rounds as one after another.
-#[test]
-fn rounds_of_meetings_are_as_the_serial_run(rt: HostRuntime) -> Result<(), Fail> {
-    let alloc = rt.alloc();
-    let app = Introductions::new(alloc, 10);
-    let (cells, first) = (contacts(alloc)?, six_meetings(alloc)?);
-    let [in_turn, open, watched] = outcomes_of(&rt, alloc, &app, &cells, first.items(), 36)?;
-    assert_eq!(rt; in_turn.count, 36);
-    assert!(rt; are_alike(&open, &in_turn) && are_alike(&watched, &in_turn));
     Ok(())
 }
