@@ -1,34 +1,15 @@
--- The first of the nodes that pass one test or another.
-use Rattle.std.proofs.Common.{◌≡◌, ℕ, suc, ◌<◌, Bool, true, false, ◌||◌, cond, List, [], ◌∷◌, length, take, get_or, Option, Some, None, refl, sym, ◌∙◌, ap, subst}
-use Rattle.std.specs.Prelude.{Contains, IfSome, IsSome}
-use Rattle.std.specs.List.{AllByRecursion, filter, list_any}
-use Rattle.std.proofs.Math.Seq.{take-suc}
-use Rattle.std.proofs.lemmas.List.Folds.{list_any-append}
-use Rattle.std.specs.declared.cmp.Ordering.TheVariants.{Less}
-use Rattle.std.specs.Ordering.{is_lt}
-use Rattle.task_order.specs.declared.key.Key.{Key}
-use Rattle.task_order.specs.Key.{key_cmp, key_cmp_total}
-use Rattle.task_order.specs.TaskList.{IsAscending}
-use Rattle.rw_sets.specs.declared.access.Access.{Access}
-use Rattle.rw_sets.specs.Accesses.{Accesses, IsAscending as IsAscendingSet, access_at, clash, conflicts_with}
-use Rattle.kdg_graph.specs.declared.node_id.NodeId.{NodeId}
-use Rattle.kdg_graph.specs.Locations.{IsLaneAmong, clashes_at}
-use Rattle.kdg_graph.specs.Node.{Node}
-use Rattle.kdg_graph.specs.Nodes.{HasNode, IsGraph, ids_of, later_than, least_of, node_at, tasks_of}
-use Rattle.kdg_graph.proofs.Among.{among_filtered, graph_among}
-use Rattle.kdg_graph.proofs.Blocking.{access_of}
-use Rattle.kdg_graph.proofs.Filtered.{ascending_filtered, dropped, filters_commute, kept, same_filter}
-use Rattle.kdg_graph.proofs.Fronting.{filter_within, some_first}
-use Rattle.kdg_graph.proofs.LookUps.{key_later, nodes_have_ids}
-use Rattle.kdg_graph.proofs.Members.{all_at, from_filter, here, there}
-use Rattle.kdg_graph.proofs.Ordering.{Less_from_test, all_later, filter-all, is_before, not_itself, turned}
-use Rattle.kdg_graph.proofs.Pasts.{is_past}
+-- The first of the nodes that pass a test.
+use Rattle.std.proofs.Common.{◌≡◌, ℕ, suc, ◌<◌, Bool, true, false, ◌||◌, cond, List, [], ◌∷◌, length, take, get_or, Option, Some, None, refl, sym, ◌∙◌, ap, subst, Contains, IfSome, IsSome, filter, take-suc, Less, is_lt, is_some, true≢false, slice_get, option_map}
+use Rattle.kdg_graph.proofs.Common.{AllByRecursion, list_any, list_any-append, Key, key_cmp, key_cmp_total, IsAscending, Access, Accesses, IsAscendingSet, access_at, clash, conflicts_with, NodeId, IsLaneAmong, clashes_at, Node, HasNode, IsGraph, ids_of, later_than, least_of, node_at, tasks_of, all_at, from_filter, here, clashing_at, Task, Read, writes, writers_of, WritersAreOfTasks, AreFiled, Location, lane_of, task_at, any_same, filter-map}
+use Rattle.kdg_graph.proofs.Blocking.{access_of, any_from, same_found}
+use Rattle.kdg_graph.proofs.Fronting.{filter_within, some_first, first_from, reads_by}
+use Rattle.kdg_graph.proofs.KeyOrder.{ascending_filtered, dropped, filters_commute, kept, same_filter, Less_from_test, all_later, filter-all, is_before, not_itself, turned, is_past}
+use Rattle.kdg_graph.proofs.Lanes.{among_filtered, graph_among}
+use Rattle.kdg_graph.proofs.LookUps.{key_later, nodes_have_ids, ids_find_nodes}
+
+-- ---- the first of the nodes that pass one test or another
 
 -- ---- tests that agree
-
-pub any_same : {X : Type 0} (p q : X → Bool) (xs : List X) → ((x : X) → Contains xs x → p x ≡ q x) → list_any p xs ≡ list_any q xs
-any_same p q [] same = refl
-any_same p q (x ∷ xs) same = λ i. same x (here x xs) i || any_same p q xs (λ y has. same y (there x y xs has)) i
 
 -- the conflict with a set, by the pairs of the set
 pub conflicts_by_pairs : (ps : Accesses) (other : Node) → IsAscendingSet ps → list_any (λ (p : ℕ × Access). clashes_at p.0 p.1 other) ps ≡ conflicts_with ps other.set
@@ -144,3 +125,66 @@ behind_first p key nodes node rest up is =
     ap (filter p) (sym (filter_within (is_past node.task.key) (is_past key) within nodes))
     ∙ filters_commute p (is_past node.task.key) (later_than key nodes) ∙ ap (filter (is_past node.task.key)) is ∙ dropped (is_past node.task.key) node rest (not_itself node.task.key)
     ∙ filter-all (is_past node.task.key) rest (all_later node.task.key rest up_found.0)
+
+-- ---- the first of all later nodes, where a search among them may end
+
+-- ---- an early end
+
+-- where it clashes at one location of a set it is the first in conflict
+first_met : (key : Key) (nodes : List Node) (set : Accesses) (p : ℕ × Access) (next : NodeId) → IsGraph nodes → IsAscendingSet set → Contains set p → least_of (later_than key nodes) ≡ Some next → least_of (clashing_at p.0 p.1 (later_than key nodes)) ≡ Some next
+    → least_of (filter (λ other. conflicts_with set other.set) (later_than key nodes)) ≡ Some next
+first_met key nodes set p next graph up has is found =
+    let later : List Node = later_than key nodes in
+    let test : Node → Bool = λ other. conflicts_with set other.set in
+    let first = some_first later next is in
+    let met = some_first (clashing_at p.0 p.1 later) next found in
+    let clashing : Contains later met.0 × (clashes_at p.0 p.1 met.0 ≡ true) = from_filter (clashes_at p.0 p.1) later met.0 (subst (λ (l : List Node). Contains l met.0) (sym met.2) (here met.0 met.1)) in
+    let in_met : Contains nodes met.0 = (from_filter (is_past key) nodes met.0 clashing.0).0 in
+    let in_first : Contains nodes first.0 = (from_filter (is_past key) nodes first.0 (subst (λ (l : List Node). Contains l first.0) (sym first.2) (here first.0 first.1))).0 in
+    let same : met.0 ≡ first.0 = same_found nodes first.0.id first.0 met.0 graph in_met (met.3 ∙ sym first.3) (nodes_have_ids nodes first.0 graph in_first) in
+    let conflict : test first.0 ≡ true = sym (conflicts_by_pairs set first.0 up) ∙ any_from (λ (q : ℕ × Access). clashes_at q.0 q.1 first.0) set p has (ap (clashes_at p.0 p.1) (sym same) ∙ clashing.1) in
+    ap (λ (l : List Node). least_of (filter test l)) first.2 ∙ ap least_of (kept test first.0 first.1 conflict) ∙ ap (λ (id : NodeId). Some id) first.3
+
+-- the first of all may be given, and is met
+pub ends_early : (key : Key) (nodes : List Node) (set : Accesses) (p : ℕ × Access) (next found : Option NodeId) → IsGraph nodes → IsAscendingSet set → Contains set p → is_some next ≡ true → IfSome next (λ id. least_of (later_than key nodes) ≡ Some id) → found ≡ next → found ≡ least_of (clashing_at p.0 p.1 (later_than key nodes))
+    → found ≡ least_of (filter (λ other. conflicts_with set other.set) (later_than key nodes))
+ends_early key nodes set p None found graph up has some is same clashing = absurd (true≢false (sym some))
+ends_early key nodes set p (Some id) found graph up has some is same clashing = same ∙ sym (first_met key nodes set p id graph up has is (sym clashing ∙ same))
+
+-- ---- a step of the walk
+
+-- behind the one that is found are left those behind its key
+pub walked : (set : Accesses) (key : Key) (nodes : List Node) (id : NodeId) (node : Node) → IsGraph nodes → least_of (filter (λ other. conflicts_with set other.set) (later_than key nodes)) ≡ Some id → node_at nodes id ≡ Some node
+    → ids_of (filter (λ other. conflicts_with set other.set) (later_than key nodes)) ≡ id ∷ ids_of (filter (λ other. conflicts_with set other.set) (later_than node.task.key nodes))
+walked set key nodes id node graph is found =
+    let test : Node → Bool = λ other. conflicts_with set other.set in
+    let first = first_is_node nodes (later_than key nodes) test id node graph (later_among key nodes graph) is found in
+    ap ids_of first.1 ∙ (λ i. (ids_find_nodes nodes id node found).1 i ∷ ids_of (sym (behind_first test key nodes node first.0 graph.ascending first.1) i))
+
+-- ---- the first node that writes a location
+
+-- a read clashes with those that write
+pub read_clashes : (nodes : List Node) (loc : ℕ) → clashing_at loc Read nodes ≡ writers_of nodes loc
+read_clashes nodes loc = same_filter (clashes_at loc Read) (λ node. writes node.set loc) nodes (λ node _. reads_by (access_at node.set loc))
+
+-- the first that is kept for an access is the earliest of those that it clashes with
+pub first_filed : (nodes : List Node) (locations : List Location) (loc : ℕ) (access : Access) → AreFiled nodes locations → slice_get (lane_of locations loc access) 0 ≡ least_of (clashing_at loc access nodes)
+first_filed nodes locations loc access filed = ap (λ (l : List NodeId). slice_get l 0) (filed loc access) ∙ first_from 0 (clashing_at loc access nodes)
+
+-- for a read, of those that write
+pub first_writing : (nodes : List Node) (locations : List Location) (loc : ℕ) → AreFiled nodes locations → slice_get (lane_of locations loc Read) 0 ≡ least_of (writers_of nodes loc)
+first_writing nodes locations loc filed = first_filed nodes locations loc Read filed ∙ ap least_of (read_clashes nodes loc)
+
+-- the task of the earliest that passes a test is the first of their tasks
+pub least_task : (nodes : List Node) (p : Node → Bool) (id : NodeId) (task : Task) → IsGraph nodes → Some id ≡ least_of (filter p nodes) → task_at nodes id ≡ Some task → Some task ≡ slice_get (tasks_of (filter p nodes)) 0
+least_task nodes p id task graph is at =
+    let first = some_first (filter p nodes) id (sym is) in
+    let node : Node = first.0 in
+    let has : Contains nodes node = (from_filter p nodes node (subst (λ (l : List Node). Contains l node) (sym first.2) (here node first.1))).0 in
+    let found : task_at nodes node.id ≡ Some node.task = ap (option_map (λ (n : Node). n.task)) (nodes_have_ids nodes node graph has) in
+    sym at ∙ ap (task_at nodes) (sym first.3) ∙ found ∙ ap (λ (l : List Node). slice_get (tasks_of l) 0) (sym first.2)
+
+pub writers_are_of_tasks : WritersAreOfTasks
+writers_are_of_tasks nodes set_of loc all =
+    ap tasks_of (same_filter (λ node. writes node.set loc) (λ node. writes (set_of node.task) loc) nodes (λ node has. ap (λ set. writes set loc) (all_at (λ (n : Node). n.set ≡ set_of n.task) nodes node all has)))
+    ∙ sym (filter-map (λ (n : Node). n.task) (λ task. writes (set_of task) loc) nodes)

@@ -1,28 +1,9 @@
 -- The places of the nodes that one node may block alone.
-use Rattle.std.proofs.Common.{◌≡◌, ℕ, zero, suc, ◌+◌, ◌-◌, ◌≤◌, Bool, true, false, cond, List, [], ◌∷◌, length, take, drop, Option, Some, None, refl, sym, ◌∙◌, ap, subst, arith}
-use Rattle.std.specs.Prelude.{Contains, slice_get}
-use Rattle.std.specs.List.{AllByRecursion, filter}
-use Rattle.std.specs.declared.cmp.Ordering.TheVariants.{Less}
-use Rattle.std.specs.Ordering.{is_lt}
-use Rattle.std.proofs.lemmas.List.Sums.{count_by-le-length, length-filter}
-use Rattle.std.proofs.lemmas.Bool.{false_from_ne_true, false≢true, true≢false}
-use Rattle.task_order.specs.declared.key.Key.{Key}
-use Rattle.task_order.specs.Key.{key_cmp, key_cmp_total}
-use Rattle.task_order.specs.TaskList.{IsAscending}
-use Rattle.rw_sets.specs.declared.access.Access.{Access}
-use Rattle.rw_sets.specs.declared.access.Access.TheVariants.{Read, Write}
-use Rattle.rw_sets.specs.Accesses.{access_at, allows_write, clash, writes}
-use Rattle.kdg_graph.specs.declared.node_id.NodeId.{NodeId}
-use Rattle.kdg_graph.specs.Lanes.{IsRankPast}
-use Rattle.kdg_graph.specs.Locations.{clashes_at, clashing_at, front_after, up_to_writer}
-use Rattle.kdg_graph.specs.Node.{Node}
-use Rattle.kdg_graph.specs.Nodes.{IsGraph, ids_of, later_than, least_of, node_at, tasks_of}
-use Rattle.kdg_graph.proofs.Filtered.{ascending_filtered, dropped, filters_commute, kept}
+use Rattle.std.proofs.Common.{◌≡◌, ℕ, zero, suc, ◌+◌, ◌-◌, ◌≤◌, Bool, true, false, cond, List, [], ◌∷◌, length, take, drop, Option, Some, None, refl, sym, ◌∙◌, ap, subst, arith, Contains, slice_get, filter, Less, is_lt, true≢false}
+use Rattle.kdg_graph.proofs.Common.{AllByRecursion, count_by-le-length, length-filter, false_from_ne_true, false≢true, Key, key_cmp, key_cmp_total, IsAscending, Access, Read, Write, access_at, allows_write, clash, writes, NodeId, IsRankPast, clashes_at, clashing_at, front_after, up_to_writer, Node, IsGraph, ids_of, later_than, least_of, node_at, tasks_of, from_filter, here}
+use Rattle.kdg_graph.proofs.KeyOrder.{ascending_filtered, dropped, filters_commute, kept, Less_from_test, not_itself, turned, drop_past, is_past}
 use Rattle.kdg_graph.proofs.Lanes.{length-ids}
 use Rattle.kdg_graph.proofs.LookUps.{key_later, nodes_have_ids}
-use Rattle.kdg_graph.proofs.Members.{from_filter, here}
-use Rattle.kdg_graph.proofs.Ordering.{Less_from_test, not_itself, turned}
-use Rattle.kdg_graph.proofs.Pasts.{drop_past, is_past}
 
 -- ---- the nodes behind a place
 

@@ -1,19 +1,7 @@
 -- What a list of nodes keeps, whatever is done to it.
-use Rattle.std.proofs.Common.{◌≡◌, ◌≢◌, ℕ, zero, suc, Bool, true, false, cond, unwrap_or, Some, None, List, [], ◌∷◌, map, set, refl, sym, ◌∙◌, ap, subst}
-use Rattle.std.specs.List.{AllByRecursion, insert, remove}
-use Rattle.std.specs.Option.{option_map}
-use Rattle.std.specs.Ordering.{is_lt}
-use Rattle.std.proofs.lemmas.Bool.{cond_both}
-use Rattle.task_order.specs.TaskList.{IsAscending, IsNewKey}
-use Rattle.task_order.specs.Laws.{PutsKeepAscending}
-use Rattle.task_order.specs.Key.{key_cmp}
-use Rattle.rw_sets.specs.Accesses.{Accesses, IsAscending as IsAscendingSet}
-use Rattle.kdg_graph.specs.declared.node_id.NodeId.{NodeId}
-use Rattle.kdg_graph.specs.declared.change.SetChange.{SetChange}
-use Rattle.kdg_graph.specs.Node.{Node}
-use Rattle.kdg_graph.specs.Nodes.{IsGraph, HaveOwnIds, HaveSets, ids_of, is_at, put_node, started, tasks_of}
-use Rattle.kdg_graph.specs.Rewrite.{set_after, with_sets}
-use Rattle.kdg_graph.proofs.Ordering.{tasks-put_node}
+use Rattle.std.proofs.Common.{◌≡◌, ◌≢◌, ℕ, zero, suc, Bool, true, false, cond, unwrap_or, Some, None, List, [], ◌∷◌, map, set, refl, sym, ◌∙◌, ap, subst, insert, remove, option_map, is_lt}
+use Rattle.kdg_graph.proofs.Common.{AllByRecursion, cond_both, IsAscending, IsNewKey, PutsKeepAscending, key_cmp, Accesses, IsAscendingSet, NodeId, SetChange, Node, IsGraph, HaveOwnIds, HaveSets, ids_of, is_at, put_node, started, tasks_of, set_after, with_sets}
+use Rattle.kdg_graph.proofs.KeyOrder.{tasks-put_node}
 
 -- ---- a change that keeps each node's id and task
 

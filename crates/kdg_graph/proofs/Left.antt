@@ -1,36 +1,30 @@
--- The nodes that are left behind the one that was looked at last, of those in order and those that came since.
-use Rattle.std.proofs.Common.{◌≡◌, ℕ, zero, suc, ◌+◌, ◌<◌, ◌^◌, ◌==◌, Bool, true, false, not, ◌||◌, ◌&&◌, cond, List, [], ◌∷◌, ◌++◌, drop, get_or, length, take, Option, Some, None, refl, sym, ◌∙◌, ap, subst, arith}
-use Rattle.std.specs.Prelude.{Contains, IfSome, slice_get}
-use Rattle.std.specs.Int.{from_bool}
-use Rattle.std.specs.List.{AllByRecursion, filter}
-use Rattle.std.specs.Option.{option_eq}
-use Rattle.std.specs.Ordering.{is_lt}
-use Rattle.std.proofs.lemmas.Bool.{false_from_ne_true, true≢false}
-use Rattle.std.proofs.lemmas.List.{append_assoc, map-append, take_more}
-use Rattle.std.proofs.lemmas.List.Elements.{Contains-get_or}
+-- The nodes that are left behind the one that was looked at last, and which of them are sources.
+use Rattle.std.proofs.Common.{◌≡◌, Bool, true, false, not, cond, List, [], ◌∷◌, Option, Some, refl, ◌∙◌, ap, unwrap_or, filter, option_map, ℕ, zero, suc, ◌+◌, ◌<◌, ◌^◌, ◌==◌, ◌||◌, ◌&&◌, ◌++◌, drop, get_or, length, take, None, sym, subst, arith, Contains, IfSome, slice_get, is_lt, true≢false, append_assoc}
 use Rattle.std.proofs.Math.Bool.{and_assoc, and-true}
-use Rattle.std.proofs.lemmas.Option.{get_or_from_slice_get, slice_get_within}
-use Rattle.task_order.specs.Key.{key_cmp_total}
-use Rattle.task_order.specs.TaskList.{IsAscending}
-use Rattle.kdg_graph.specs.declared.arrival.Arrival.{Arrival}
-use Rattle.kdg_graph.specs.declared.node_id.NodeId.{NodeId}
-use Rattle.kdg_graph.specs.Lanes.{is_id, is_id_at}
-use Rattle.kdg_graph.specs.Node.{Node}
-use Rattle.kdg_graph.specs.Nodes.{HasNode, IsGraph, ids_of, is_at, least_of, node_at, tasks_of}
-use Rattle.kdg_graph.specs.Selected.{AreLeft, IsArrival, IsInOrder, IsLeft, MarkedIds, arrived, ids_in, is_among, is_behind, is_later, is_left, left_in, listed_in, not_running, unblocked_of}
-use Rattle.kdg_graph.proofs.Blocking.{any_from}
-use Rattle.kdg_graph.proofs.Filtered.{ascending_filtered, dropped, filter_twice, kept, same_filter}
+use Rattle.std.specs.Int.{from_bool}
+use Rattle.kdg_graph.proofs.Common.{AllByRecursion, NodeId, Node, IsGraph, ids_of, node_at, sources_of, is_unblocked, not_running, runs, unblocked_of, from_filter, option_eq, false_from_ne_true, map-append, take_more, Contains-get_or, get_or_from_slice_get, slice_get_within, key_cmp_total, IsAscending, Arrival, is_id, is_id_at, HasNode, is_at, least_of, tasks_of, AreLeft, IsArrival, IsInOrder, IsLeft, MarkedIds, arrived, ids_in, is_among, is_behind, is_later, is_left, left_in, listed_in, all_at, here, filter-map}
+use Rattle.kdg_graph.proofs.Blocking.{any_from, found_some, same_found}
 use Rattle.kdg_graph.proofs.Fronting.{some_first}
-use Rattle.kdg_graph.proofs.LookUps.{nodes_have_ids}
-use Rattle.kdg_graph.proofs.Members.{all_at, from_filter, here}
-use Rattle.kdg_graph.proofs.Neighbours.{found_some, same_found}
+use Rattle.kdg_graph.proofs.KeyOrder.{filter_twice, filters_commute, ascending_filtered, dropped, kept, same_filter, Less_from_test, all_later, filter-all, not_itself, is_past}
+use Rattle.kdg_graph.proofs.LookUps.{nodes_have_ids, is_at-same, same_id}
 use Rattle.kdg_graph.proofs.Ordered.{first_unblocked}
-use Rattle.kdg_graph.proofs.Ordering.{Less_from_test, all_later, filter-all, not_itself}
-use Rattle.kdg_graph.proofs.Pasts.{is_past}
-use Rattle.kdg_graph.proofs.Places.{is_at-same, same_id}
-use Rattle.kdg_graph.proofs.Running.{runs_as_found}
+use Rattle.kdg_graph.proofs.Searches.{id_at, inside_at}
 use Rattle.kdg_graph.proofs.Selecting.{among_append}
-use Rattle.kdg_graph.proofs.Sought.{id_at, inside_at}
+
+-- ---- the sources are the unblocked nodes that are not running
+
+pub runs_as_found : (nodes : List Node) (id : NodeId) (node : Node) → node_at nodes id ≡ Some node → runs nodes id ≡ node.running
+runs_as_found nodes id node is = ap (λ (found : Option Node). unwrap_or (option_map (λ (n : Node). n.running) found) false) is
+
+pub not_running_unblocked : (nodes : List Node) → IsGraph nodes → not_running nodes (unblocked_of nodes) ≡ sources_of nodes
+not_running_unblocked nodes graph =
+    let rests : Node → Bool = λ node. not node.running in
+    let some : List Node = filter (is_unblocked nodes) nodes in
+    filter-map (λ (n : Node). n.id) (λ id. not (runs nodes id)) some
+    ∙ ap ids_of (same_filter (λ node. not (runs nodes node.id)) rests some (λ node has. ap not (runs_as_found nodes node.id node (nodes_have_ids nodes node graph (from_filter (is_unblocked nodes) nodes node has).0)))
+    ∙ filters_commute rests (is_unblocked nodes) nodes ∙ filter_twice (is_unblocked nodes) rests nodes)
+
+-- ---- the nodes that are left behind the one that was looked at last, of those in order and those that came since
 
 -- ---- the first that passes a test
 

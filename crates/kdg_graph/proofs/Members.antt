@@ -1,8 +1,8 @@
 -- Members of lists, of their filters and of their images.
 use Rattle.std.proofs.Common.{◌≡◌, ◌⊎◌, inl, inr, zero, suc, ◌||◌, Bool, true, false, cond, List, [], ◌∷◌, map, Some, None, refl, sym, ◌∙◌, ap, subst, arith}
-use Rattle.std.specs.Prelude.{Contains}
-use Rattle.std.specs.List.{AllByRecursion, filter, find, list_any}
 use Rattle.std.proofs.lemmas.Bool.{true≢false}
+use Rattle.std.specs.List.{AllByRecursion, filter, find, list_any}
+use Rattle.std.specs.Prelude.{Contains}
 
 pub none : {X : Type 0} (x : X) → Contains [] x → ⊥
 none x (k, inside, is) = omega (arith, inside)
@@ -52,6 +52,18 @@ from_filter {X} p (y ∷ xs) x has =
 
 -- ---- images
 
+pub filter-map : {X Y : Type 0} (f : X → Y) (q : Y → Bool) (xs : List X) → filter q (map f xs) ≡ map f (filter (λ x. q (f x)) xs)
+filter-map f q [] = refl
+filter-map f q (x ∷ xs) =
+    elim (q (f x)) as (λ b. cond b (f x ∷ filter q (map f xs)) (filter q (map f xs)) ≡ map f (cond b (x ∷ filter (λ y. q (f y)) xs) (filter (λ y. q (f y)) xs))) [
+      | true ↦ ap (λ l. f x ∷ l) (filter-map f q xs)
+      | false ↦ filter-map f q xs
+    ]
+
+pub any-map : {X Y : Type 0} (f : X → Y) (p : Y → Bool) (xs : List X) → list_any p (map f xs) ≡ list_any (λ x. p (f x)) xs
+any-map f p [] = refl
+any-map f p (x ∷ xs) = ap (λ b. p (f x) || b) (any-map f p xs)
+
 pub in_map : {X Y : Type 0} (f : X → Y) (xs : List X) (x : X) → Contains xs x → Contains (map f xs) (f x)
 in_map f [] x has = absurd (none x has)
 in_map {X} {Y} f (y ∷ xs) x has =
@@ -78,6 +90,10 @@ none_passes {X} p (y ∷ xs) x is has =
 pub none_any : {X : Type 0} (p : X → Bool) (xs : List X) → ((x : X) → Contains xs x → p x ≡ false) → list_any p xs ≡ false
 none_any p [] each = refl
 none_any p (x ∷ xs) each = ap (λ test. test || list_any p xs) (each x (here x xs)) ∙ none_any p xs (λ y has. each y (there x y xs has))
+
+pub any_same : {X : Type 0} (p q : X → Bool) (xs : List X) → ((x : X) → Contains xs x → p x ≡ q x) → list_any p xs ≡ list_any q xs
+any_same p q [] same = refl
+any_same p q (x ∷ xs) same = λ i. same x (here x xs) i || any_same p q xs (λ y has. same y (there x y xs has)) i
 
 -- ---- what a test finds
 

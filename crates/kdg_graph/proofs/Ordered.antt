@@ -1,24 +1,9 @@
 -- The list of all ids in key order, and the first of all nodes.
-use Rattle.std.proofs.Common.{◌≡◌, ℕ, suc, ◌<◌, ◌≤◌, true, false, not, List, [], ◌∷◌, length, drop, Option, Some, None, refl, sym, ◌∙◌, ap, subst, arith}
-use Rattle.std.specs.Prelude.{IfSome, slice_get}
-use Rattle.std.specs.List.{AllByRecursion, filter, list_any}
-use Rattle.task_order.specs.declared.key.Key.{Key}
-use Rattle.rw_sets.specs.Accesses.{conflicts_with}
-use Rattle.kdg_graph.specs.declared.lane.Lane.{Lane}
-use Rattle.kdg_graph.specs.declared.node_id.NodeId.{NodeId}
-use Rattle.kdg_graph.specs.Kept.{IsOrder}
-use Rattle.kdg_graph.specs.Lanes.{IsRankPast}
-use Rattle.kdg_graph.specs.Locations.{IsLaneAmong}
-use Rattle.kdg_graph.specs.Node.{Node}
-use Rattle.kdg_graph.specs.NodeStock.{places_in}
-use Rattle.kdg_graph.specs.Nodes.{HasNode, IsGraph, earlier_than, ids_of, is_at, later_than, least_of, node_at, put_node}
-use Rattle.kdg_graph.specs.Rewrite.{without}
-use Rattle.kdg_graph.specs.Selected.{is_unblocked, unblocked_of}
-use Rattle.kdg_graph.proofs.Among.{among_filtered, graph_among}
-use Rattle.kdg_graph.proofs.Filtered.{dropped, kept, none_before, put_without}
+use Rattle.std.proofs.Common.{◌≡◌, ℕ, suc, ◌<◌, ◌≤◌, true, false, not, List, [], ◌∷◌, length, drop, Option, Some, None, refl, sym, ◌∙◌, ap, subst, arith, IfSome, slice_get, filter}
+use Rattle.kdg_graph.proofs.Common.{AllByRecursion, list_any, Key, conflicts_with, Lane, NodeId, IsOrder, IsRankPast, IsLaneAmong, Node, places_in, HasNode, IsGraph, earlier_than, ids_of, is_at, later_than, least_of, node_at, put_node, without, is_unblocked, unblocked_of}
 use Rattle.kdg_graph.proofs.Fronting.{first_from}
-use Rattle.kdg_graph.proofs.Ordering.{is_before, not_itself}
-use Rattle.kdg_graph.proofs.Pasts.{drop_past}
+use Rattle.kdg_graph.proofs.KeyOrder.{dropped, kept, none_before, put_without, is_before, not_itself, drop_past}
+use Rattle.kdg_graph.proofs.Lanes.{among_filtered, graph_among}
 use Rattle.kdg_graph.proofs.Selecting.{at_some, found_node, length-put}
 
 -- ---- the order after a change

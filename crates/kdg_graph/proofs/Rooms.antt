@@ -1,11 +1,7 @@
 -- Room for more nodes at the locations of sets.
 use Rattle.std.proofs.Common.{◌≡◌, ℕ, suc, ◌+◌, ◌-◌, ◌^◌, ◌<◌, ◌≤◌, ◌==◌, Bool, true, false, cond, refl, eqb-true, bit_and, List, [], ◌∷◌, ◌++◌, length, take, get_or, sym, subst, arith, ◌∙◌}
-use Rattle.std.specs.List.{AllByRecursion}
-use Rattle.std.proofs.lemmas.List.{take_more}
 use Rattle.std.proofs.lemmas.Nat.{and_mask}
-use Rattle.rw_sets.specs.Accesses.{Accesses}
-use Rattle.kdg_graph.specs.NodeStock.{ids_left, numbers_with_marks}
-use Rattle.kdg_graph.specs.Locations.{HasRoom, HaveNoLess, HaveSameLanes, Location, room_at}
+use Rattle.kdg_graph.proofs.Common.{AllByRecursion, take_more, Accesses, ids_left, HasRoom, HaveNoLess, HaveSameLanes, Location, room_at}
 
 -- ---- each of several
 
@@ -13,7 +9,7 @@ pub all_mapped : {X : Type 0} (P Q : X → Type 0) (xs : List X) → ((x : X) �
 all_mapped P Q [] each all = tt
 all_mapped P Q (x ∷ xs) each all = (each x all.0, all_mapped P Q xs each all.1)
 
-all_joined : {X : Type 0} (P : X → Type 0) (xs : List X) (y : X) → AllByRecursion P xs → P y → AllByRecursion P (xs ++ y ∷ [])
+pub all_joined : {X : Type 0} (P : X → Type 0) (xs : List X) (y : X) → AllByRecursion P xs → P y → AllByRecursion P (xs ++ y ∷ [])
 all_joined P [] y all one = (one, tt)
 all_joined P (x ∷ xs) y all one = (all.0, all_joined P xs y all.1 one)
 
@@ -54,20 +50,10 @@ same_lanes_twice a b c first second loc access = second loc access ∙ first loc
 
 -- ---- ids that are left
 
--- where some are left, each key has a mark
-pub keys_have_marks : (numbers keys marks : ℕ) → 0 < numbers_with_marks numbers keys marks → keys ≤ marks
-keys_have_marks numbers keys marks = by_case (keys - marks == 0) refl
-  where
-    by_case : (fits : Bool) → (keys - marks == 0) ≡ fits → 0 < cond fits numbers 0 → keys ≤ marks
-    by_case true is some = omega (arith, eqb-true (keys - marks) 0 is)
-    by_case false is some = absurd (omega (arith, some))
-
--- where some are taken, the others are left
 -- where an id is left each key is one
 pub key_is_id : (keys used key : ℕ) → 0 < ids_left keys used → key < keys → bit_and key (2 ^ 32 - 1) ≡ key
-key_is_id keys used key left inside =
-    let few : keys ≤ 2 ^ 32 = keys_have_marks (keys - used) keys (2 ^ 32) left in
-    and_mask key 32 ∙ omega (arith, inside, few)
-
-pub numbers_left : (taken numbers left keys keys_now marks marks_now : ℕ) → numbers ≤ left + taken → keys_now ≡ keys → marks_now ≡ marks → numbers_with_marks numbers keys marks ≤ numbers_with_marks left keys_now marks_now + taken
-numbers_left taken numbers left keys keys_now marks marks_now less same_keys same_marks = grind (arith, less, same_keys, same_marks)
+key_is_id keys used key left inside = and_mask key 32 ∙ omega (arith, inside, few (keys - 2 ^ 32 == 0) refl left)
+  where
+    few : (fits : Bool) → (keys - 2 ^ 32 == 0) ≡ fits → 0 < cond fits (keys - used) 0 → key < 2 ^ 32
+    few true is some = omega (arith, eqb-true (keys - 2 ^ 32) 0 is, inside)
+    few false is some = absurd (omega (arith, some))

@@ -1,33 +1,10 @@
 -- Ids of the nodes that pass a test, where one comes in or goes out.
-use Rattle.std.proofs.Common.{◌≡◌, ◌≢◌, inl, inr, ℕ, suc, ◌+◌, ◌-◌, ◌<◌, ◌≤◌, ◌||◌, ◌&&◌, Bool, true, false, not, cond, List, [], ◌∷◌, ◌++◌, length, take, drop, get_or, append-nil, length-drop, Option, Some, None, refl, sym, ◌∙◌, ap, subst, arith}
-use Rattle.std.specs.Prelude.{Contains, IfSome, IsSome}
-use Rattle.std.specs.List.{AllByRecursion, filter, flat_map}
-use Rattle.std.specs.Ordering.{is_lt}
-use Rattle.std.specs.declared.cmp.Ordering.TheVariants.{Less}
-use Rattle.std.proofs.lemmas.List.{get_or-drop, map-append, take_more}
-use Rattle.std.proofs.lemmas.Grind.{flat_map-append}
-use Rattle.std.proofs.lemmas.List.Sums.{count_by-le-length, length-filter}
-use Rattle.task_order.specs.declared.key.Key.{Key}
-use Rattle.task_order.specs.Key.{key_cmp}
-use Rattle.task_order.specs.TaskList.{IsAscending}
-use Rattle.kdg_graph.specs.declared.node_id.NodeId.{NodeId}
-use Rattle.kdg_graph.specs.Node.{Node}
-use Rattle.kdg_graph.specs.Nodes.{HasNode, HaveOwnIds, IsGraph, ids_of, is_at, node_at, put_node, tasks_of}
-use Rattle.kdg_graph.specs.Rewrite.{without}
-use Rattle.rw_sets.specs.declared.access.Access.{Access}
-use Rattle.rw_sets.specs.Accesses.{Accesses}
-use Rattle.kdg_graph.specs.Locations.{IsLaneAmong, front_after}
-use Rattle.kdg_graph.specs.Fronts.{fronts_after}
-use Rattle.kdg_graph.specs.Selected.{AreSelected, forgotten, is_among, is_unblocked, refreshed, retested}
-use Rattle.kdg_graph.proofs.Blocking.{any_from, same_tests, some_passes}
-use Rattle.kdg_graph.proofs.Members.{all_at, all_from, cases, from_filter, from_map, here, in_filter, in_map, none}
-use Rattle.kdg_graph.proofs.Ordering.{is_before, turned}
+use Rattle.std.proofs.Common.{◌≡◌, ◌≢◌, inl, inr, ℕ, suc, ◌+◌, ◌-◌, ◌<◌, ◌≤◌, ◌||◌, ◌&&◌, Bool, true, false, not, cond, List, [], ◌∷◌, ◌++◌, length, take, drop, get_or, append-nil, length-drop, Option, Some, None, refl, sym, ◌∙◌, ap, subst, arith, Contains, IfSome, IsSome, filter, flat_map, is_lt, Less, get_or-drop}
+use Rattle.kdg_graph.proofs.Common.{AllByRecursion, map-append, take_more, flat_map-append, count_by-le-length, length-filter, Key, key_cmp, IsAscending, NodeId, Node, HasNode, HaveOwnIds, IsGraph, ids_of, is_at, node_at, put_node, tasks_of, without, Access, Accesses, IsLaneAmong, front_after, fronts_after, AreRetested, AreSelected, AreSome, MarkedIds, forgotten, is_among, is_unblocked, listed_in, refreshed, retested, all_at, all_from, cases, from_filter, from_map, here, in_filter, in_map, none}
+use Rattle.kdg_graph.proofs.Blocking.{any_from, same_tests, some_passes, found_some, same_found, all_tasks}
+use Rattle.kdg_graph.proofs.KeyOrder.{is_before, turned, ascending_filtered, filter_twice, put_first, same_filter}
 use Rattle.kdg_graph.proofs.Lanes.{length-ids}
-use Rattle.kdg_graph.proofs.Places.{is_at-same, not_at, same_id}
-use Rattle.kdg_graph.proofs.LookUps.{ids_find_nodes, nodes_have_ids}
-use Rattle.kdg_graph.proofs.Neighbours.{found_some, same_found}
-use Rattle.kdg_graph.proofs.Filtered.{ascending_filtered, filter_twice, put_first, same_filter}
-use Rattle.kdg_graph.proofs.Fronts.{all_tasks}
+use Rattle.kdg_graph.proofs.LookUps.{is_at-same, not_at, same_id, ids_find_nodes, nodes_have_ids}
 
 -- ---- one node more
 
@@ -191,6 +168,17 @@ retested_append answer some more test node =
 pub select_append : (answer : Node → Bool) (nodes : List Node) (some more : List NodeId) (test : Node → Bool) (ids : List NodeId) → AreSelected nodes (retested answer more (retested answer some test)) ids → AreSelected nodes (retested answer (some ++ more) test) ids
 select_append answer nodes some more test ids is = is ∙ ap ids_of (same_filter _ _ nodes (λ node _. retested_append answer some more test node))
 
+pub retested_none : (answer : Node → Bool) (nodes : List Node) (some : MarkedIds) → AreSome nodes some → AreRetested nodes answer [] some some
+retested_none answer nodes some are = record { ids = λ test selected. selected; some = are; room = omega arith; marks = refl }
+
+pub retested_twice : (answer : Node → Bool) (nodes : List Node) (asked more : List NodeId) (a b c : MarkedIds) → AreRetested nodes answer asked a b → AreRetested nodes answer more b c → AreRetested nodes answer (asked ++ more) a c
+retested_twice answer nodes asked more a b c first second = record {
+  ids = λ test selected. select_append answer nodes asked more test (listed_in nodes c) (second.ids (retested answer asked test) (first.ids test selected));
+  some = second.some;
+  room = omega (arith, first.room, second.room);
+  marks = second.marks ∙ first.marks;
+}
+
 -- to forget nodes that fail the test changes nothing
 pub forgotten_failing : (nodes some : List Node) (test : Node → Bool) (ids : List NodeId) → IsGraph nodes → ((node : Node) → Contains some node → Contains nodes node) → AllByRecursion (λ node. test node ≡ false) some → AreSelected nodes test ids → AreSelected nodes (forgotten (ids_of some) test) ids
 forgotten_failing nodes some test ids graph there fail is =
@@ -207,6 +195,15 @@ forgotten_failing nodes some test ids graph there fail is =
         let same : one.0 ≡ node = same_found nodes node.id node one.0 graph (there one.0 one.1) (one.2 ∙ sym (same_id found.0 node found.2)) (nodes_have_ids nodes node graph has) in
         ap test (sym same) ∙ all_at (λ (n : Node). test n ≡ false) some one.0 fail one.1
 
+-- the other answer for one node is the same
+pub answered : (nodes : List Node) (id : NodeId) (node : Node) (one other : Node → Bool) (a b : MarkedIds) → IsGraph nodes → node_at nodes id ≡ Some node → one node ≡ other node → AreRetested nodes one (id ∷ []) a b → AreRetested nodes other (id ∷ []) a b
+answered nodes id node one other a b graph is same was = record {
+  ids = λ test selected. was.ids test selected ∙ ap ids_of (same_answer nodes id node one other test graph is same);
+  some = was.some;
+  room = was.room;
+  marks = was.marks;
+}
+
 -- ---- the walks over fronts
 
 -- one place more of a front
@@ -219,10 +216,10 @@ front_step lane start i id ordered inside here =
     ∙ take_more (drop start lane) (i - start) id within
     ∙ ap (λ x. take (i - start) (drop start lane) ++ x ∷ []) (get_or-drop start lane (i - start) id ∙ ap (λ n. get_or lane n id) at ∙ sym here)
 
-pub front_done : (answer : Node → Bool) (nodes : List Node) (lane : List NodeId) (start i : ℕ) (id : NodeId) (test : Node → Bool) (ids : List NodeId) → start ≤ i → i < length lane → id ≡ get_or lane i id → AreSelected nodes (retested answer (id ∷ []) (retested answer (take (i - start) (drop start lane)) test)) ids
-    → AreSelected nodes (retested answer (take (i + 1 - start) (drop start lane)) test) ids
-front_done answer nodes lane start i id test ids ordered inside here is =
-    subst (λ (l : List NodeId). AreSelected nodes (retested answer l test) ids) (sym (front_step lane start i id ordered inside here)) (select_append answer nodes (take (i - start) (drop start lane)) (id ∷ []) test ids is)
+pub front_done : (answer : Node → Bool) (nodes : List Node) (lane : List NodeId) (start i : ℕ) (id : NodeId) (a b c : MarkedIds) → start ≤ i → i < length lane → id ≡ get_or lane i id → AreRetested nodes answer (take (i - start) (drop start lane)) a b → AreRetested nodes answer (id ∷ []) b c
+    → AreRetested nodes answer (take (i + 1 - start) (drop start lane)) a c
+front_done answer nodes lane start i id a b c ordered inside here first second =
+    subst (λ (asked : List NodeId). AreRetested nodes answer asked a c) (sym (front_step lane start i id ordered inside here)) (retested_twice answer nodes (take (i - start) (drop start lane)) (id ∷ []) a b c first second)
 
 -- the ids of a location are those of nodes
 pub lane_has : (nodes : List Node) (p : Node → Bool) (lane : List NodeId) (place : ℕ) (id : NodeId) → IsGraph nodes → lane ≡ ids_of (filter p nodes) → place < length lane → id ≡ get_or lane place id → HasNode nodes id
@@ -239,14 +236,13 @@ fronts_step set key nodes i d inside =
     ap ids_of (ap (flat_map front) (take_more set i d inside) ∙ flat_map-append front (take i set) (p ∷ []) ∙ ap (λ l. flat_map front (take i set) ++ l) (append-nil (front p)))
     ∙ map-append (λ (n : Node). n.id) (flat_map front (take i set)) (front p)
 
-pub fronts_done : (answer : Node → Bool) (nodes : List Node) (items set : Accesses) (key : Key) (i : ℕ) (d : ℕ × Access) (test : Node → Bool) (ids : List NodeId) → items ≡ set → i < length items
-    → AreSelected nodes (retested answer (ids_of (front_after (get_or items i d).0 (get_or items i d).1 key nodes)) (retested answer (ids_of (fronts_after (take i set) key nodes)) test)) ids
-    → AreSelected nodes (retested answer (ids_of (fronts_after (take (i + 1) set) key nodes)) test) ids
-fronts_done answer nodes items set key i d test ids same inside is =
+pub fronts_done : (answer : Node → Bool) (nodes : List Node) (items set : Accesses) (key : Key) (i : ℕ) (d : ℕ × Access) (a b c : MarkedIds) → items ≡ set → i < length items → AreRetested nodes answer (ids_of (fronts_after (take i set) key nodes)) a b
+    → AreRetested nodes answer (ids_of (front_after (get_or items i d).0 (get_or items i d).1 key nodes)) b c → AreRetested nodes answer (ids_of (fronts_after (take (i + 1) set) key nodes)) a c
+fronts_done answer nodes items set key i d a b c same inside first second =
+    let front : Accesses → List NodeId = λ (s : Accesses). ids_of (front_after (get_or s i d).0 (get_or s i d).1 key nodes) in
     let within : i < length set = subst (λ (s : Accesses). i < length s) same inside in
-    let before : List NodeId = ids_of (fronts_after (take i set) key nodes) in
-    let now = subst (λ (s : Accesses). AreSelected nodes (retested answer (ids_of (front_after (get_or s i d).0 (get_or s i d).1 key nodes)) (retested answer before test)) ids) same is in
-    subst (λ (l : List NodeId). AreSelected nodes (retested answer l test) ids) (sym (fronts_step set key nodes i d within)) (select_append answer nodes before (ids_of (front_after (get_or set i d).0 (get_or set i d).1 key nodes)) test ids now)
+    let now : AreRetested nodes answer (front set) b c = subst (λ (s : Accesses). AreRetested nodes answer (front s) b c) same second in
+    subst (λ (asked : List NodeId). AreRetested nodes answer asked a c) (sym (fronts_step set key nodes i d within)) (retested_twice answer nodes (ids_of (fronts_after (take i set) key nodes)) (front set) a b c first now)
 
 -- ---- the end of the walks
 

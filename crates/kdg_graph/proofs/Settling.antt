@@ -1,34 +1,12 @@
 -- The unblocked nodes after a node came, went or changed, once the nodes in doubt are refreshed.
-use Rattle.std.proofs.Common.{◌≡◌, ◌≢◌, ℕ, suc, length, ◌||◌, ◌&&◌, Bool, true, false, not, cond, List, [], ◌∷◌, ◌++◌, map, Some, refl, sym, ◌∙◌, ap, subst}
-use Rattle.std.specs.Prelude.{Contains}
-use Rattle.std.specs.List.{AllByRecursion, filter, flat_map, list_any}
-use Rattle.std.specs.Ordering.{is_lt}
-use Rattle.std.proofs.lemmas.Bool.{false_from_ne_true, true≢false}
-use Rattle.task_order.specs.declared.key.Key.{Key}
-use Rattle.task_order.specs.Key.{key_cmp}
-use Rattle.task_order.specs.TaskList.{IsAscending}
-use Rattle.rw_sets.specs.Accesses.{Accesses, access_at, clash, conflicts_with}
-use Rattle.rw_sets.specs.declared.access.Access.{Access}
-use Rattle.kdg_graph.specs.declared.node_id.NodeId.{NodeId}
-use Rattle.kdg_graph.specs.declared.change.SetChange.{SetChange}
-use Rattle.kdg_graph.specs.Node.{Node}
-use Rattle.kdg_graph.specs.Nodes.{HaveOwnIds, IsGraph, earlier_than, ids_of, is_at, node_at, put_node, started, tasks_of}
-use Rattle.kdg_graph.specs.Edges.{is_blocked}
-use Rattle.kdg_graph.specs.Exchange.{is_same, lacking}
-use Rattle.kdg_graph.specs.Fronts.{fronts_after}
-use Rattle.kdg_graph.specs.Locations.{AreFiled, Location, clashes_at, clashing_at, up_to_writer}
-use Rattle.kdg_graph.specs.Rewrite.{with_sets, without}
-use Rattle.kdg_graph.specs.Selected.{AreSelected, forgotten, is_among, is_unblocked, refreshed, unblocked_of}
-use Rattle.kdg_graph.proofs.Blocking.{any_from, pair_of}
-use Rattle.kdg_graph.proofs.Exchanging.{same_access}
-use Rattle.kdg_graph.proofs.Filtered.{ascending_filtered, filter_twice, filters_commute, put_dropped, put_without, same_filter}
-use Rattle.kdg_graph.proofs.Fronts.{ClashingPair, among_ids, blocked_front, blocked_put, clashing_pair, fronts_are_nodes, met_in_front, unblocked_outside}
+use Rattle.std.proofs.Common.{◌≡◌, ◌≢◌, ℕ, ◌||◌, ◌&&◌, Bool, true, false, not, cond, List, [], ◌∷◌, ◌++◌, map, Some, refl, sym, ◌∙◌, ap, subst, Contains, filter, flat_map, is_lt, true≢false}
+use Rattle.kdg_graph.proofs.Common.{AllByRecursion, list_any, false_from_ne_true, Key, key_cmp, IsAscending, Accesses, access_at, clash, conflicts_with, Access, NodeId, SetChange, Node, HaveOwnIds, IsGraph, earlier_than, ids_of, is_at, node_at, put_node, started, tasks_of, is_blocked, is_same, lacking, fronts_after, AreFiled, Location, clashes_at, clashing_at, up_to_writer, with_sets, without, AreSelected, forgotten, is_among, is_unblocked, refreshed, unblocked_of, all_at, all_from, from_filter, in_filter, any-map, any_same, filter-map}
+use Rattle.kdg_graph.proofs.Blocking.{any_from, pair_of, ClashingPair, among_ids, blocked_front, blocked_put, clashing_pair, fronts_are_nodes, met_in_front, unblocked_outside}
+use Rattle.kdg_graph.proofs.Filing.{same_access}
 use Rattle.kdg_graph.proofs.Keeping.{changed, ids-map, start, start_keeps_id, start_keeps_task, with_set_if}
-use Rattle.kdg_graph.proofs.LookUps.{ids_find_nodes, nodes_have_ids}
-use Rattle.kdg_graph.proofs.Members.{all_at, all_from, from_filter, in_filter}
-use Rattle.kdg_graph.proofs.Ordering.{is_before, not_itself}
-use Rattle.kdg_graph.proofs.Places.{is_at-same, map_none, none_at, not_at, without_none}
-use Rattle.kdg_graph.proofs.Rewritten.{in_put_new}
+use Rattle.kdg_graph.proofs.KeyOrder.{ascending_filtered, filter_twice, filters_commute, put_dropped, put_without, same_filter, is_before, not_itself}
+use Rattle.kdg_graph.proofs.LookUps.{ids_find_nodes, nodes_have_ids, is_at-same, map_none, none_at, not_at, without_none}
+use Rattle.kdg_graph.proofs.Rewrites.{in_put_new}
 use Rattle.kdg_graph.proofs.Selecting.{among_append, but, but_is_forgotten, but_same, select_append, settled}
 
 -- ---- the nodes but for one
@@ -105,22 +83,22 @@ fronts_failing new rest now graph has blocked =
     fails_both true = refl
     fails_both false = refl
 
--- where the others were tested right but for some that are refreshed as well
-pub settled_put : (new : Node) (rest now : List Node) (more : List NodeId) (test : Node → Bool) (ids : List NodeId) → IsAscending (tasks_of rest) → IsGraph now → now ≡ put_node new rest → ((node : Node) → Contains rest node → is_among more node ≡ false → test node ≡ is_unblocked rest node)
-    → AreSelected now (forgotten (ids_of (fronts_after new.set new.task.key now)) (refreshed now more (refreshed now (new.id ∷ []) (but new.id test)))) ids → ids ≡ unblocked_of now
-settled_put new rest now more test ids up graph is right selected =
+-- where the others were tested right
+pub settled_put : (new : Node) (rest now : List Node) (ids : List NodeId) → IsAscending (tasks_of rest) → IsGraph now → now ≡ put_node new rest → AreSelected now (forgotten (ids_of (fronts_after new.set new.task.key now)) (refreshed now (new.id ∷ []) (but new.id (is_unblocked rest)))) ids
+    → ids ≡ unblocked_of now
+settled_put new rest now ids up graph is selected =
+    let test : Node → Bool = is_unblocked rest in
     let front : List NodeId = ids_of (fronts_after new.set new.task.key now) in
     let first : Node → Bool = refreshed now (new.id ∷ []) (but new.id test) in
     let has : Contains now new = subst (λ (l : List Node). Contains l new) (sym is) (in_put_new new rest) in
-    let last : AreSelected now (refreshed now front (refreshed now more first)) ids = fronts_forgotten new now (refreshed now more first) ids graph has selected in
-    let all : AreSelected now (refreshed now (new.id ∷ more ++ front) (but new.id test)) ids = select_append (is_unblocked now) now (new.id ∷ []) (more ++ front) (but new.id test) ids (select_append (is_unblocked now) now more front first ids last) in
+    let last : AreSelected now (refreshed now front first) ids = fronts_forgotten new now first ids graph has selected in
+    let all : AreSelected now (refreshed now (new.id ∷ front) (but new.id test)) ids = select_append (is_unblocked now) now (new.id ∷ []) front (but new.id test) ids last in
     let left : without new.id now ≡ rest = ap (without new.id) is ∙ without_put new rest (subst HaveOwnIds is graph.own_ids) in
-    settled now (new.id ∷ more ++ front) (but new.id test) ids (λ node has apart.
-    let tests = neither (is_at new.id node) (is_among (more ++ front) node) apart in
-    let fronts = neither (is_among more node) (is_among front node) (sym (among_append more front node) ∙ tests.1) in
+    settled now (new.id ∷ front) (but new.id test) ids (λ node has apart.
+    let tests = neither (is_at new.id node) (is_among front node) apart in
     let in_rest : Contains rest node = subst (λ (l : List Node). Contains l node) left (in_filter (λ n. not (is_at new.id n)) now node has (ap not tests.0)) in
-    let outside : is_among (ids_of (fronts_after new.set new.task.key rest)) node ≡ false = ap (λ l. is_among (ids_of l) node) (sym (ap (fronts_after new.set new.task.key) is ∙ fronts_put new.set new rest)) ∙ fronts.1 in
-    but_same new.id test node tests.0 ∙ right node in_rest fronts.0 ∙ sym (unblocked_outside new rest node up in_rest outside) ∙ ap (λ l. is_unblocked l node) (sym is)) all
+    let outside : is_among (ids_of (fronts_after new.set new.task.key rest)) node ≡ false = ap (λ l. is_among (ids_of l) node) (sym (ap (fronts_after new.set new.task.key) is ∙ fronts_put new.set new rest)) ∙ tests.1 in
+    but_same new.id test node tests.0 ∙ sym (unblocked_outside new rest node up in_rest outside) ∙ ap (λ l. is_unblocked l node) (sym is)) all
 
 -- ---- after a node went
 
@@ -176,10 +154,6 @@ pub same_set_changes_none : (id : NodeId) (node : Node) (set : Accesses) (nodes 
 same_set_changes_none id node set nodes graph is same =
     changed_put id node set nodes graph is ∙ ap (λ (s : Accesses). put_node (record node { set = s }) (without id nodes)) (sym same) ∙ put_without id nodes node graph is
 
-pub length-changed : (changes : List SetChange) (nodes : List Node) → length (with_sets changes nodes) ≡ length nodes
-length-changed changes [] = refl
-length-changed changes (node ∷ nodes) = ap suc (length-changed changes nodes)
-
 -- a pair that clashes is one that a set in no conflict lacks
 lacks_met : (other set : Accesses) (p : ℕ × Access) → clash (Some p.1) (access_at set p.0) ≡ true → conflicts_with other set ≡ false → is_same (Some p.1) (access_at other p.0) ≡ false
 lacks_met other set p met free = false_from_ne_true _ (λ same.
@@ -233,56 +207,35 @@ settled_exchanged id gone set nodes now ids graph after is are selected =
 same_set : (id : NodeId) (node : Node) → (start id node).set ≡ node.set
 same_set id node = elim (is_at id node) as (λ test. (let n : Node = cond test (record node { running = true }) node in n.set) ≡ node.set) [ true ↦ refl | false ↦ refl ]
 
+pub ids-started : (id : NodeId) (nodes : List Node) → ids_of (started id nodes) ≡ ids_of nodes
+ids-started id = ids-map (start id) (start_keeps_id id)
+
+-- a filter of the nodes then is one of those before
+filter_started : (id : NodeId) (p q : Node → Bool) (nodes : List Node) → ((node : Node) → q (start id node) ≡ p node) → filter q (started id nodes) ≡ map (start id) (filter p nodes)
+filter_started id p q nodes same = filter-map (start id) q nodes ∙ ap (map (start id)) (same_filter (λ node. q (start id node)) p nodes (λ node _. same node))
+
 any_started : (id : NodeId) (key : Key) (set : Accesses) (nodes : List Node) → list_any (λ other. conflicts_with other.set set) (earlier_than key (started id nodes)) ≡ list_any (λ other. conflicts_with other.set set) (earlier_than key nodes)
-any_started id key set [] = refl
-any_started id key set (node ∷ nodes) =
-    let rest = any_started id key set nodes in
+any_started id key set nodes =
     let test : Node → Bool = λ other. conflicts_with other.set set in
-    let behind : List Node = earlier_than key (started id nodes) in
-    (λ i. list_any test (cond (is_lt (key_cmp (start_keeps_task id node i).key key)) (start id node ∷ behind) behind))
-    ∙ elim (is_before key node) as (λ b. list_any test (cond b (start id node ∷ behind) behind) ≡ list_any test (cond b (node ∷ earlier_than key nodes) (earlier_than key nodes))) [
-      | true ↦ λ i. conflicts_with (same_set id node i) set || rest i
-      | false ↦ rest
-    ]
+    ap (list_any test) (filter_started id (is_before key) (is_before key) nodes (λ node i. is_lt (key_cmp (start_keeps_task id node i).key key)))
+    ∙ any-map (start id) test (earlier_than key nodes)
+    ∙ any_same (λ node. test (start id node)) test (earlier_than key nodes) (λ node _ i. conflicts_with (same_set id node i) set)
 
 -- its start unblocks and blocks none
 pub unblocked_started : (id : NodeId) (nodes : List Node) → unblocked_of (started id nodes) ≡ unblocked_of nodes
-unblocked_started id nodes = each nodes
-  where
-    each : (some : List Node) → ids_of (filter (is_unblocked (started id nodes)) (started id some)) ≡ ids_of (filter (is_unblocked nodes) some)
-    each [] = refl
-    each (node ∷ some) =
-        let now : List Node = started id nodes in
-        let behind : List Node = filter (is_unblocked now) (started id some) in
-        let same : is_unblocked now (start id node) ≡ is_unblocked nodes node =
-        (λ i. not (list_any (λ other. conflicts_with other.set (same_set id node i)) (earlier_than (start_keeps_task id node i).key now))) ∙ ap not (any_started id node.task.key node.set nodes) in
-        ap (λ b. ids_of (cond b (start id node ∷ behind) behind)) same
-        ∙ elim (is_unblocked nodes node) as (λ b. ids_of (cond b (start id node ∷ behind) behind) ≡ ids_of (cond b (node ∷ filter (is_unblocked nodes) some) (filter (is_unblocked nodes) some))) [
-          | true ↦ λ i. start_keeps_id id node i ∷ each some i
-          | false ↦ each some
-        ]
+unblocked_started id nodes =
+    let now : List Node = started id nodes in
+    let same : (node : Node) → is_unblocked now (start id node) ≡ is_unblocked nodes node =
+    λ node. (λ i. not (list_any (λ other. conflicts_with other.set (same_set id node i)) (earlier_than (start_keeps_task id node i).key now))) ∙ ap not (any_started id node.task.key node.set nodes) in
+    ap ids_of (filter_started id (is_unblocked nodes) (is_unblocked now) nodes same) ∙ ids-started id (filter (is_unblocked nodes) nodes)
 
 -- and leaves it where it is filed
 clashing_started : (id : NodeId) (loc : ℕ) (access : Access) (nodes : List Node) → ids_of (clashing_at loc access (started id nodes)) ≡ ids_of (clashing_at loc access nodes)
-clashing_started id loc access [] = refl
-clashing_started id loc access (node ∷ nodes) =
-    let rest = clashing_started id loc access nodes in
-    let now : List Node = clashing_at loc access (started id nodes) in
-    (λ i. ids_of (cond (clash (Some access) (access_at (same_set id node i) loc)) (start id node ∷ now) now))
-    ∙ elim (clashes_at loc access node) as (λ b. ids_of (cond b (start id node ∷ now) now) ≡ ids_of (cond b (node ∷ clashing_at loc access nodes) (clashing_at loc access nodes))) [
-      | true ↦ λ i. start_keeps_id id node i ∷ rest i
-      | false ↦ rest
-    ]
+clashing_started id loc access nodes =
+    ap ids_of (filter_started id (clashes_at loc access) (clashes_at loc access) nodes (λ node i. clash (Some access) (access_at (same_set id node i) loc))) ∙ ids-started id (clashing_at loc access nodes)
 
 pub filed_started : (id : NodeId) (nodes : List Node) (locations : List Location) → AreFiled nodes locations → AreFiled (started id nodes) locations
 filed_started id nodes locations filed loc access = filed loc access ∙ sym (clashing_started id loc access nodes)
-
-pub length-started : (id : NodeId) (nodes : List Node) → length (started id nodes) ≡ length nodes
-length-started id [] = refl
-length-started id (node ∷ nodes) = ap suc (length-started id nodes)
-
-pub ids-started : (id : NodeId) (nodes : List Node) → ids_of (started id nodes) ≡ ids_of nodes
-ids-started id = ids-map (start id) (start_keeps_id id)
 
 pub ids-changed : (changes : List SetChange) (nodes : List Node) → ids_of (with_sets changes nodes) ≡ ids_of nodes
 ids-changed changes = ids-map (changed changes) (λ node. refl)

@@ -1,11 +1,11 @@
 -- What is kept beside the nodes of a graph.
-use Rattle.std.specs.Prelude.{◌≡◌, ◌≤◌, ◌-◌, ℕ, List, length, Option, IfSome}
+use Rattle.std.specs.Prelude.{◌≡◌, ◌<◌, ◌≤◌, ◌-◌, ℕ, List, length, Option, IfSome}
 use Rattle.std.specs.Borrow.{Bor}
 use Rattle.kdg_graph.specs.Node.{Node}
 use Rattle.kdg_graph.specs.Nodes.{IsGraph, ids_of}
 use Rattle.kdg_graph.specs.declared.lane.Lane.{Lane}
 use Rattle.kdg_graph.specs.Locations.{AreFiled, Location}
-use Rattle.kdg_graph.specs.NodeStock.{NodeShelf, numbers_with_marks, places_in}
+use Rattle.kdg_graph.specs.NodeStock.{NodeShelf, places_in}
 use Rattle.kdg_graph.specs.Selected.{AreSome, MarkedIds, listed_in, unblocked_of}
 
 -- all ids in key order, where a list of them is kept
@@ -22,8 +22,9 @@ pub record IsKept (nodes : List Node) (locations : List Location) (unblocked : M
   pub some : AreSome nodes unblocked
   pub unblocked_are : listed_in nodes unblocked ≡ unblocked_of nodes
 
--- for so many more nodes there is a place in the order of all, an id, and a place among the unblocked nodes
+-- for so many more nodes there is a place in the order of all, an id with a mark, and a place among the unblocked nodes
 pub record HasSpare (count : ℕ) (nodes : NodeShelf) (order : Option Lane) (unblocked : MarkedIds) : Type 0 where
   pub places : count ≤ places_in order nodes.numbers
-  pub numbers : count ≤ numbers_with_marks nodes.numbers nodes.keys unblocked.marks
-  pub marks : count ≤ unblocked.room - length nodes.nodes
+  pub numbers : count ≤ nodes.numbers
+  pub marks : 0 < count → nodes.keys ≤ unblocked.marks
+  pub room : count ≤ unblocked.room - length nodes.nodes

@@ -9,21 +9,15 @@ pub record NodeShelf : Type 0 where
   pub numbers : ℕ
   pub keys : ℕ
 
--- for so many more there is a place in the order of all, an id, and a place among the unblocked nodes, and at each location for so many a place there
+-- for so many more there is room, but at the locations of their sets, and at each location for so many
 pub record NodeStock : Type 0 where
   pub nodes : List Node
-  pub places : ℕ
-  pub numbers : ℕ
-  pub marks : ℕ
+  pub room : ℕ
   pub rooms : List ℕ
 
 -- the ids that are left of so many keys: an id has 32 bits
 abbrev pub ids_left : ℕ → ℕ → ℕ
 ids_left keys used = if keys - 2 ^ 32 == zero then keys - used else zero
-
--- the ids that are left, where each key has a mark
-abbrev pub numbers_with_marks : ℕ → ℕ → ℕ → ℕ
-numbers_with_marks numbers keys marks = if keys - marks == zero then numbers else zero
 
 -- the places that are left in a list of all ids; where none is kept, each that is left has one
 abbrev pub places_in : Option Lane → ℕ → ℕ

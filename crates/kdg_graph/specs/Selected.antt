@@ -160,3 +160,16 @@ refreshed nodes = retested (is_unblocked nodes)
 -- these fail
 abbrev pub forgotten : List NodeId → (Node → Bool) → Node → Bool
 forgotten = retested (λ _. false)
+
+-- the listed nodes that have one of the ids are asked the other question, and there is no less room
+pub record AreRetested (nodes : List Node) (answer : Node → Bool) (asked : List NodeId) (before after : MarkedIds) : Type 0 where
+  pub ids : (test : Node → Bool) → AreSelected nodes test (listed_in nodes before) → AreSelected nodes (retested answer asked test) (listed_in nodes after)
+  pub some : AreSome nodes after
+  pub room : before.room ≤ after.room
+  pub marks : after.marks ≡ before.marks
+
+abbrev pub AreRefreshed : List Node → List NodeId → MarkedIds → MarkedIds → Type 0
+AreRefreshed nodes asked before after = AreRetested nodes (is_unblocked nodes) asked before after
+
+abbrev pub AreForgotten : List Node → List NodeId → MarkedIds → MarkedIds → Type 0
+AreForgotten nodes asked before after = AreRetested nodes (λ _. false) asked before after

@@ -1,11 +1,10 @@
-ghost use Rattle.std.specs.Prelude.{◌≡◌, ◌<◌, ◌≤◌, ℕ, Bool, Some};
+ghost use Rattle.std.specs.Prelude.{◌≡◌, ◌<◌, ℕ, Some};
 ghost use Rattle.rw_sets.specs.Accesses.{IsAscending, access_at};
 ghost use Rattle.kdg_graph.specs.Exchange.{is_same, lacking};
 ghost use Rattle.kdg_graph.specs.Fronts.{fronts_after};
 ghost use Rattle.kdg_graph.specs.Locations.{AreFiled};
-ghost use Rattle.kdg_graph.specs.Node.{Node};
 ghost use Rattle.kdg_graph.specs.Nodes.{IsGraph, ids_of};
-ghost use Rattle.kdg_graph.specs.Selected.{AreSelected, AreSome, listed_in, refreshed};
+ghost use Rattle.kdg_graph.specs.Selected.{AreRefreshed, AreSome};
 
 use crate::locations::Locations;
 use crate::ordered_nodes::OrderedNodes;
@@ -61,11 +60,7 @@ pub(crate) fn refresh_lacking(
     requires graph { IsGraph nodes.now.nodes }
     requires filed { AreFiled nodes.now.nodes locations.now.locations.items }
     requires some { AreSome nodes.now.nodes sources.old }
-    ensures ids { (test : Node → Bool) → AreSelected nodes.now.nodes test (listed_in nodes.now.nodes sources.old)
-        → AreSelected nodes.now.nodes (refreshed nodes.now.nodes (ids_of (fronts_after (lacking set.now other.now) key.now nodes.now.nodes)) test) (listed_in nodes.now.nodes sources.new) }
-    ensures some { AreSome nodes.now.nodes sources.new }
-    ensures room { sources.old.room ≤ sources.new.room }
-    ensures marks { sources.new.marks ≡ sources.old.marks }
+    ensures { AreRefreshed nodes.now.nodes (ids_of (fronts_after (lacking set.now other.now) key.now nodes.now.nodes)) sources.old sources.new }
 {
     let mut walk = SetWalk::new(other);
     for pair in set.items() {

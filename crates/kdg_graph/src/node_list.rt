@@ -39,18 +39,15 @@ pub(crate) struct NodeList {
 }
 
 impl Model for NodeList {
-    ghost use Rattle.std.specs.Prelude.{◌-◌, length};
     ghost use Rattle.kdg_graph.specs.Kept.{HasSpare, IsKept, IsOrder};
     ghost use Rattle.kdg_graph.specs.Locations.{rooms_of};
-    ghost use Rattle.kdg_graph.specs.NodeStock.{NodeStock, numbers_with_marks, places_in};
+    ghost use Rattle.kdg_graph.specs.NodeStock.{NodeStock};
 
     ghost Value = { NodeStock };
 
     ghost view = { λ l. record {
       nodes = l.nodes.nodes;
-      places = places_in l.order l.nodes.numbers;
-      numbers = numbers_with_marks l.nodes.numbers l.nodes.keys l.sources.marks;
-      marks = l.sources.room - length l.nodes.nodes;
+      room = l.spare;
       rooms = rooms_of l.locations.locations.items;
     } };
 
@@ -138,10 +135,6 @@ impl NodeList {
     /// graph. It takes no memory.
     pub(crate) fn settle(&mut self)
         ensures nodes { self.new.nodes ≡ self.old.nodes }
-        ensures places { self.old.places ≤ self.new.places }
-        ensures numbers { self.old.numbers ≤ self.new.numbers }
-        ensures marks { self.old.marks ≤ self.new.marks }
-        ensures rooms { HaveNoLess self.old.rooms self.new.rooms }
         ensures graph { IsGraph self.new.nodes }
     {
         self.sources.settle(&self.nodes);
@@ -149,9 +142,7 @@ impl NodeList {
 
     /// Makes room for one more node with the set.
     pub(crate) fn reserve(&mut self, set: &RwSet) -> Result<(), NoRoom>
-        ensures places { OnOk result (0 < self.new.places) }
-        ensures numbers { OnOk result (0 < self.new.numbers) }
-        ensures marks { OnOk result (0 < self.new.marks) }
+        ensures room { OnOk result (0 < self.new.room) }
         ensures rooms { OnOk result (HasRoom 1 set.now self.new.rooms) }
         ensures nodes { self.new.nodes ≡ self.old.nodes }
     {
@@ -165,9 +156,7 @@ impl NodeList {
         changed: &[SetChange],
         fresh: &[Fresh],
     ) -> Result<(), NoRoom>
-        ensures places { OnOk result (length fresh.now ≤ self.new.places) }
-        ensures numbers { OnOk result (length fresh.now ≤ self.new.numbers) }
-        ensures marks { OnOk result (length fresh.now ≤ self.new.marks) }
+        ensures room { OnOk result (length fresh.now ≤ self.new.room) }
         ensures changed { OnOk result (AllByRecursion (λ change. HasRoom (length changed.now + length fresh.now) change.set self.new.rooms) changed.now) }
         ensures fresh { OnOk result (AllByRecursion (λ item. HasRoom (length changed.now + length fresh.now) item.set self.new.rooms) fresh.now) }
         ensures nodes { self.new.nodes ≡ self.old.nodes }
@@ -181,9 +170,7 @@ impl NodeList {
     /// Makes room for so many more nodes, but at the locations of their sets.
     #[inline(always)]
     fn reserve_nodes(&mut self, additional: usize) -> Result<(), NoRoom>
-        ensures places { OnOk result (additional ≤ self.new.places) }
-        ensures numbers { OnOk result (additional ≤ self.new.numbers) }
-        ensures marks { OnOk result (additional ≤ self.new.marks) }
+        ensures room { OnOk result (additional ≤ self.new.room) }
         ensures nodes { self.new.nodes ≡ self.old.nodes }
     {
         if additional <= self.spare {
@@ -196,9 +183,7 @@ impl NodeList {
     /// asked for, if memory allows.
     #[inline(never)]
     fn reserve_ahead(&mut self, additional: usize) -> Result<(), NoRoom>
-        ensures places { OnOk result (additional ≤ self.new.places) }
-        ensures numbers { OnOk result (additional ≤ self.new.numbers) }
-        ensures marks { OnOk result (additional ≤ self.new.marks) }
+        ensures room { OnOk result (additional ≤ self.new.room) }
         ensures nodes { self.new.nodes ≡ self.old.nodes }
     {
         match self.reserve_lists(additional.max(AHEAD)) {
@@ -209,9 +194,7 @@ impl NodeList {
 
     /// Asks all that is kept for room for so many more nodes.
     fn reserve_lists(&mut self, additional: usize) -> Result<(), NoRoom>
-        ensures places { OnOk result (additional ≤ self.new.places) }
-        ensures numbers { OnOk result (additional ≤ self.new.numbers) }
-        ensures marks { OnOk result (additional ≤ self.new.marks) }
+        ensures room { OnOk result (additional ≤ self.new.room) }
         ensures nodes { self.new.nodes ≡ self.old.nodes }
     {
         // Where one of them has no room, nothing is known of the others.
@@ -229,16 +212,12 @@ impl NodeList {
     /// Puts a node at its place, where `reserve` made room. It needs no memory.
     #[inline(always)]
     pub(crate) fn put(&mut self, task: Task, set: RwSet) -> NodeId
-        requires places { 0 < self.old.places }
-        requires numbers { 0 < self.old.numbers }
-        requires marks { 0 < self.old.marks }
+        requires room { 0 < self.old.room }
         requires rooms { HasRoom 1 set self.old.rooms }
         requires new { IsNewKey task.key (tasks_of self.old.nodes) }
         ensures nodes { self.new.nodes ≡ put_node (new_node result task set) self.old.nodes }
         ensures there { HasNode self.new.nodes result }
-        ensures places { self.old.places ≤ self.new.places + 1 }
-        ensures numbers { self.old.numbers ≤ self.new.numbers + 1 }
-        ensures marks { self.old.marks ≤ self.new.marks + 1 }
+        ensures room { self.old.room ≤ self.new.room + 1 }
         ensures rooms { (loc : ℕ) → room_at self.old.rooms loc ≤ room_at self.new.rooms loc + 1 }
         ensures graph { IsGraph self.new.nodes }
     {
@@ -257,9 +236,7 @@ impl NodeList {
         requires { HasNode self.old.nodes id }
         ensures task { task_at self.old.nodes id ≡ Some result }
         ensures nodes { self.new.nodes ≡ without id self.old.nodes }
-        ensures places { self.old.places ≤ self.new.places }
-        ensures numbers { self.old.numbers ≤ self.new.numbers }
-        ensures marks { self.old.marks ≤ self.new.marks }
+        ensures room { self.old.room ≤ self.new.room }
         ensures rooms { HaveNoLess self.old.rooms self.new.rooms }
         ensures graph { IsGraph self.new.nodes }
     {
@@ -287,9 +264,7 @@ impl NodeList {
         requires there { HasNode self.old.nodes id }
         requires rooms { HasRoom 1 set self.old.rooms }
         ensures nodes { self.new.nodes ≡ with_sets (record { node = id; set = set } ∷ []) self.old.nodes }
-        ensures places { self.old.places ≤ self.new.places }
-        ensures numbers { self.old.numbers ≤ self.new.numbers }
-        ensures marks { self.old.marks ≤ self.new.marks }
+        ensures room { self.old.room ≤ self.new.room }
         ensures rooms { (loc : ℕ) → room_at self.old.rooms loc ≤ room_at self.new.rooms loc + 1 }
         ensures graph { IsGraph self.new.nodes }
     {
@@ -306,9 +281,7 @@ impl NodeList {
         requires there { HasNode self.old.nodes id }
         requires rooms { HasRoom 1 set self.old.rooms }
         ensures nodes { self.new.nodes ≡ with_sets (record { node = id; set = set } ∷ []) self.old.nodes }
-        ensures places { self.old.places ≤ self.new.places }
-        ensures numbers { self.old.numbers ≤ self.new.numbers }
-        ensures marks { self.old.marks ≤ self.new.marks }
+        ensures room { self.old.room ≤ self.new.room }
         ensures rooms { (loc : ℕ) → room_at self.old.rooms loc ≤ room_at self.new.rooms loc + 1 }
         ensures graph { IsGraph self.new.nodes }
     {
@@ -343,9 +316,7 @@ impl NodeList {
         requires rooms { AllByRecursion (λ change. HasRoom (length changes.items) change.set self.old.rooms) changes.items }
         requires graph { IsGraph self.old.nodes }
         ensures nodes { self.new.nodes ≡ with_sets changes.items self.old.nodes }
-        ensures places { self.old.places ≤ self.new.places }
-        ensures numbers { self.old.numbers ≤ self.new.numbers }
-        ensures marks { self.old.marks ≤ self.new.marks }
+        ensures room { self.old.room ≤ self.new.room }
         ensures rooms { (loc : ℕ) → room_at self.old.rooms loc ≤ room_at self.new.rooms loc + length changes.items }
         ensures graph { IsGraph self.new.nodes }
     {
@@ -357,9 +328,7 @@ impl NodeList {
     /// Puts the fresh nodes in, where `reserve_all` made room, which leaves their list empty. It
     /// needs no memory.
     pub(crate) fn put_all(&mut self, fresh: &mut Vec<Fresh>)
-        requires places { length fresh.old.items ≤ self.old.places }
-        requires numbers { length fresh.old.items ≤ self.old.numbers }
-        requires marks { length fresh.old.items ≤ self.old.marks }
+        requires room { length fresh.old.items ≤ self.old.room }
         requires rooms { AllByRecursion (λ item. HasRoom (length fresh.old.items) item.set self.old.rooms) fresh.old.items }
         requires new { HaveNewKeys (tasks_of self.old.nodes) fresh.old.items }
         requires graph { IsGraph self.old.nodes }

@@ -6,7 +6,7 @@ ghost use Rattle.kdg_graph.specs.Edges.{is_blocked};
 ghost use Rattle.kdg_graph.specs.Fronts.{fronts_after};
 ghost use Rattle.kdg_graph.specs.Lanes.{IsRankPast};
 ghost use Rattle.kdg_graph.specs.Locations.{AreFiled, clashing_at, front_after};
-ghost use Rattle.kdg_graph.specs.Selected.{AreInTurn, AreMarked, AreSelected, AreSome, HaveMarks, IsArrival, IsInOrder, arrived, forgotten, has_number, ids_in, is_left, is_recent, is_settled, listed_in, refreshed, retested};
+ghost use Rattle.kdg_graph.specs.Selected.{AreForgotten, AreInTurn, AreMarked, AreRefreshed, AreRetested, AreSelected, AreSome, HaveMarks, IsArrival, IsInOrder, arrived, forgotten, has_number, ids_in, is_left, is_recent, is_settled, listed_in};
 
 use crate::NodeId;
 use crate::arrival::Arrival;
@@ -149,10 +149,7 @@ impl SourceLane {
         requires graph { IsGraph nodes.now.nodes }
         requires there { HasNode nodes.now.nodes id }
         requires some { AreSome nodes.now.nodes self.old }
-        ensures ids { (test : Node → Bool) → AreSelected nodes.now.nodes test (listed_in nodes.now.nodes self.old) → AreSelected nodes.now.nodes (forgotten (id ∷ []) test) (listed_in nodes.now.nodes self.new) }
-        ensures some { AreSome nodes.now.nodes self.new }
-        ensures room { self.old.room ≤ self.new.room }
-        ensures marks { self.new.marks ≡ self.old.marks }
+        ensures { AreForgotten nodes.now.nodes (id ∷ []) self.old self.new }
     {
         match self.standing(id) {
             Standing::Absent => {}
@@ -171,10 +168,7 @@ impl SourceLane {
         requires there { HasNode nodes.now.nodes id }
         requires some { AreSome nodes.now.nodes self.old }
         requires settled { has_number id.at (arrived self.old.recent) ≡ false }
-        ensures ids { (test : Node → Bool) → AreSelected nodes.now.nodes test (listed_in nodes.now.nodes self.old) → AreSelected nodes.now.nodes (forgotten (id ∷ []) test) (listed_in nodes.now.nodes self.new) }
-        ensures some { AreSome nodes.now.nodes self.new }
-        ensures room { self.old.room ≤ self.new.room }
-        ensures marks { self.new.marks ≡ self.old.marks }
+        ensures { AreForgotten nodes.now.nodes (id ∷ []) self.old self.new }
     {
         let _ = nodes.take_from(&mut self.settled, id);
         self.standings[id.at as usize] = Standing::Absent;
@@ -187,10 +181,7 @@ impl SourceLane {
         requires graph { IsGraph nodes.now.nodes }
         requires there { HasNode nodes.now.nodes id }
         requires some { AreSome nodes.now.nodes self.old }
-        ensures ids { (test : Node → Bool) → AreSelected nodes.now.nodes test (listed_in nodes.now.nodes self.old) → AreSelected nodes.now.nodes (retested (λ _. true) (id ∷ []) test) (listed_in nodes.now.nodes self.new) }
-        ensures some { AreSome nodes.now.nodes self.new }
-        ensures room { self.old.room ≤ self.new.room }
-        ensures marks { self.new.marks ≡ self.old.marks }
+        ensures { AreRetested nodes.now.nodes (λ _. true) (id ∷ []) self.old self.new }
     {
         if self.standing(id) != Standing::Absent {
             return;
@@ -249,10 +240,7 @@ impl SourceLane {
         requires there { HasNode nodes.now.nodes id }
         requires filed { AreFiled nodes.now.nodes locations.now.locations.items }
         requires some { AreSome nodes.now.nodes self.old }
-        ensures ids { (test : Node → Bool) → AreSelected nodes.now.nodes test (listed_in nodes.now.nodes self.old) → AreSelected nodes.now.nodes (refreshed nodes.now.nodes (id ∷ []) test) (listed_in nodes.now.nodes self.new) }
-        ensures some { AreSome nodes.now.nodes self.new }
-        ensures room { self.old.room ≤ self.new.room }
-        ensures marks { self.new.marks ≡ self.old.marks }
+        ensures { AreRefreshed nodes.now.nodes (id ∷ []) self.old self.new }
     {
         if locations.is_blocked(nodes, id) {
             self.forget(nodes, id);
@@ -276,10 +264,7 @@ impl SourceLane {
         requires first { IfSome (node_at nodes.now.nodes id) (λ node. known.first ≡ true → is_blocked nodes.now.nodes node ≡ false) }
         requires blocked { IfSome (node_at nodes.now.nodes id) (λ node. known.blocked ≡ true → is_blocked nodes.now.nodes node ≡ true) }
         requires some { AreSome nodes.now.nodes self.old }
-        ensures ids { (test : Node → Bool) → AreSelected nodes.now.nodes test (listed_in nodes.now.nodes self.old) → AreSelected nodes.now.nodes (refreshed nodes.now.nodes (id ∷ []) test) (listed_in nodes.now.nodes self.new) }
-        ensures some { AreSome nodes.now.nodes self.new }
-        ensures room { self.old.room ≤ self.new.room }
-        ensures marks { self.new.marks ≡ self.old.marks }
+        ensures { AreRefreshed nodes.now.nodes (id ∷ []) self.old self.new }
     {
         if known.first {
             self.list(nodes, id);
@@ -333,11 +318,7 @@ impl SourceLane {
         requires first { first ≡ true → IsRankPast key.now (clashing_at loc access nodes.now.nodes) 0 }
         requires filed { AreFiled nodes.now.nodes locations.now.locations.items }
         requires some { AreSome nodes.now.nodes self.old }
-        ensures ids { (test : Node → Bool) → AreSelected nodes.now.nodes test (listed_in nodes.now.nodes self.old)
-            → AreSelected nodes.now.nodes (refreshed nodes.now.nodes (ids_of (front_after loc access key.now nodes.now.nodes)) test) (listed_in nodes.now.nodes self.new) }
-        ensures some { AreSome nodes.now.nodes self.new }
-        ensures room { self.old.room ≤ self.new.room }
-        ensures marks { self.new.marks ≡ self.old.marks }
+        ensures { AreRefreshed nodes.now.nodes (ids_of (front_after loc access key.now nodes.now.nodes)) self.old self.new }
     {
         let front = locations.front(nodes, loc, access, key, first);
         for place in front.start..front.end {
@@ -359,11 +340,7 @@ impl SourceLane {
         requires first { first ≡ true → AllByRecursion (λ p. IsRankPast key.now (clashing_at p.0 p.1 nodes.now.nodes) 0) set.now }
         requires filed { AreFiled nodes.now.nodes locations.now.locations.items }
         requires some { AreSome nodes.now.nodes self.old }
-        ensures ids { (test : Node → Bool) → AreSelected nodes.now.nodes test (listed_in nodes.now.nodes self.old)
-            → AreSelected nodes.now.nodes (refreshed nodes.now.nodes (ids_of (fronts_after set.now key.now nodes.now.nodes)) test) (listed_in nodes.now.nodes self.new) }
-        ensures some { AreSome nodes.now.nodes self.new }
-        ensures room { self.old.room ≤ self.new.room }
-        ensures marks { self.new.marks ≡ self.old.marks }
+        ensures { AreRefreshed nodes.now.nodes (ids_of (fronts_after set.now key.now nodes.now.nodes)) self.old self.new }
     {
         for pair in set.items() {
             self.refresh_front(nodes, locations, pair.0, pair.1, key, first);
@@ -386,11 +363,7 @@ impl SourceLane {
         requires none_left { left ≡ false → AllByRecursion (λ p. clashing_at p.0 p.1 nodes.now.nodes ≡ []) set.now }
         requires filed { AreFiled nodes.now.nodes locations.now.locations.items }
         requires some { AreSome nodes.now.nodes self.old }
-        ensures ids { (test : Node → Bool) → AreSelected nodes.now.nodes test (listed_in nodes.now.nodes self.old)
-            → AreSelected nodes.now.nodes (refreshed nodes.now.nodes (ids_of (fronts_after set.now key.now nodes.now.nodes)) test) (listed_in nodes.now.nodes self.new) }
-        ensures some { AreSome nodes.now.nodes self.new }
-        ensures room { self.old.room ≤ self.new.room }
-        ensures marks { self.new.marks ≡ self.old.marks }
+        ensures { AreRefreshed nodes.now.nodes (ids_of (fronts_after set.now key.now nodes.now.nodes)) self.old self.new }
     {
         if left {
             self.refresh_fronts(nodes, locations, set, key, first);
@@ -411,11 +384,7 @@ impl SourceLane {
         requires key { HasKey nodes.now.nodes id key.now }
         requires filed { AreFiled nodes.now.nodes locations.now.locations.items }
         requires some { AreSome nodes.now.nodes self.old }
-        ensures ids { (test : Node → Bool) → AreSelected nodes.now.nodes test (listed_in nodes.now.nodes self.old)
-            → AreSelected nodes.now.nodes (forgotten (ids_of (front_after loc access key.now nodes.now.nodes)) test) (listed_in nodes.now.nodes self.new) }
-        ensures some { AreSome nodes.now.nodes self.new }
-        ensures room { self.old.room ≤ self.new.room }
-        ensures marks { self.new.marks ≡ self.old.marks }
+        ensures { AreForgotten nodes.now.nodes (ids_of (front_after loc access key.now nodes.now.nodes)) self.old self.new }
     {
         let behind = locations.front_behind(nodes, id, loc, access, key);
         for place in behind.start..behind.end {
@@ -436,11 +405,7 @@ impl SourceLane {
         requires key { HasKey nodes.now.nodes id key.now }
         requires filed { AreFiled nodes.now.nodes locations.now.locations.items }
         requires some { AreSome nodes.now.nodes self.old }
-        ensures ids { (test : Node → Bool) → AreSelected nodes.now.nodes test (listed_in nodes.now.nodes self.old)
-            → AreSelected nodes.now.nodes (forgotten (ids_of (fronts_after set.now key.now nodes.now.nodes)) test) (listed_in nodes.now.nodes self.new) }
-        ensures some { AreSome nodes.now.nodes self.new }
-        ensures room { self.old.room ≤ self.new.room }
-        ensures marks { self.new.marks ≡ self.old.marks }
+        ensures { AreForgotten nodes.now.nodes (ids_of (fronts_after set.now key.now nodes.now.nodes)) self.old self.new }
     {
         for pair in set.items() {
             self.forget_front(nodes, locations, id, pair.0, pair.1, key);

@@ -1,15 +1,15 @@
-use Rattle.std.proofs.Common.{◌≡◌, ◌<◌, ◌∙◌, ℕ, List, Some, true, false, ap, arith, get_or, length, subst, sym, take}
-use Rattle.rw_sets.specs.declared.access.Access.{Access}
-use Rattle.rw_sets.specs.declared.access.Access.TheVariants.{Read}
-use Rattle.rw_sets.specs.Accesses.{Accesses, IsAscending as IsAscendingSet, access_at}
-use Rattle.kdg_graph.specs.Exchange.{is_same, lacking}
-use Rattle.kdg_graph.specs.Fronts.{fronts_after}
-use Rattle.kdg_graph.specs.Node.{Node}
-use Rattle.kdg_graph.specs.Nodes.{ids_of}
-use Rattle.kdg_graph.specs.Selected.{AreSelected, listed_in, refreshed}
-use Rattle.kdg_graph.proofs.Exchanging.{lacking_done, lacking_passed, still_beside}
-use Rattle.kdg_graph.proofs.Filing.{again}
+use Rattle.std.proofs.Common.{◌≡◌, ◌<◌, ◌∙◌, ℕ, List, Some, true, false, ap, arith, get_or, length, subst, sym, take_all, rules}
+use Rattle.kdg_graph.proofs.Common.{Access, Read, Accesses, IsAscendingSet, access_at, is_same, lacking, fronts_after, Node, ids_of, AreRefreshed, is_unblocked}
+use Rattle.kdg_graph.proofs.Filing.{lacking_done, lacking_passed, still_beside, again}
+use Rattle.kdg_graph.proofs.Selecting.{retested_none}
 use Rattle.kdg_graph.proofs.exchange.refresh_lacking.Goals as goal
+
+pub loop-pair-init : goal.loop-pair-init
+loop-pair-init c = record {
+  refreshed = retested_none (is_unblocked c.args.nodes.now.nodes) c.args.nodes.now.nodes c.args.sources.now c.requires.some;
+  ascending = search rules;
+  beside = search rules;
+}
 
 pub loop-pair-preserved-then-has : goal.loop-pair-preserved-then-has
 loop-pair-preserved-then-has c =
@@ -25,11 +25,7 @@ loop-pair-preserved-then-has c =
     record {
       ascending = c.has.ensures.ascending;
       beside = still_beside ps c.loop-pair.walk.left.now c.has.new.self.left.now c.args.other.now i p up at c.loop-pair.invariant.beside c.has.ensures.beyond;
-      ids = λ test selected.
-          subst (λ (pairs : Accesses). AreSelected nodes (refreshed nodes (ids_of (fronts_after pairs c.args.key.now nodes)) test) (listed_in c.args.nodes.now.nodes c.loop-pair.sources)) (sym (lacking_passed ps c.args.other.now i p inside at has)) (c.loop-pair.invariant.ids test selected);
-      some = c.loop-pair.invariant.some;
-      room = c.loop-pair.invariant.room;
-      marks = c.loop-pair.invariant.marks;
+      refreshed = subst (λ (pairs : Accesses). AreRefreshed nodes (ids_of (fronts_after pairs c.args.key.now nodes)) c.args.sources.now c.loop-pair.sources) (sym (lacking_passed ps c.args.other.now i p inside at has)) c.loop-pair.invariant.refreshed;
     }
 
 pub loop-pair-preserved : goal.loop-pair-preserved
@@ -46,10 +42,10 @@ loop-pair-preserved c =
     record {
       ascending = c.has.ensures.ascending;
       beside = still_beside ps c.loop-pair.walk.left.now c.has.new.self.left.now c.args.other.now i p up at c.loop-pair.invariant.beside c.has.ensures.beyond;
-      ids = λ test selected.
-          lacking_done nodes ps c.args.other.now c.args.key.now i p test (listed_in c.args.nodes.now.nodes c.refresh_front.new.self) inside at lacks
-          (c.refresh_front.ensures.ids (refreshed nodes (ids_of (fronts_after (lacking (take i ps) c.args.other.now) c.args.key.now nodes)) test) (c.loop-pair.invariant.ids test selected));
-      some = c.refresh_front.ensures.some;
-      room = omega (arith, c.loop-pair.invariant.room, c.refresh_front.ensures.room);
-      marks = c.refresh_front.ensures.marks ∙ c.loop-pair.invariant.marks;
+      refreshed = lacking_done nodes ps c.args.other.now c.args.key.now i p c.args.sources.now c.loop-pair.sources c.refresh_front.new.self inside at lacks c.loop-pair.invariant.refreshed c.refresh_front.ensures;
     }
+
+pub returns : goal.returns
+returns c =
+    let whole = take_all c.loop-pair.pair-index c.items-pair-items.result.now (omega (arith, c.loop-pair-test.false)) ∙ c.items-pair-items.ensures.all in
+    subst (λ (pairs : Accesses). AreRefreshed c.args.nodes.now.nodes (ids_of (fronts_after (lacking pairs c.args.other.now) c.args.key.now c.args.nodes.now.nodes)) c.args.sources.now c.loop-pair.sources) whole c.loop-pair.invariant.refreshed

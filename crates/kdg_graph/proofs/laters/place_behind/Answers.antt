@@ -1,10 +1,5 @@
-use Rattle.std.proofs.Common.{◌≡◌, List, Option, Some, subst, sym}
-use Rattle.std.specs.Borrow.{Bor}
-use Rattle.std.specs.Prelude.{IfSome, slice_get}
-use Rattle.kdg_graph.specs.declared.lane.Lane.{Lane}
-use Rattle.kdg_graph.specs.Kept.{IsOrderShown}
-use Rattle.kdg_graph.specs.Node.{Node}
-use Rattle.kdg_graph.specs.Nodes.{later_than, least_of, node_at}
+use Rattle.std.proofs.Common.{◌≡◌, List, Option, Some, subst, sym, Bor, IfSome, slice_get}
+use Rattle.kdg_graph.proofs.Common.{Lane, IsOrderShown, Node, later_than, least_of, node_at}
 use Rattle.kdg_graph.proofs.Ordered.{next_in_order}
 use Rattle.kdg_graph.proofs.laters.place_behind.Goals as goal
 

@@ -1,4 +1,4 @@
-use Rattle.kdg_graph.proofs.Neighbours.{laters_are_in_conflict, laters_are_nodes, laters_may_change}
+use Rattle.kdg_graph.proofs.Blocking.{laters_are_in_conflict, laters_are_nodes, laters_may_change}
 use Rattle.kdg_graph.proofs.laws.later_laws.Goals as goal
 
 pub returns-clause-nodes : goal.returns-clause-nodes

@@ -1,6 +1,6 @@
 use Rattle.kdg_graph.proofs.Keeping.{tasks-started}
-use Rattle.kdg_graph.proofs.Ordering.{tasks-put_node}
-use Rattle.kdg_graph.proofs.Rewritten.{puts_add_one_node, starts_mark_one_node}
+use Rattle.kdg_graph.proofs.KeyOrder.{tasks-put_node}
+use Rattle.kdg_graph.proofs.Rewrites.{puts_add_one_node, starts_mark_one_node}
 use Rattle.kdg_graph.proofs.laws.put_laws.Goals as goal
 
 pub returns-clause-one_node : goal.returns-clause-one_node

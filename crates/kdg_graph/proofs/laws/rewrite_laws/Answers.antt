@@ -1,4 +1,4 @@
-use Rattle.kdg_graph.proofs.Rewritten.{rewrites_add_no_other, rewrites_add_nodes, rewrites_end_nodes, rewrites_keep_nodes, rewrites_replace_tasks}
+use Rattle.kdg_graph.proofs.Rewrites.{rewrites_add_no_other, rewrites_add_nodes, rewrites_end_nodes, rewrites_keep_nodes, rewrites_replace_tasks}
 use Rattle.kdg_graph.proofs.laws.rewrite_laws.Goals as goal
 
 pub returns-clause-keeps : goal.returns-clause-keeps

@@ -1,4 +1,4 @@
-use Rattle.kdg_graph.proofs.Neighbours.{running_nodes_are_no_sources, sources_are_nodes, sources_are_unblocked}
+use Rattle.kdg_graph.proofs.Blocking.{running_nodes_are_no_sources, sources_are_nodes, sources_are_unblocked}
 use Rattle.kdg_graph.proofs.laws.source_laws.Goals as goal
 
 pub returns-clause-nodes : goal.returns-clause-nodes

@@ -1,7 +1,5 @@
 use Rattle.std.proofs.Common.{List, Some, subst}
-use Rattle.kdg_graph.specs.Kept.{IsOrder}
-use Rattle.kdg_graph.specs.Node.{Node}
-use Rattle.kdg_graph.specs.Rewrite.{without}
+use Rattle.kdg_graph.proofs.Common.{IsOrder, Node, without}
 use Rattle.kdg_graph.proofs.Ordered.{order_put}
 use Rattle.kdg_graph.proofs.node_list.enter_order.Goals as goal
 

@@ -1,6 +1,5 @@
 use Rattle.std.proofs.Common.{List, Some, subst}
-use Rattle.kdg_graph.specs.Kept.{IsOrder}
-use Rattle.kdg_graph.specs.Node.{Node}
+use Rattle.kdg_graph.proofs.Common.{IsOrder, Node}
 use Rattle.kdg_graph.proofs.Ordered.{order_without}
 use Rattle.kdg_graph.proofs.node_list.leave_order.Goals as goal
 

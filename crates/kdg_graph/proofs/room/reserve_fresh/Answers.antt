@@ -1,6 +1,5 @@
 use Rattle.std.proofs.Common.{List, ℕ, subst}
-use Rattle.kdg_graph.specs.declared.change.Fresh.{Fresh}
-use Rattle.kdg_graph.specs.Locations.{HasRoom, rooms_of}
+use Rattle.kdg_graph.proofs.Common.{Fresh, HasRoom, rooms_of}
 use Rattle.kdg_graph.proofs.Rooms.{all_mapped, all_more, no_less_twice, room_kept, same_lanes_twice}
 use Rattle.kdg_graph.proofs.room.reserve_fresh.Goals as goal
 

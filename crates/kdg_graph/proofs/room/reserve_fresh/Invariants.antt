@@ -1,6 +1,5 @@
 use Rattle.std.proofs.Common.{take}
-use Rattle.std.specs.List.{AllByRecursion}
-use Rattle.kdg_graph.specs.Locations.{HasRoom, HaveNoLess, HaveSameLanes, rooms_of}
+use Rattle.kdg_graph.proofs.Common.{AllByRecursion, HasRoom, HaveNoLess, HaveSameLanes, rooms_of}
 use Rattle.kdg_graph.proofs.room.reserve_fresh.Given as goal
 
 -- the sets so far have room

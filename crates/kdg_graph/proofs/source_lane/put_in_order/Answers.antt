@@ -1,14 +1,8 @@
-use Rattle.std.proofs.Common.{rules, ◌≡◌, ◌≢◌, ◌+◌, ◌<◌, ℕ, List, arith, drop, get_or, length, refl, subst, sym}
-use Rattle.std.specs.Prelude.{IsSome}
-use Rattle.std.proofs.lemmas.List.{drop_more}
-use Rattle.kdg_graph.specs.declared.arrival.Arrival.{Arrival}
-use Rattle.kdg_graph.specs.declared.node_id.NodeId.{NodeId}
-use Rattle.kdg_graph.specs.declared.source_lane.Standing.TheVariants.{Absent, Recent}
-use Rattle.kdg_graph.specs.Node.{Node}
-use Rattle.kdg_graph.specs.Selected.{IsArrival}
-use Rattle.kdg_graph.proofs.Arrivals.{ArePut, arrives_at, found_arrival, has_mark, known_next, none_after, put_next, put_rest, room_next}
-use Rattle.kdg_graph.proofs.source_lane.put_in_order.Goals as goal
+use Rattle.std.proofs.Common.{rules, ◌≡◌, ◌≢◌, ◌+◌, ◌<◌, ℕ, List, arith, drop, get_or, length, refl, subst, sym, IsSome}
+use Rattle.kdg_graph.proofs.Common.{drop_more, Arrival, NodeId, Absent, Recent, Node, IsArrival}
+use Rattle.kdg_graph.proofs.Listed.{ArePut, arrives_at, found_arrival, arrival_marked, known_next, none_after, put_next, put_rest, room_next}
 use Rattle.kdg_graph.proofs.source_lane.put_in_order.Goals.{then-eq, else-eq}
+use Rattle.kdg_graph.proofs.source_lane.put_in_order.Goals as goal
 
 -- past the end
 abbrev no_arrival : Arrival
@@ -20,7 +14,7 @@ bounds-standings-id c =
     let arrivals : List Arrival = c.args.arrivals.now in
     let arrival : Arrival = get_or arrivals c.loop-arrival.arrival-index no_arrival in
     let arrives : IsArrival nodes arrival = arrives_at nodes arrivals c.loop-arrival.arrival-index no_arrival c.requires.arrivals c.loop-arrival-test.true in
-    omega (arith, c.loop-arrival.auto.standings, has_mark nodes arrival (length c.args.standings.now) c.requires.marks arrives)
+    omega (arith, c.loop-arrival.auto.standings, arrival_marked nodes arrival (length c.args.standings.now) c.requires.marks arrives)
 
 pub put_before-end-requires-clause-there : goal.put_before-end-requires-clause-there
 put_before-end-requires-clause-there c =
@@ -67,7 +61,7 @@ loop-arrival-preserved c =
     elim c.if-eq.branch [
       | then-eq w ↦
           let is : get_or c.loop-arrival.standings arrival.id.at Absent ≡ Recent = search rules in
-          let inside : arrival.id.at < length c.loop-arrival.standings = omega (arith, c.loop-arrival.auto.standings, has_mark nodes arrival (length c.args.standings.now) c.requires.marks arrives) in
+          let inside : arrival.id.at < length c.loop-arrival.standings = omega (arith, c.loop-arrival.auto.standings, arrival_marked nodes arrival (length c.args.standings.now) c.requires.marks arrives) in
           let next = put_next nodes before arrivals rest arrival ids w.put_before-end.new.lane.ids.items c.loop-arrival.standings c.loop-arrival.end w.put_before-end.result c.requires.graph arrives put
           (none_after nodes arrivals i no_arrival c.requires.in_turn c.loop-arrival-test.true) is inside w.put_before-end.ensures.place w.put_before-end.ensures.ids in
           rw (w.settled-is, w.standings-is, w.end-is) (record { put = next; room = omega (arith, c.loop-arrival.invariant.room, w.put_before-end.ensures.room) })

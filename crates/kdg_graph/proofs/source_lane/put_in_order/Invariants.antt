@@ -1,5 +1,5 @@
 use Rattle.std.proofs.Common.{◌≤◌, drop}
-use Rattle.kdg_graph.proofs.Arrivals.{ArePut}
+use Rattle.kdg_graph.proofs.Listed.{ArePut}
 use Rattle.kdg_graph.proofs.source_lane.put_in_order.Given as goal
 
 -- those so far are in order with the others

@@ -1,9 +1,6 @@
 use Rattle.std.proofs.Common.{◌<◌, ◌∙◌, ℕ, Some, arith, ap, get_or, sym}
-use Rattle.rw_sets.specs.declared.access.Access.{Access}
-use Rattle.rw_sets.specs.declared.access.Access.TheVariants.{Read}
-use Rattle.rw_sets.specs.Accesses.{Accesses}
-use Rattle.kdg_graph.specs.Exchange.{is_same}
-use Rattle.kdg_graph.proofs.Exchanging.{not_there, step_ascends, step_passes}
+use Rattle.kdg_graph.proofs.Common.{Access, Read, Accesses, is_same}
+use Rattle.kdg_graph.proofs.Filing.{not_there, step_ascends, step_passes}
 use Rattle.kdg_graph.proofs.exchange.SetWalk.has.Goals as goal
 
 pub returns-then-loc-pair-clause-found : goal.returns-then-loc-pair-clause-found

@@ -1,5 +1,5 @@
 use Rattle.std.proofs.Common.{◌≡◌, ◌≤◌, ℕ, length}
-use Rattle.rw_sets.specs.Accesses.{IsAscending as IsAscendingSet, access_at}
+use Rattle.kdg_graph.proofs.Common.{IsAscendingSet, access_at}
 use Rattle.kdg_graph.proofs.exchange.SetWalk.has.Given as goal
 
 -- what is passed lies before the location

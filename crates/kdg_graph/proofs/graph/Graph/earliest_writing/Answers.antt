@@ -1,10 +1,7 @@
 use Rattle.std.proofs.Common.{◌∙◌, List, ap, subst}
-use Rattle.rw_sets.specs.Accesses.{writes}
-use Rattle.kdg_graph.specs.Edges.{writers_of}
-use Rattle.kdg_graph.specs.Node.{Node}
-use Rattle.kdg_graph.specs.Nodes.{IsGraph, least_of}
+use Rattle.kdg_graph.proofs.Common.{writes, writers_of, Node, IsGraph, least_of}
+use Rattle.kdg_graph.proofs.Earliest.{first_writing}
 use Rattle.kdg_graph.proofs.Left.{least_there}
-use Rattle.kdg_graph.proofs.Writing.{first_writing}
 use Rattle.kdg_graph.proofs.graph.Graph.earliest_writing.Goals as goal
 
 pub returns-clause-earliest : goal.returns-clause-earliest

@@ -1,11 +1,6 @@
-use Rattle.std.proofs.Common.{rules, ◌≡◌, refl, subst, sym, Option}
-use Rattle.std.specs.Prelude.{IfNone, IfSome}
-use Rattle.std.specs.Option.{option_map}
-use Rattle.task_order.specs.TaskList.{IsNewKey}
-use Rattle.kdg_graph.specs.declared.node_id.NodeId.{NodeId}
-use Rattle.kdg_graph.specs.Node.{Node}
-use Rattle.kdg_graph.specs.Nodes.{HasNode, IsGraph, node_with_key, tasks_of}
-use Rattle.kdg_graph.proofs.Rewritten.{new_by_key, there_by_key}
+use Rattle.std.proofs.Common.{rules, ◌≡◌, refl, subst, sym, Option, IfNone, IfSome, option_map}
+use Rattle.kdg_graph.proofs.Common.{IsNewKey, NodeId, Node, HasNode, IsGraph, node_with_key, tasks_of}
+use Rattle.kdg_graph.proofs.Rewrites.{new_by_key, there_by_key}
 use Rattle.kdg_graph.proofs.graph.Graph.find.Goals as goal
 
 pub returns-clause-there : goal.returns-clause-there

@@ -1,8 +1,6 @@
-use Rattle.std.proofs.Common.{rules, ◌≡◌, [], subst, sym, Option}
-use Rattle.std.specs.Prelude.{IfNone, IfSome}
-use Rattle.kdg_graph.specs.declared.node_id.NodeId.{NodeId}
-use Rattle.kdg_graph.specs.Nodes.{HasNode, IsGraph, least_of}
-use Rattle.kdg_graph.proofs.Rewritten.{none_by_least, there_by_least}
+use Rattle.std.proofs.Common.{rules, ◌≡◌, [], subst, sym, Option, IfNone, IfSome}
+use Rattle.kdg_graph.proofs.Common.{NodeId, HasNode, IsGraph, least_of}
+use Rattle.kdg_graph.proofs.Rewrites.{none_by_least, there_by_least}
 use Rattle.kdg_graph.proofs.graph.Graph.least.Goals as goal
 
 pub returns-clause-there : goal.returns-clause-there

@@ -1,15 +1,7 @@
 use Rattle.std.proofs.Common.{rules, ◌≡◌, ◌∙◌, ℕ, ◌+◌, length, arith, List, Some, ap, subst, sym}
-use Rattle.std.specs.List.{AllByRecursion}
-use Rattle.task_order.specs.declared.task.Task.{Task}
-use Rattle.task_order.specs.TaskList.{without as tasks_without_key}
-use Rattle.kdg_graph.specs.declared.change.SetChange.{SetChange}
-use Rattle.kdg_graph.specs.declared.change.Fresh.{Fresh}
-use Rattle.kdg_graph.specs.Node.{Node}
-use Rattle.kdg_graph.specs.Nodes.{HasNode, IsGraph, task_at, tasks_of}
-use Rattle.kdg_graph.specs.Rewrite.{HaveNewKeys, without}
-use Rattle.kdg_graph.specs.Locations.{HasRoom}
+use Rattle.kdg_graph.proofs.Common.{AllByRecursion, Task, tasks_without_key, SetChange, Fresh, Node, HasNode, IsGraph, task_at, tasks_of, HaveNewKeys, without, HasRoom}
+use Rattle.kdg_graph.proofs.Rewrites.{all_have_without, new_without, tasks-with_sets, tasks-without}
 use Rattle.kdg_graph.proofs.Rooms.{all_room}
-use Rattle.kdg_graph.proofs.Ending.{all_have_without, new_without, tasks-with_sets, tasks-without}
 use Rattle.kdg_graph.proofs.graph.Graph.rewrite.Goals as goal
 
 pub set_sets-requires-clause-there : goal.set_sets-requires-clause-there

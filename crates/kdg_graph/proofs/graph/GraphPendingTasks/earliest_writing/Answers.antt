@@ -1,5 +1,5 @@
-use Rattle.rw_sets.specs.Accesses.{writes}
-use Rattle.kdg_graph.proofs.Writing.{least_task}
+use Rattle.kdg_graph.proofs.Common.{writes}
+use Rattle.kdg_graph.proofs.Earliest.{least_task}
 use Rattle.kdg_graph.proofs.graph.GraphPendingTasks.earliest_writing.Goals as goal
 
 pub returns : goal.returns

@@ -1,9 +1,9 @@
 use Rattle.std.proofs.Common.{◌≡◌, ◌∙◌, ◌<◌, ◌-◌, ap, arith, length, sym}
-use Rattle.kdg_graph.specs.Lanes.{cmp_at}
-use Rattle.kdg_graph.proofs.Ordering.{Less_from_test}
-use Rattle.kdg_graph.proofs.Searching.{all_earlier, found_ended, gap_ended, inside_tied}
-use Rattle.kdg_graph.proofs.lane.Lane.rank.Goals as goal
+use Rattle.kdg_graph.proofs.Common.{cmp_at}
+use Rattle.kdg_graph.proofs.KeyOrder.{Less_from_test}
+use Rattle.kdg_graph.proofs.Searches.{all_earlier, found_ended, gap_ended, inside_tied}
 use Rattle.kdg_graph.proofs.lane.Lane.rank.Goals.{then-len-eq0-via-then-len-eq0, then-len-eq0-via-else-len-eq0+then-is_lt}
+use Rattle.kdg_graph.proofs.lane.Lane.rank.Goals as goal
 
 pub returns-then-len-eq0-clause-rank : goal.returns-then-len-eq0-clause-rank
 returns-then-len-eq0-clause-rank c nodes lane =

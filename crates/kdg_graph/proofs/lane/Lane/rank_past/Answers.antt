@@ -1,6 +1,5 @@
 use Rattle.std.proofs.Common.{◌<◌, add-one, arith, length}
-use Rattle.kdg_graph.proofs.Searching.{found_ended, gap_ended, inside_tied}
-use Rattle.kdg_graph.proofs.Sought.{past_found, past_gap}
+use Rattle.kdg_graph.proofs.Searches.{found_ended, gap_ended, inside_tied, past_found, past_gap}
 use Rattle.kdg_graph.proofs.lane.Lane.rank_past.Goals as goal
 
 pub returns-in-Ok-clause-rank : goal.returns-in-Ok-clause-rank

@@ -1,5 +1,5 @@
 use Rattle.std.proofs.Common.{arith, sym}
-use Rattle.kdg_graph.proofs.Searching.{found_ended, gap_ended, inside_tied, none_earlier}
+use Rattle.kdg_graph.proofs.Searches.{found_ended, gap_ended, inside_tied, none_earlier}
 use Rattle.kdg_graph.proofs.lane.Lane.rank_until.Goals as goal
 
 pub returns-in-Greater-clause-rank : goal.returns-in-Greater-clause-rank

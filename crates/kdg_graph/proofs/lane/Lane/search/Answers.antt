@@ -1,4 +1,4 @@
-use Rattle.kdg_graph.proofs.Searching.{ended_inside, searched}
+use Rattle.kdg_graph.proofs.Searches.{ended_inside, searched}
 use Rattle.kdg_graph.proofs.lane.Lane.search.Goals as goal
 
 pub returns-clause-found : goal.returns-clause-found

@@ -1,5 +1,5 @@
 use Rattle.std.proofs.Common.{◌-◌}
-use Rattle.kdg_graph.specs.Lanes.{IsBetween}
+use Rattle.kdg_graph.proofs.Common.{IsBetween}
 use Rattle.kdg_graph.proofs.lane.Lane.search_between.Given as goal
 
 abbrev pub invariant-loop-low : goal.invariant-loop-low

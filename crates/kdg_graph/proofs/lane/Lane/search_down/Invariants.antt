@@ -1,6 +1,5 @@
-use Rattle.std.proofs.Common.{◌≡◌, ◌<◌, ◌≤◌}
-use Rattle.std.specs.declared.cmp.Ordering.TheVariants.{Greater}
-use Rattle.kdg_graph.specs.Lanes.{cmp_at}
+use Rattle.std.proofs.Common.{◌≡◌, ◌<◌, ◌≤◌, Greater}
+use Rattle.kdg_graph.proofs.Common.{cmp_at}
 use Rattle.kdg_graph.proofs.lane.Lane.search_down.Given as goal
 
 abbrev pub invariant-loop-low : goal.invariant-loop-low

@@ -1,6 +1,5 @@
-use Rattle.std.proofs.Common.{◌≡◌, ℕ, suc, ◌-◌, ◌<◌, ◌≤◌, length}
-use Rattle.std.specs.declared.cmp.Ordering.TheVariants.{Less}
-use Rattle.kdg_graph.specs.Lanes.{cmp_at}
+use Rattle.std.proofs.Common.{◌≡◌, ℕ, suc, ◌-◌, ◌<◌, ◌≤◌, length, Less}
+use Rattle.kdg_graph.proofs.Common.{cmp_at}
 use Rattle.kdg_graph.proofs.lane.Lane.search_up.Given as goal
 
 abbrev pub invariant-loop-low : goal.invariant-loop-low

@@ -1,6 +1,5 @@
 use Rattle.std.proofs.Common.{◌≡◌, ◌∙◌, List, Some, ap, refl, sym}
-use Rattle.kdg_graph.specs.Node.{Node}
-use Rattle.kdg_graph.specs.Nodes.{node_at}
+use Rattle.kdg_graph.proofs.Common.{Node, node_at}
 use Rattle.kdg_graph.proofs.laters.Laters.of.Goals as goal
 
 pub invariant_of-result : goal.invariant_of-result

@@ -1,10 +1,6 @@
-use Rattle.std.proofs.Common.{◌≡◌, ◌∙◌, ◌∷◌, List, Some, ap, arith, length, sym}
-use Rattle.std.specs.List.{filter}
-use Rattle.rw_sets.specs.Accesses.{conflicts_with}
-use Rattle.kdg_graph.specs.Node.{Node}
-use Rattle.kdg_graph.specs.Nodes.{ids_of, later_than, node_at}
-use Rattle.kdg_graph.proofs.Earliest.{first_there}
-use Rattle.kdg_graph.proofs.Walking.{walked}
+use Rattle.std.proofs.Common.{◌≡◌, ◌∙◌, ◌∷◌, List, Some, ap, arith, length, sym, filter}
+use Rattle.kdg_graph.proofs.Common.{conflicts_with, Node, ids_of, later_than, node_at}
+use Rattle.kdg_graph.proofs.Earliest.{first_there, walked}
 use Rattle.kdg_graph.proofs.laters.LatersIterator.next.Goals as goal
 
 pub entry-node-requires : goal.entry-node-requires

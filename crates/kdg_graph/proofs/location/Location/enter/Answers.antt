@@ -1,18 +1,8 @@
-use Rattle.std.proofs.Common.{◌≡◌, ◌∙◌, ◌<◌, ℕ, Bool, List, Option, length, ap, arith, subst, sym, refl, true, false}
-use Rattle.std.proofs.lemmas.Bool.{ltb-true, true≢false}
-use Rattle.std.specs.Prelude.{IfSome}
-use Rattle.rw_sets.specs.declared.access.Access.{Access}
-use Rattle.rw_sets.specs.declared.access.Access.TheVariants.{Read, Write}
-use Rattle.rw_sets.specs.Accesses.{is_write}
-use Rattle.kdg_graph.specs.declared.node_id.NodeId.{NodeId}
-use Rattle.kdg_graph.specs.Fronts.{BlocksNoneAlone, stoppers}
-use Rattle.kdg_graph.specs.Lanes.{IsRank}
-use Rattle.kdg_graph.specs.Locations.{IsLaneAmong, Location, ids_for, writers_in}
-use Rattle.kdg_graph.specs.Node.{Node}
-use Rattle.kdg_graph.specs.Nodes.{node_at}
+use Rattle.std.proofs.Common.{◌≡◌, ◌∙◌, ◌<◌, ℕ, Bool, List, Option, length, ap, arith, subst, sym, refl, true, false, ltb-true, true≢false, IfSome}
+use Rattle.kdg_graph.proofs.Common.{Access, Read, Write, is_write, NodeId, BlocksNoneAlone, stoppers, IsRank, IsLaneAmong, Location, ids_for, writers_in, Node, node_at}
 use Rattle.kdg_graph.proofs.Arriving.{blocked_if, first_if, last_if, stopped_if}
-use Rattle.kdg_graph.proofs.location.Location.enter.Goals as goal
 use Rattle.kdg_graph.proofs.location.Location.enter.Goals.{Joined-is_write-2, then-not-self+then-not-is_write, else-not-self, then-self+then-is_write, else-self, else-self-via-then-self+else-is_write, else-self-via-else-self, then-earlier-gt0, else-earlier-gt0, then-earlier-others, else-earlier-others}
+use Rattle.kdg_graph.proofs.location.Location.enter.Goals as goal
 
 write_by_test : (access : Access) → is_write access ≡ true → access ≡ Write
 write_by_test Read is = absurd (true≢false (sym is))

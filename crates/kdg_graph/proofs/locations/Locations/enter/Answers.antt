@@ -1,22 +1,18 @@
-use Rattle.std.proofs.Common.{rules, ◌≡◌, ◌≢◌, inl, inr, ℕ, ◌<◌, ◌≤◌, ◌∙◌, List, [], Option, Some, true, false, cond, add-one, ap, arith, below_more, get_or, length, refl, subst, sym, take}
-use Rattle.std.proofs.Math.Seq.{take-length}
-use Rattle.std.proofs.lemmas.Bool.{and_parts, or_cases}
-use Rattle.std.specs.Prelude.{Contains, IfSome, is_some}
-use Rattle.std.specs.List.{AllByRecursion}
-use Rattle.rw_sets.specs.declared.access.Access.{Access}
-use Rattle.rw_sets.specs.declared.access.Access.TheVariants.{Read, Write}
-use Rattle.rw_sets.specs.Accesses.{Accesses, IsAscending as IsAscendingSet, access_at}
-use Rattle.kdg_graph.specs.Edges.{is_blocked}
-use Rattle.kdg_graph.specs.Fronts.{BlocksNoneAlone, fronts_after}
-use Rattle.kdg_graph.specs.Locations.{HasRoom, IsLaneAmong, clashing_at, ids_for, room_at, room_in, rooms_of}
-use Rattle.kdg_graph.specs.Node.{Node}
-use Rattle.kdg_graph.specs.Nodes.{earlier_than, ids_of, node_at}
-use Rattle.kdg_graph.specs.Rewrite.{without}
+use Rattle.std.proofs.Common.{rules, ◌≡◌, ◌≢◌, inl, inr, ℕ, ◌+◌, ◌<◌, ◌≤◌, ◌∙◌, List, [], Option, Some, true, false, true≢false, add-one, ap, arith, below_more, get_or, length, set, suc, subst, sym, take, take_all, Contains, IfSome}
+use Rattle.kdg_graph.proofs.Common.{and_parts, or_cases, AllByRecursion, Access, Read, Write, Accesses, IsAscendingSet, access_at, is_blocked, BlocksNoneAlone, fronts_after, AreFiledWith, HasRoom, IsLaneAmong, clashing_at, ids_for, room_at, room_in, rooms_of, Node, earlier_than, node_at, without}
 use Rattle.kdg_graph.proofs.Arriving.{blocked_by_earlier, each_pair, first_unblocked, fronts_blocked}
-use Rattle.kdg_graph.proofs.Filing.{again, enter_step, filed_part, others_next, room_next, room_step}
+use Rattle.kdg_graph.proofs.Filing.{again, entered_there, filed_own, for_found, not_before, others_there, room_next, room_step, room_there, so_far_here, so_far_other, within_room}
 use Rattle.kdg_graph.proofs.Selecting.{at_some}
-use Rattle.kdg_graph.proofs.Shelving.{room_there, within_room}
 use Rattle.kdg_graph.proofs.locations.Locations.enter.Goals as goal
+
+pub loop-pair-init : goal.loop-pair-init
+loop-pair-init c = record {
+  first = λ node is known k upto. absurd (omega (arith, upto));
+  blocked = λ node is wrong. absurd (true≢false (sym wrong));
+  blocks_none = λ node is known k upto. absurd (omega (arith, upto));
+  filed = λ node is. c.requires.filed;
+  room = λ loc. omega arith;
+}
 
 pub index_mut-requires : goal.index_mut-requires
 index_mut-requires c =
@@ -67,10 +63,14 @@ loop-pair-preserved c =
     let within = within_room c.loop-pair.self.locations.items p.0 (room_next ps i p c.args.self.now.locations.items c.loop-pair.self.locations.items up inside at own c.loop-pair.invariant.room) in
     let others : List Node = clashing_at p.0 Write (without c.args.id nodes) in
     let among : IsLaneAmong nodes others (ids_for Write c.index_mut.result.now) =
-    others_next nodes c.args.id ps i p c.loop-pair.self.locations.items c.index_mut.result.now c.len-graph.ensures.graph up inside at within c.index_mut.ensures.value c.loop-pair.invariant.filed Write in
+    others_there nodes c.args.id node (access_at (take i ps)) p c.loop-pair.self.locations.items c.index_mut.result.now c.len-graph.ensures.graph (not_before ps i p up inside at) within c.index_mut.ensures.value (c.loop-pair.invariant.filed node found) Write in
     let writers : List Node = clashing_at p.0 Read (without c.args.id nodes) in
     let writers_among : IsLaneAmong nodes writers (ids_for Read c.index_mut.result.now) =
-    others_next nodes c.args.id ps i p c.loop-pair.self.locations.items c.index_mut.result.now c.len-graph.ensures.graph up inside at within c.index_mut.ensures.value c.loop-pair.invariant.filed Read in
+    others_there nodes c.args.id node (access_at (take i ps)) p c.loop-pair.self.locations.items c.index_mut.result.now c.len-graph.ensures.graph (not_before ps i p up inside at) within c.index_mut.ensures.value (c.loop-pair.invariant.filed node found) Read in
+    let locations = set c.loop-pair.self.locations.items p.0 c.enter-here.new.self in
+    let after : AreFiledWith (without c.args.id nodes) node (access_at (take (suc i) ps)) locations =
+    entered_there nodes c.args.id node (access_at (take i ps)) (access_at (take (suc i) ps)) p c.loop-pair.self.locations.items c.index_mut.result.now c.enter-here.new.self c.len-graph.ensures.graph found (not_before ps i p up inside at) (so_far_here ps i p up inside at)
+    (λ loc differs. sym (so_far_other ps i p loc inside at differs)) within c.index_mut.ensures.value c.enter-here.ensures.lanes (c.loop-pair.invariant.filed node found) in
     record {
       first = λ held is both.
           let parts = and_parts c.loop-pair.first c.enter-here.result.first both in
@@ -89,22 +89,19 @@ loop-pair-preserved c =
           let parts = and_parts c.loop-pair.blocks_none c.enter-here.result.blocks_none both in
           let here = at_some (λ (n : Node). c.enter-here.result.blocks_none ≡ true → BlocksNoneAlone p.1 n.task.key others writers) (node_at nodes c.args.id) held is (c.enter-here.ensures.blocks_none others writers among writers_among) in
           below_more _ _ (c.loop-pair.invariant.blocks_none held is parts.0) (here parts.1);
-      filed = rw add-one (enter_step nodes c.args.id node ps i p c.loop-pair.self.locations.items c.index_mut.result.now c.enter-here.new.self c.len-graph.ensures.graph found c.items-pair-items.ensures.all up inside at within c.index_mut.ensures.value c.enter-here.ensures.lanes c.loop-pair.invariant.filed);
+      filed = for_found nodes c.args.id node (λ n. AreFiledWith (without c.args.id nodes) n (access_at (take (i + 1) ps)) locations) found (rw add-one after);
       room = rw add-one (room_step ps i p c.args.self.now.locations.items c.loop-pair.self.locations.items c.index_mut.result.now c.enter-here.new.self up inside at within c.index_mut.ensures.value c.enter-here.ensures.room c.loop-pair.invariant.room);
     }
 
 pub returns-clause-filed : goal.returns-clause-filed
-returns-clause-filed c loc access =
+returns-clause-filed c =
     let nodes : List Node = c.args.nodes.now.nodes in
     let node : Node = record { id = c.node.inside.id; task = c.node.inside.task; set = c.node.inside.set; running = c.node.inside.running } in
     let found : node_at nodes c.args.id ≡ Some node = c.entry-node.ensures ∙ ap (λ (n : Node). Some n) (sym c.node.view_is) in
     let ps : Accesses = c.items-pair-items.result.now in
-    let i : ℕ = c.loop-pair.pair-index in
-    let end : i ≡ length ps = omega (arith, c.loop-pair-test.false, c.loop-pair.auto.pair-index-end) in
-    let all : take i ps ≡ node.set = ap (λ n. take n ps) end ∙ take-length ps ∙ c.items-pair-items.ensures.all in
-    c.loop-pair.invariant.filed loc access
-    ∙ ap (λ (l : Accesses). ids_of (clashing_at loc access (cond (is_some (access_at l loc)) nodes (without c.args.id nodes)))) all
-    ∙ ap ids_of (sym (filed_part nodes c.args.id node loc access (access_at node.set loc) c.len-graph.ensures.graph found refl))
+    let whole = take_all c.loop-pair.pair-index ps (omega (arith, c.loop-pair-test.false)) ∙ c.items-pair-items.ensures.all in
+    filed_own nodes c.args.id node c.loop-pair.self.locations.items c.len-graph.ensures.graph found
+    (subst (λ (l : Accesses). AreFiledWith (without c.args.id nodes) node (access_at l) c.loop-pair.self.locations.items) whole (c.loop-pair.invariant.filed node found))
 
 pub returns-clause-first : goal.returns-clause-first
 returns-clause-first c =

@@ -1,17 +1,6 @@
-use Rattle.std.proofs.Common.{rules, ◌≡◌, ◌+◌, ◌<◌, ◌≤◌, ◌∙◌, ℕ, List, Option, Some, true, false, add-one, ap, arith, get_or, length, set, suc, subst, sym, take}
-use Rattle.std.specs.Prelude.{IfSome}
-use Rattle.std.proofs.Math.Seq.{take-length}
-use Rattle.rw_sets.specs.declared.access.Access.{Access}
-use Rattle.rw_sets.specs.declared.access.Access.TheVariants.{Read}
-use Rattle.rw_sets.specs.Accesses.{Accesses, IsAscending as IsAscendingSet, access_at}
-use Rattle.kdg_graph.specs.Exchange.{AreFiledWith, is_same, midway}
-use Rattle.kdg_graph.specs.Locations.{HasRoom, room_at, room_in, rooms_of}
-use Rattle.kdg_graph.specs.Node.{Node}
-use Rattle.kdg_graph.specs.Nodes.{node_at}
-use Rattle.kdg_graph.specs.Rewrite.{without}
-use Rattle.kdg_graph.proofs.Exchanging.{entered_as_was, entered_elsewhere, entered_had, entered_has, entered_there, filed_as, filed_own, for_found, midway_last, room_passed, still_beside}
-use Rattle.kdg_graph.proofs.Filing.{again, room_next, room_step}
-use Rattle.kdg_graph.proofs.Shelving.{room_there, within_room}
+use Rattle.std.proofs.Common.{rules, ◌≡◌, ◌+◌, ◌<◌, ◌≤◌, ◌∙◌, ℕ, List, Option, Some, true, false, add-one, ap, arith, get_or, length, set, suc, subst, sym, take, IfSome}
+use Rattle.kdg_graph.proofs.Common.{take-length, Access, Read, Accesses, IsAscendingSet, access_at, AreFiledWith, is_same, midway, HasRoom, room_at, room_in, rooms_of, Node, node_at, without}
+use Rattle.kdg_graph.proofs.Filing.{entered_as_was, entered_elsewhere, entered_had, entered_has, entered_there, filed_as, filed_own, for_found, midway_last, room_passed, still_beside, again, room_next, room_step, room_there, within_room}
 use Rattle.kdg_graph.proofs.locations.Locations.enter_lacking.Goals as goal
 
 pub loop-pair-preserved-then-has : goal.loop-pair-preserved-then-has

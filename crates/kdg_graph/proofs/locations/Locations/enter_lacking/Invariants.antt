@@ -1,12 +1,5 @@
-use Rattle.std.proofs.Common.{◌≡◌, ℕ, ◌+◌, ◌≤◌, ◌<◌, Some, cond, get_or, length, take}
-use Rattle.std.specs.Prelude.{is_some}
-use Rattle.rw_sets.specs.declared.access.Access.{Access}
-use Rattle.rw_sets.specs.Accesses.{IsAscending as IsAscendingSet, access_at}
-use Rattle.kdg_graph.specs.Exchange.{AreFiledWith, midway}
-use Rattle.kdg_graph.specs.Locations.{room_at, rooms_of}
-use Rattle.kdg_graph.specs.Node.{Node}
-use Rattle.kdg_graph.specs.Nodes.{node_at}
-use Rattle.kdg_graph.specs.Rewrite.{without}
+use Rattle.std.proofs.Common.{◌≡◌, ℕ, ◌+◌, ◌≤◌, ◌<◌, Some, cond, get_or, length, take, is_some}
+use Rattle.kdg_graph.proofs.Common.{Access, IsAscendingSet, access_at, AreFiledWith, midway, room_at, rooms_of, Node, node_at, without}
 use Rattle.kdg_graph.proofs.locations.Locations.enter_lacking.Given as goal
 
 -- at the locations so far the node has its accesses of now

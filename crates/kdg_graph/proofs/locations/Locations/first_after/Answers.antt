@@ -1,10 +1,5 @@
-use Rattle.std.proofs.Common.{rules, ◌≡◌, ◌∙◌, List, [], None, ap, sym}
-use Rattle.std.specs.Prelude.{slice_get}
-use Rattle.kdg_graph.specs.declared.node_id.NodeId.{NodeId}
-use Rattle.kdg_graph.specs.Lanes.{IsRankPast}
-use Rattle.kdg_graph.specs.Locations.{clashing_at}
-use Rattle.kdg_graph.specs.Node.{Node}
-use Rattle.kdg_graph.specs.Nodes.{ids_of, least_of}
+use Rattle.std.proofs.Common.{rules, ◌≡◌, ◌∙◌, List, [], None, ap, sym, slice_get}
+use Rattle.kdg_graph.proofs.Common.{NodeId, IsRankPast, clashing_at, Node, ids_of, least_of}
 use Rattle.kdg_graph.proofs.Filing.{filed_among, no_ids}
 use Rattle.kdg_graph.proofs.Fronting.{first_from, later_clashing, none_clashing}
 use Rattle.kdg_graph.proofs.locations.Locations.first_after.Goals as goal

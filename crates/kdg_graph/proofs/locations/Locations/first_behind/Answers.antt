@@ -1,10 +1,5 @@
-use Rattle.std.proofs.Common.{rules, ◌≡◌, ◌∙◌, List, [], None, Option, refl, subst, ap, sym}
-use Rattle.std.specs.Prelude.{IfSome, IsSome, slice_get}
-use Rattle.kdg_graph.specs.declared.node_id.NodeId.{NodeId}
-use Rattle.kdg_graph.specs.Lanes.{IsRankPast}
-use Rattle.kdg_graph.specs.Locations.{IsLaneAmong, clashing_at}
-use Rattle.kdg_graph.specs.Node.{Node}
-use Rattle.kdg_graph.specs.Nodes.{ids_of, least_of}
+use Rattle.std.proofs.Common.{rules, ◌≡◌, ◌∙◌, List, [], None, Option, refl, subst, ap, sym, IfSome, IsSome, slice_get}
+use Rattle.kdg_graph.proofs.Common.{NodeId, IsRankPast, IsLaneAmong, clashing_at, Node, ids_of, least_of}
 use Rattle.kdg_graph.proofs.Filing.{filed_among, no_ids}
 use Rattle.kdg_graph.proofs.Fronting.{first_from, later_clashing, none_clashing}
 use Rattle.kdg_graph.proofs.locations.Locations.first_behind.Goals as goal

@@ -1,17 +1,8 @@
-use Rattle.std.proofs.Common.{rules, ◌≡◌, ◌<◌, ◌∙◌, ℕ, Bool, List, add-one, ap, arith, get_or, length, subst, sym, take}
-use Rattle.std.proofs.Math.Seq.{take-length}
-use Rattle.std.specs.Prelude.{Contains}
-use Rattle.std.specs.List.{filter, list_any}
-use Rattle.rw_sets.specs.declared.access.Access.{Access}
-use Rattle.rw_sets.specs.declared.access.Access.TheVariants.{Read}
-use Rattle.rw_sets.specs.Accesses.{Accesses, conflicts_with}
-use Rattle.kdg_graph.specs.Locations.{clashes_at}
-use Rattle.kdg_graph.specs.Node.{Node}
-use Rattle.kdg_graph.specs.Nodes.{later_than, least_of}
-use Rattle.kdg_graph.proofs.Earliest.{conflicts_by_pairs, first_of_none, first_there, later_among, one_pair_more}
-use Rattle.kdg_graph.proofs.Filtered.{same_filter}
+use Rattle.std.proofs.Common.{rules, ◌≡◌, ◌<◌, ◌∙◌, ℕ, Bool, List, add-one, ap, arith, get_or, length, subst, sym, take, Contains, filter}
+use Rattle.kdg_graph.proofs.Common.{take-length, list_any, Access, Read, Accesses, conflicts_with, clashes_at, Node, later_than, least_of}
+use Rattle.kdg_graph.proofs.Earliest.{conflicts_by_pairs, first_of_none, first_there, later_among, one_pair_more, ends_early}
 use Rattle.kdg_graph.proofs.Filing.{again}
-use Rattle.kdg_graph.proofs.Walking.{ends_early}
+use Rattle.kdg_graph.proofs.KeyOrder.{same_filter}
 use Rattle.kdg_graph.proofs.locations.Locations.first_in_conflict.Goals as goal
 
 abbrev clashes_so_far : ℕ → Accesses → Node → Bool

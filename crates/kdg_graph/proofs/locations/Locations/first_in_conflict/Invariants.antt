@@ -1,8 +1,5 @@
-use Rattle.std.proofs.Common.{◌≡◌, ℕ, take}
-use Rattle.std.specs.List.{filter, list_any}
-use Rattle.rw_sets.specs.declared.access.Access.{Access}
-use Rattle.kdg_graph.specs.Locations.{clashes_at}
-use Rattle.kdg_graph.specs.Nodes.{later_than, least_of}
+use Rattle.std.proofs.Common.{◌≡◌, ℕ, take, filter}
+use Rattle.kdg_graph.proofs.Common.{list_any, Access, clashes_at, later_than, least_of}
 use Rattle.kdg_graph.proofs.locations.Locations.first_in_conflict.Given as goal
 
 -- the first that clashes at a location so far

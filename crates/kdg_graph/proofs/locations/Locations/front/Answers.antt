@@ -1,8 +1,5 @@
 use Rattle.std.proofs.Common.{◌≡◌, ◌∙◌, List, [], ap, sym}
-use Rattle.kdg_graph.specs.declared.node_id.NodeId.{NodeId}
-use Rattle.kdg_graph.specs.Locations.{clashing_at, up_to_writer}
-use Rattle.kdg_graph.specs.Node.{Node}
-use Rattle.kdg_graph.specs.Nodes.{ids_of}
+use Rattle.kdg_graph.proofs.Common.{NodeId, clashing_at, up_to_writer, Node, ids_of}
 use Rattle.kdg_graph.proofs.Filing.{filed_among, no_ids}
 use Rattle.kdg_graph.proofs.Fronting.{none_clashing}
 use Rattle.kdg_graph.proofs.locations.Locations.front.Goals as goal

@@ -1,10 +1,5 @@
-use Rattle.std.proofs.Common.{◌≡◌, ◌∙◌, List, Option, [], ap, refl, subst, sym}
-use Rattle.std.specs.Prelude.{IfSome, IsSome}
-use Rattle.kdg_graph.specs.declared.node_id.NodeId.{NodeId}
-use Rattle.kdg_graph.specs.Lanes.{IsRankPast}
-use Rattle.kdg_graph.specs.Locations.{IsLaneAmong, clashing_at, up_to_writer}
-use Rattle.kdg_graph.specs.Node.{Node}
-use Rattle.kdg_graph.specs.Nodes.{ids_of}
+use Rattle.std.proofs.Common.{◌≡◌, ◌∙◌, List, Option, [], ap, refl, subst, sym, IfSome, IsSome}
+use Rattle.kdg_graph.proofs.Common.{NodeId, IsRankPast, IsLaneAmong, clashing_at, up_to_writer, Node, ids_of}
 use Rattle.kdg_graph.proofs.Filing.{filed_among, no_ids}
 use Rattle.kdg_graph.proofs.Fronting.{none_clashing}
 use Rattle.kdg_graph.proofs.locations.Locations.front_behind.Goals as goal

@@ -1,11 +1,5 @@
-use Rattle.std.proofs.Common.{◌≡◌, ◌-◌, ◌∙◌, List, [], Option, Some, ap, arith, drop, eqb-true, length, refl, subst, sym, take}
-use Rattle.std.specs.Prelude.{IfSome, IsSome}
-use Rattle.rw_sets.specs.declared.access.Access.TheVariants.{Read}
-use Rattle.kdg_graph.specs.declared.node_id.NodeId.{NodeId}
-use Rattle.kdg_graph.specs.Lanes.{IsRankPast}
-use Rattle.kdg_graph.specs.Locations.{IsLaneAmong, clashing_at, lane_of}
-use Rattle.kdg_graph.specs.Node.{Node}
-use Rattle.kdg_graph.specs.Nodes.{ids_of, later_than, least_of}
+use Rattle.std.proofs.Common.{◌≡◌, ◌-◌, ◌∙◌, List, [], Option, Some, ap, arith, drop, eqb-true, length, refl, subst, sym, take, IfSome, IsSome}
+use Rattle.kdg_graph.proofs.Common.{Read, NodeId, IsRankPast, IsLaneAmong, clashing_at, lane_of, Node, ids_of, later_than, least_of}
 use Rattle.kdg_graph.proofs.Filing.{filed_among}
 use Rattle.kdg_graph.proofs.Fronting.{first_writer, front_alone, front_none, front_to_end, front_to_writer, none_first}
 use Rattle.kdg_graph.proofs.Lanes.{length-ids}

@@ -1,15 +1,5 @@
-use Rattle.std.proofs.Common.{◌≡◌, ℕ, ◌∙◌, List, Option, Some, true, false, ap, arith, get_or, length, refl, subst, sym, take}
-use Rattle.std.proofs.Math.Seq.{take-length}
-use Rattle.std.proofs.lemmas.List.Elements.{Contains-get_or}
-use Rattle.std.specs.Prelude.{Contains, IfSome}
-use Rattle.std.specs.List.{list_any}
-use Rattle.rw_sets.specs.declared.access.Access.{Access}
-use Rattle.rw_sets.specs.declared.access.Access.TheVariants.{Read}
-use Rattle.rw_sets.specs.Accesses.{Accesses, access_at}
-use Rattle.kdg_graph.specs.Edges.{is_blocked}
-use Rattle.kdg_graph.specs.Locations.{is_blocked_at}
-use Rattle.kdg_graph.specs.Node.{Node}
-use Rattle.kdg_graph.specs.Nodes.{node_at}
+use Rattle.std.proofs.Common.{◌≡◌, ℕ, ◌∙◌, List, Option, Some, true, false, ap, arith, get_or, length, refl, subst, sym, take, Contains, IfSome}
+use Rattle.kdg_graph.proofs.Common.{take-length, Contains-get_or, list_any, Access, Read, Accesses, access_at, is_blocked, is_blocked_at, Node, node_at}
 use Rattle.kdg_graph.proofs.Blocking.{access_of, any_from, blocked_by_first}
 use Rattle.kdg_graph.proofs.locations.Locations.is_blocked.Goals as goal
 

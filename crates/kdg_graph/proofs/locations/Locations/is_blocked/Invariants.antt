@@ -1,7 +1,5 @@
 use Rattle.std.proofs.Common.{◌≡◌, ℕ, false, take}
-use Rattle.std.specs.List.{list_any}
-use Rattle.rw_sets.specs.declared.access.Access.{Access}
-use Rattle.kdg_graph.specs.Locations.{clashing_at, is_first_before}
+use Rattle.kdg_graph.proofs.Common.{list_any, Access, clashing_at, is_first_before}
 use Rattle.kdg_graph.proofs.locations.Locations.is_blocked.Given as goal
 
 -- at none of the locations so far the node is blocked

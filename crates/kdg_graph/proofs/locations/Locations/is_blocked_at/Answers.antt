@@ -1,14 +1,8 @@
-use Rattle.std.proofs.Common.{◌≡◌, ◌∙◌, List, Option, Some, true, not, ap, subst}
-use Rattle.std.specs.Prelude.{Contains, IfSome}
-use Rattle.rw_sets.specs.Accesses.{access_at, clash}
-use Rattle.kdg_graph.specs.declared.node_id.NodeId.{NodeId}
-use Rattle.kdg_graph.specs.Locations.{clashes_at, clashing_at, is_first_before}
-use Rattle.kdg_graph.specs.Node.{Node}
-use Rattle.kdg_graph.specs.Nodes.{ids_of}
+use Rattle.std.proofs.Common.{◌≡◌, ◌∙◌, List, Option, Some, true, not, ap, subst, Contains, IfSome}
+use Rattle.kdg_graph.proofs.Common.{access_at, clash, NodeId, clashes_at, clashing_at, is_first_before, Node, ids_of, in_filter}
 use Rattle.kdg_graph.proofs.Blocking.{behind_first}
 use Rattle.kdg_graph.proofs.Filing.{filed_among}
 use Rattle.kdg_graph.proofs.LookUps.{ids_find_nodes}
-use Rattle.kdg_graph.proofs.Members.{in_filter}
 use Rattle.kdg_graph.proofs.locations.Locations.is_blocked_at.Goals as goal
 
 pub returns-in-Read : goal.returns-in-Read

@@ -1,6 +1,6 @@
 use Rattle.std.proofs.Common.{rules, ◌≡◌, ◌<◌, ◌≤◌, ◌∙◌, List, ap, get_or, length, sym}
-use Rattle.kdg_graph.specs.Locations.{Location, ids_for}
-use Rattle.kdg_graph.proofs.Shelving.{lane_at, lane_beyond}
+use Rattle.kdg_graph.proofs.Common.{Location, ids_for}
+use Rattle.kdg_graph.proofs.Filing.{lane_at, lane_beyond}
 use Rattle.kdg_graph.proofs.locations.Locations.lane.Goals as goal
 
 pub returns-in-Some-clause-kept : goal.returns-in-Some-clause-kept

@@ -1,18 +1,7 @@
-use Rattle.std.proofs.Common.{rules, ◌≡◌, ℕ, ◌<◌, ◌≤◌, ◌∙◌, List, [], Option, Some, false, cond, add-one, ap, arith, below_more, get_or, length, ltb, refl, subst, sym}
-use Rattle.std.proofs.lemmas.Bool.{or_parts}
-use Rattle.std.specs.Prelude.{IfSome, is_some}
-use Rattle.std.specs.List.{AllByRecursion}
-use Rattle.rw_sets.specs.declared.access.Access.{Access}
-use Rattle.rw_sets.specs.declared.access.Access.TheVariants.{Read}
-use Rattle.rw_sets.specs.Accesses.{Accesses, IsAscending as IsAscendingSet, access_at}
-use Rattle.kdg_graph.specs.Locations.{clashing_at}
-use Rattle.kdg_graph.specs.Node.{Node}
-use Rattle.kdg_graph.specs.Nodes.{ids_of, node_at}
-use Rattle.kdg_graph.specs.Rewrite.{without}
-use Rattle.kdg_graph.proofs.Arriving.{each_pair}
-use Rattle.kdg_graph.proofs.Filing.{again, fewer_left, filed_part, leave_step, no_less_step, within_left}
-use Rattle.kdg_graph.proofs.Leaving.{none_left_at}
-use Rattle.kdg_graph.proofs.Members.{all_from}
+use Rattle.std.proofs.Common.{rules, ◌≡◌, ℕ, ◌+◌, ◌<◌, ◌≤◌, ◌∙◌, List, [], Option, Some, false, add-one, ap, arith, below_more, drop, drop_of_length-le, get_or, length, ltb, set, suc, subst, sym, IfSome}
+use Rattle.kdg_graph.proofs.Common.{or_parts, AllByRecursion, Access, Read, Accesses, IsAscendingSet, access_at, AreFiledWith, clashing_at, Node, node_at, without, all_from}
+use Rattle.kdg_graph.proofs.Arriving.{each_pair, none_left_at}
+use Rattle.kdg_graph.proofs.Filing.{again, fewer_write, filed_apart, filed_without, for_found, left_here, left_other, left_there, no_less_step, not_left, within_filed}
 use Rattle.kdg_graph.proofs.locations.Locations.leave.Goals as goal
 
 pub loop-pair-init : goal.loop-pair-init
@@ -20,10 +9,10 @@ loop-pair-init c =
     let nodes : List Node = c.args.nodes.now.nodes in
     let node : Node = record { id = c.node.inside.id; task = c.node.inside.task; set = c.node.inside.set; running = c.node.inside.running } in
     let found : node_at nodes c.args.id ≡ Some node = c.entry-node.ensures ∙ ap (λ (n : Node). Some n) (sym c.node.view_is) in
+    let own : AreFiledWith (without c.args.id nodes) node (access_at c.items-pair-items.result.now) c.args.self.now.locations.items =
+    subst (λ (l : Accesses). AreFiledWith (without c.args.id nodes) node (access_at l) c.args.self.now.locations.items) (sym c.items-pair-items.ensures.all) (filed_apart nodes c.args.id node c.args.self.now.locations.items c.len-graph.ensures.graph found c.requires.filed) in
     record {
-      filed = λ loc access.
-          c.requires.filed loc access ∙ ap ids_of (filed_part nodes c.args.id node loc access (access_at node.set loc) c.len-graph.ensures.graph found refl)
-          ∙ ap (λ (l : Accesses). ids_of (clashing_at loc access (cond (is_some (access_at l loc)) nodes (without c.args.id nodes)))) (sym c.items-pair-items.ensures.all);
+      filed = for_found nodes c.args.id node (λ n. AreFiledWith (without c.args.id nodes) n (access_at c.items-pair-items.result.now) c.args.self.now.locations.items) found own;
       none_left = λ _ k upto. absurd (omega (arith, upto));
       no_less = λ loc. omega arith;
     }
@@ -34,12 +23,11 @@ index_mut-here-requires c =
     let node : Node = record { id = c.node.inside.id; task = c.node.inside.task; set = c.node.inside.set; running = c.node.inside.running } in
     let found : node_at nodes c.args.id ≡ Some node = c.entry-node.ensures ∙ ap (λ (n : Node). Some n) (sym c.node.view_is) in
     let ps : Accesses = c.items-pair-items.result.now in
-    let up : IsAscendingSet ps = subst IsAscendingSet (sym c.items-pair-items.ensures.all) c.items-pair-items.ensures.ascending in
     let i : ℕ = c.loop-pair.pair-index in
     let inside : i < length ps = c.loop-pair-test.true in
     let p : ℕ × Access = get_or ps i (0, Read) in
     let at : p ≡ get_or ps i p = again ps i (0, Read) p inside in
-    let within = within_left nodes c.args.id node ps i p c.loop-pair.self.locations.items c.len-graph.ensures.graph found c.items-pair-items.ensures.all up inside at c.loop-pair.invariant.filed in
+    let within = within_filed (without c.args.id nodes) node (access_at (drop i ps)) p c.loop-pair.self.locations.items (left_here ps i p inside at) (c.loop-pair.invariant.filed node found) in
     search (rules, within)
 
 pub leave-requires-clause-reads : goal.leave-requires-clause-reads
@@ -48,13 +36,12 @@ leave-requires-clause-reads c =
     let node : Node = record { id = c.node.inside.id; task = c.node.inside.task; set = c.node.inside.set; running = c.node.inside.running } in
     let found : node_at nodes c.args.id ≡ Some node = c.entry-node.ensures ∙ ap (λ (n : Node). Some n) (sym c.node.view_is) in
     let ps : Accesses = c.items-pair-items.result.now in
-    let up : IsAscendingSet ps = subst IsAscendingSet (sym c.items-pair-items.ensures.all) c.items-pair-items.ensures.ascending in
     let i : ℕ = c.loop-pair.pair-index in
     let inside : i < length ps = c.loop-pair-test.true in
     let p : ℕ × Access = get_or ps i (0, Read) in
     let at : p ≡ get_or ps i p = again ps i (0, Read) p inside in
-    let within = within_left nodes c.args.id node ps i p c.loop-pair.self.locations.items c.len-graph.ensures.graph found c.items-pair-items.ensures.all up inside at c.loop-pair.invariant.filed in
-    fewer_left nodes c.args.id node ps i p c.loop-pair.self.locations.items c.index_mut-here.result.now c.len-graph.ensures.graph found c.items-pair-items.ensures.all up inside at within c.index_mut-here.ensures.value c.loop-pair.invariant.filed
+    let within = within_filed (without c.args.id nodes) node (access_at (drop i ps)) p c.loop-pair.self.locations.items (left_here ps i p inside at) (c.loop-pair.invariant.filed node found) in
+    fewer_write (without c.args.id nodes) node (access_at (drop i ps)) p c.loop-pair.self.locations.items c.index_mut-here.result.now (left_here ps i p inside at) within c.index_mut-here.ensures.value (c.loop-pair.invariant.filed node found)
 
 pub loop-pair-preserved : goal.loop-pair-preserved
 loop-pair-preserved c =
@@ -67,15 +54,28 @@ loop-pair-preserved c =
     let inside : i < length ps = c.loop-pair-test.true in
     let p : ℕ × Access = get_or ps i (0, Read) in
     let at : p ≡ get_or ps i p = again ps i (0, Read) p inside in
-    let within = within_left nodes c.args.id node ps i p c.loop-pair.self.locations.items c.len-graph.ensures.graph found c.items-pair-items.ensures.all up inside at c.loop-pair.invariant.filed in
-    let after = leave_step nodes c.args.id node ps i p c.loop-pair.self.locations.items c.index_mut-here.result.now c.leave.new.self c.len-graph.ensures.graph found c.items-pair-items.ensures.all up inside at within c.index_mut-here.ensures.value c.leave.ensures.lanes c.loop-pair.invariant.filed in
+    let within = within_filed (without c.args.id nodes) node (access_at (drop i ps)) p c.loop-pair.self.locations.items (left_here ps i p inside at) (c.loop-pair.invariant.filed node found) in
+    let gone = not_left ps i p up inside at in
+    let locations = set c.loop-pair.self.locations.items p.0 c.leave.new.self in
+    let after : AreFiledWith (without c.args.id nodes) node (access_at (drop (suc i) ps)) locations =
+    left_there nodes c.args.id node (access_at (drop i ps)) (access_at (drop (suc i) ps)) p c.loop-pair.self.locations.items c.index_mut-here.result.now c.leave.new.self c.len-graph.ensures.graph found (left_here ps i p inside at) gone
+    (λ loc differs. left_other ps i p loc inside at differs) within c.index_mut-here.ensures.value c.leave.ensures.lanes (c.loop-pair.invariant.filed node found) in
     record {
-      filed = rw add-one after;
+      filed = for_found nodes c.args.id node (λ n. AreFiledWith (without c.args.id nodes) n (access_at (drop (i + 1) ps)) locations) found (rw add-one after);
       none_left = λ either.
           let parts = or_parts c.loop-pair.left (ltb 0 c.len.result) either in
-          below_more _ _ (c.loop-pair.invariant.none_left parts.0) (none_left_at nodes c.args.id ps i p c.loop-pair.self.locations.items c.leave.new.self c.len.result up inside at within after (c.len.ensures.len ∙ ap length c.clashing.ensures) parts.1);
+          below_more _ _ (c.loop-pair.invariant.none_left parts.0) (none_left_at (without c.args.id nodes) node (access_at (drop (suc i) ps)) p c.loop-pair.self.locations.items c.leave.new.self c.len.result gone within after (c.len.ensures.len ∙ ap length c.clashing.ensures) parts.1);
       no_less = no_less_step p.0 c.args.self.now.locations.items c.loop-pair.self.locations.items c.index_mut-here.result.now c.leave.new.self within c.index_mut-here.ensures.value c.leave.ensures.no_less c.loop-pair.invariant.no_less;
     }
+
+pub returns-clause-filed : goal.returns-clause-filed
+returns-clause-filed c =
+    let nodes : List Node = c.args.nodes.now.nodes in
+    let node : Node = record { id = c.node.inside.id; task = c.node.inside.task; set = c.node.inside.set; running = c.node.inside.running } in
+    let found : node_at nodes c.args.id ≡ Some node = c.entry-node.ensures ∙ ap (λ (n : Node). Some n) (sym c.node.view_is) in
+    let ps : Accesses = c.items-pair-items.result.now in
+    let none : drop c.loop-pair.pair-index ps ≡ [] = drop_of_length-le ps (omega (arith, c.loop-pair-test.false)) in
+    filed_without (without c.args.id nodes) node (access_at (drop c.loop-pair.pair-index ps)) c.loop-pair.self.locations.items (λ loc. ap (λ (l : Accesses). access_at l loc) none) (c.loop-pair.invariant.filed node found)
 
 pub returns-clause-none_left : goal.returns-clause-none_left
 returns-clause-none_left c =

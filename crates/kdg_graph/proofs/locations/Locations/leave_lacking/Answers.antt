@@ -1,14 +1,6 @@
 use Rattle.std.proofs.Common.{rules, ◌≡◌, ◌+◌, ◌<◌, ◌≤◌, ◌∙◌, ℕ, List, Option, Some, true, false, add-one, ap, arith, drop, get_or, length, set, suc, subst, sym}
-use Rattle.rw_sets.specs.declared.access.Access.{Access}
-use Rattle.rw_sets.specs.declared.access.Access.TheVariants.{Read}
-use Rattle.rw_sets.specs.Accesses.{Accesses, IsAscending as IsAscendingSet, access_at, clash}
-use Rattle.kdg_graph.specs.Exchange.{AreFiledWith, is_same, midway}
-use Rattle.kdg_graph.specs.Locations.{clashing_at, put_if}
-use Rattle.kdg_graph.specs.Node.{Node}
-use Rattle.kdg_graph.specs.Nodes.{ids_of, node_at}
-use Rattle.kdg_graph.specs.Rewrite.{without}
-use Rattle.kdg_graph.proofs.Exchanging.{filed_as, for_found, left_as_was, left_elsewhere, left_had, left_has, left_there, still_beside, within_filed}
-use Rattle.kdg_graph.proofs.Filing.{again, fewer_write, no_less_step}
+use Rattle.kdg_graph.proofs.Common.{Access, Read, Accesses, IsAscendingSet, access_at, AreFiledWith, is_same, midway, Node, node_at, without}
+use Rattle.kdg_graph.proofs.Filing.{filed_as, for_found, left_as_was, left_elsewhere, left_had, left_has, left_there, still_beside, within_filed, again, fewer_write, no_less_step}
 use Rattle.kdg_graph.proofs.locations.Locations.leave_lacking.Goals as goal
 
 pub loop-pair-preserved-then-has : goal.loop-pair-preserved-then-has
@@ -67,8 +59,7 @@ leave-requires-clause-reads c =
     let had = left_had before held.set i p c.items-pair-items.ensures.ascending inside at lacks in
     let filed = c.loop-pair.invariant.filed held found in
     let within = within_filed (without c.args.id nodes) held f p c.loop-pair.self.locations.items had filed in
-    fewer_write (without c.args.id nodes) held p c.loop-pair.self.locations.items c.index_mut.result.now within c.index_mut.ensures.value
-    (λ access. filed p.0 access ∙ ap (λ found. ids_of (put_if (clash (Some access) found) held (clashing_at p.0 access (without c.args.id nodes)))) had)
+    fewer_write (without c.args.id nodes) held f p c.loop-pair.self.locations.items c.index_mut.result.now had within c.index_mut.ensures.value filed
 
 pub loop-pair-preserved : goal.loop-pair-preserved
 loop-pair-preserved c =

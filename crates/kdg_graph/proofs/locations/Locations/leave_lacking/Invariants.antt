@@ -1,11 +1,5 @@
 use Rattle.std.proofs.Common.{◌≡◌, ◌≤◌, ◌<◌, ℕ, Some, drop, get_or, length}
-use Rattle.rw_sets.specs.declared.access.Access.{Access}
-use Rattle.rw_sets.specs.Accesses.{IsAscending as IsAscendingSet, access_at}
-use Rattle.kdg_graph.specs.Exchange.{AreFiledWith, midway}
-use Rattle.kdg_graph.specs.Locations.{HaveNoLess, rooms_of}
-use Rattle.kdg_graph.specs.Node.{Node}
-use Rattle.kdg_graph.specs.Nodes.{node_at}
-use Rattle.kdg_graph.specs.Rewrite.{without}
+use Rattle.kdg_graph.proofs.Common.{Access, IsAscendingSet, access_at, AreFiledWith, midway, HaveNoLess, rooms_of, Node, node_at, without}
 use Rattle.kdg_graph.proofs.locations.Locations.leave_lacking.Given as goal
 
 -- at the locations that are left the node has its accesses of before

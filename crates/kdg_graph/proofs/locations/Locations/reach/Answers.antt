@@ -1,8 +1,6 @@
 use Rattle.std.proofs.Common.{rules, ◌≡◌, ◌≤◌, ◌∷◌, [], ◌++◌, ◌∙◌, List, ap, arith, subst, sym}
-use Rattle.rw_sets.specs.declared.access.Access.{Access}
-use Rattle.rw_sets.specs.declared.access.Access.TheVariants.{Read, Write}
-use Rattle.kdg_graph.specs.Locations.{Location, ids_for, lane_of, room_at, rooms_of}
-use Rattle.kdg_graph.proofs.Shelving.{lane_more, room_more}
+use Rattle.kdg_graph.proofs.Common.{Access, Read, Write, Location, ids_for, lane_of, room_at, rooms_of}
+use Rattle.kdg_graph.proofs.Filing.{lane_more, room_more}
 use Rattle.kdg_graph.proofs.locations.Locations.reach.Goals as goal
 
 no_nodes : (location : Location) (access : Access) → ids_for Write location ≡ [] → ids_for Read location ≡ [] → ids_for access location ≡ []

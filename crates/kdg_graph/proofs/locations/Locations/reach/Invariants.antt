@@ -1,5 +1,5 @@
 use Rattle.std.proofs.Common.{suc, ◌-◌, length}
-use Rattle.kdg_graph.specs.Locations.{HaveNoLess, HaveSameLanes, rooms_of}
+use Rattle.kdg_graph.proofs.Common.{HaveNoLess, HaveSameLanes, rooms_of}
 use Rattle.kdg_graph.proofs.locations.Locations.reach.Given as goal
 
 -- a location that is added has no nodes

@@ -1,5 +1,5 @@
 use Rattle.std.proofs.Common.{take}
-use Rattle.kdg_graph.specs.Locations.{HasRoom, HaveNoLess, HaveSameLanes, rooms_of}
+use Rattle.kdg_graph.proofs.Common.{HasRoom, HaveNoLess, HaveSameLanes, rooms_of}
 use Rattle.kdg_graph.proofs.locations.Locations.reserve.Given as goal
 
 -- at the locations so far there is room

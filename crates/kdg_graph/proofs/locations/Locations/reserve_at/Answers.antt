@@ -1,11 +1,6 @@
-use Rattle.std.proofs.Common.{◌≡◌, ◌≤◌, ◌∙◌, List, ap, inl, inr, subst, sym, set}
-use Rattle.std.specs.Prelude.{OnOk}
-use Rattle.std.proofs.lemmas.Bool.{cases_eq}
-use Rattle.rw_sets.specs.declared.access.Access.{Access}
-use Rattle.rw_sets.specs.declared.access.Access.TheVariants.{Read, Write}
-use Rattle.kdg_graph.specs.Locations.{Location, ids_for, lane_of}
-use Rattle.kdg_graph.proofs.Filing.{no_less_step}
-use Rattle.kdg_graph.proofs.Shelving.{lane_at, lane_changed, lane_other, room_changed}
+use Rattle.std.proofs.Common.{◌≡◌, ◌≤◌, ◌∙◌, List, ap, inl, inr, subst, sym, set, OnOk}
+use Rattle.kdg_graph.proofs.Common.{cases_eq, Access, Read, Write, Location, ids_for, lane_of}
+use Rattle.kdg_graph.proofs.Filing.{no_less_step, lane_at, lane_changed, lane_other, room_changed}
 use Rattle.kdg_graph.proofs.locations.Locations.reserve_at.Goals as goal
 
 pub returns-clause-room : goal.returns-clause-room

@@ -1,11 +1,7 @@
 use Rattle.std.proofs.Common.{◌≡◌, ◌∙◌, List, ap, arith, subst}
-use Rattle.rw_sets.specs.declared.access.Access.TheVariants.{Read}
-use Rattle.kdg_graph.specs.Lanes.{IsRankPast}
-use Rattle.kdg_graph.specs.Locations.{clashing_at}
-use Rattle.kdg_graph.specs.Node.{Node}
-use Rattle.kdg_graph.specs.Nodes.{least_of}
+use Rattle.kdg_graph.proofs.Common.{Read, IsRankPast, clashing_at, Node, least_of}
+use Rattle.kdg_graph.proofs.Earliest.{first_filed}
 use Rattle.kdg_graph.proofs.Fronting.{writers_later}
-use Rattle.kdg_graph.proofs.Writing.{first_filed}
 use Rattle.kdg_graph.proofs.locations.Locations.writer_behind.Goals as goal
 
 pub returns : goal.returns

@@ -1,23 +1,11 @@
-use Rattle.std.proofs.Common.{◌≡◌, ◌∙◌, ℕ, Bool, List, [], ◌∷◌, Option, Some, ap, length, refl, subst, sym, arith}
-use Rattle.std.specs.Prelude.{IfSome, IsSome}
-use Rattle.std.specs.Option.{option_map}
-use Rattle.rw_sets.specs.Accesses.{Accesses, access_at}
-use Rattle.kdg_graph.specs.declared.change.SetChange.{SetChange}
-use Rattle.kdg_graph.specs.declared.node_id.NodeId.{NodeId}
-use Rattle.kdg_graph.specs.Node.{Node}
-use Rattle.kdg_graph.specs.NodeStock.{NodeStock}
-use Rattle.kdg_graph.specs.Nodes.{HasNode, ids_of}
-use Rattle.kdg_graph.specs.Exchange.{AreFiledWith, lacking}
-use Rattle.kdg_graph.specs.Fronts.{fronts_after}
-use Rattle.kdg_graph.specs.Locations.{HasRoom, Location, rooms_of}
-use Rattle.kdg_graph.specs.Rewrite.{without}
-use Rattle.kdg_graph.specs.Selected.{AreSelected, is_unblocked, listed_in, refreshed}
-use Rattle.kdg_graph.proofs.Carried.{listed_changed, some_changed}
-use Rattle.kdg_graph.proofs.Exchanging.{filed_before}
-use Rattle.kdg_graph.proofs.Selecting.{but, found_node}
+use Rattle.std.proofs.Common.{◌≡◌, ◌∙◌, ℕ, Bool, List, [], ◌∷◌, Option, Some, ap, length, refl, subst, sym, arith, IfSome, IsSome, option_map}
+use Rattle.kdg_graph.proofs.Common.{Accesses, access_at, SetChange, NodeId, Node, NodeStock, HasNode, ids_of, AreFiledWith, lacking, fronts_after, HasRoom, Location, rooms_of, without, AreSelected, is_unblocked, listed_in, refreshed, length-map, ids_in}
+use Rattle.kdg_graph.proofs.Keeping.{changed}
+use Rattle.kdg_graph.proofs.Filing.{filed_before}
+use Rattle.kdg_graph.proofs.Listed.{some_changed, listed_kept}
 use Rattle.kdg_graph.proofs.Ordered.{order_kept, places_kept}
-use Rattle.kdg_graph.proofs.Rooms.{numbers_left}
-use Rattle.kdg_graph.proofs.Settling.{found_changed, ids-changed, length-changed, select_but, select_left, settled_exchanged, without_changed}
+use Rattle.kdg_graph.proofs.Selecting.{but, found_node}
+use Rattle.kdg_graph.proofs.Settling.{found_changed, ids-changed, select_but, select_left, settled_exchanged, without_changed}
 use Rattle.kdg_graph.proofs.node_list.NodeList.exchange_set.Goals as goal
 
 pub exchange-requires-clause-there : goal.exchange-requires-clause-there
@@ -65,24 +53,23 @@ invariant_of-self c =
     let left = without_changed c.args.id gone.0 c.args.set nodes now c.self.invariant.0.graph c.set_set-before.ensures.graph gone.1 c.set_set-before.ensures.nodes in
     let changes : List SetChange = record { node = c.args.id; set = c.args.set } ∷ [] in
     let listed : List NodeId = listed_in now c.forget.new.self in
-    let same : listed ≡ listed_in nodes c.forget.new.self = listed_changed changes nodes now c.forget.new.self c.set_set-before.ensures.nodes in
+    let same : listed ≡ listed_in nodes c.forget.new.self = listed_kept (ids_in c.forget.new.self) nodes now (ap ids_of c.set_set-before.ensures.nodes ∙ ids-changed changes nodes) in
     let others = select_left nodes (is_unblocked nodes) c.args.id listed (same ∙ c.forget.ensures.ids (is_unblocked nodes) c.self.invariant.0.unblocked_are) in
     let some = select_but now (is_unblocked nodes) c.args.id listed (subst (λ (l : List Node). AreSelected l (is_unblocked nodes) listed) (sym left) others) in
     let first : Node → Bool = refreshed now (c.args.id ∷ []) (but c.args.id (is_unblocked nodes)) in
     let entry : Node = record { id = c.node.inside.id; task = c.node.inside.task; set = c.node.inside.set; running = c.node.inside.running } in
     let before : Accesses = c.set_set-before.result in
-    let changed : Node = record gone.0 { set = c.args.set } in
+    let its : Node = record gone.0 { set = c.args.set } in
     let second : Node → Bool = refreshed now (ids_of (fronts_after (lacking before entry.set) entry.task.key now)) first in
     let after : AreSelected now second (listed_in now c.refresh_lacking.new.sources) = c.refresh_lacking.ensures.ids first (c.refresh.ensures.ids (but c.args.id (is_unblocked nodes)) some) in
     let Settled : Accesses → Node → Type 0 = λ was n. AreSelected now (refreshed now (ids_of (fronts_after (lacking n.set was) n.task.key now)) (refreshed now (ids_of (fronts_after (lacking was n.set) n.task.key now)) first)) (listed_in now c.refresh_lacking-2.new.sources) in
     let all : Settled before entry = c.refresh_lacking-2.ensures.ids second after in
-    let found : Some c.entry-node.result.now ≡ Some changed = sym c.entry-node.ensures ∙ found_changed c.args.id gone.0 c.args.set nodes now c.self.invariant.0.graph c.set_set-before.ensures.graph gone.1 c.set_set-before.ensures.nodes in
-    let is_changed : c.entry-node.result.now ≡ changed = cc in
+    let found : Some c.entry-node.result.now ≡ Some its = sym c.entry-node.ensures ∙ found_changed c.args.id gone.0 c.args.set nodes now c.self.invariant.0.graph c.set_set-before.ensures.graph gone.1 c.set_set-before.ensures.nodes in
+    let is_changed : c.entry-node.result.now ≡ its = cc in
     let had : Some before ≡ Some gone.0.set = sym c.set_set-before.ensures.before ∙ ap (option_map (λ (n : Node). n.set)) gone.1 in
     let is_before : before ≡ gone.0.set = cc in
     let spare = c.self.invariant.2 in
-    let long = ap length c.set_set-before.ensures.nodes ∙ length-changed changes nodes in
-    let numbers = numbers_left 0 c.self.inside.nodes.numbers c.set_set-before.new.self.numbers _ _ _ _ (omega (arith, c.set_set-before.ensures.numbers)) c.set_set-before.ensures.keys (c.refresh_lacking-2.ensures.marks ∙ c.refresh_lacking.ensures.marks ∙ c.refresh.ensures.marks ∙ c.forget.ensures.marks) in (
+    let long = ap length c.set_set-before.ensures.nodes ∙ length-map nodes (changed changes) in (
       record {
         graph = c.set_set-before.ensures.graph;
         filed = c.exchange.ensures.filed;
@@ -93,12 +80,8 @@ invariant_of-self c =
       order_kept nodes now c.self.inside.order (ap ids_of c.set_set-before.ensures.nodes ∙ ids-changed changes nodes) c.self.invariant.1,
       record {
         places = omega (arith, spare.places, places_kept c.self.inside.order c.self.inside.nodes.numbers c.set_set-before.new.self.numbers c.set_set-before.ensures.numbers);
-        numbers = omega (arith, spare.numbers, numbers);
-        marks = omega (arith, spare.marks, long, c.forget.ensures.room, c.refresh.ensures.room, c.refresh_lacking.ensures.room, c.refresh_lacking-2.ensures.room);
+        numbers = omega (arith, spare.numbers, c.set_set-before.ensures.numbers);
+        marks = λ some. omega (arith, spare.marks some, c.set_set-before.ensures.keys, c.refresh_lacking-2.ensures.marks, c.refresh_lacking.ensures.marks, c.refresh.ensures.marks, c.forget.ensures.marks);
+        room = omega (arith, spare.room, long, c.forget.ensures.room, c.refresh.ensures.room, c.refresh_lacking.ensures.room, c.refresh_lacking-2.ensures.room);
       },
     )
-
-pub returns-clause-places : goal.returns-clause-places
-returns-clause-places c =
-    let was = ap (λ (stock : NodeStock). stock.places) c.self.view_is in
-    omega (arith, was, places_kept c.self.inside.order c.self.inside.nodes.numbers c.set_set-before.new.self.numbers c.set_set-before.ensures.numbers)

@@ -1,8 +1,5 @@
-use Rattle.std.proofs.Common.{◌∙◌, List, None, ap}
-use Rattle.std.specs.Prelude.{slice_get}
-use Rattle.kdg_graph.specs.declared.node_id.NodeId.{NodeId}
-use Rattle.kdg_graph.specs.NodeStock.{NodeStock}
-use Rattle.kdg_graph.specs.Nodes.{least_of}
+use Rattle.std.proofs.Common.{◌∙◌, List, None, ap, slice_get}
+use Rattle.kdg_graph.proofs.Common.{NodeId, NodeStock, least_of}
 use Rattle.kdg_graph.proofs.Left.{least_left, left_at_start, settled_first}
 use Rattle.kdg_graph.proofs.node_list.NodeList.least.Goals as goal
 

@@ -1,21 +1,9 @@
-use Rattle.std.proofs.Common.{◌≡◌, ◌<◌, ◌≤◌, ◌∙◌, Bool, true, false, List, [], ◌∷◌, Option, ap, length, refl, subst, sym, arith}
-use Rattle.std.specs.Prelude.{IfSome}
-use Rattle.std.specs.List.{AllByRecursion}
-use Rattle.kdg_graph.specs.declared.node_id.NodeId.{NodeId}
-use Rattle.kdg_graph.specs.Node.{Node, new_node}
-use Rattle.kdg_graph.specs.NodeStock.{NodeStock}
-use Rattle.kdg_graph.specs.Nodes.{HaveOwnIds, ids_of, node_at}
-use Rattle.kdg_graph.specs.Edges.{is_blocked}
-use Rattle.kdg_graph.specs.Kept.{IsOrder}
-use Rattle.kdg_graph.specs.Fronts.{fronts_after}
-use Rattle.kdg_graph.specs.Locations.{AreFiled, HasRoom, rooms_of}
-use Rattle.kdg_graph.specs.Rewrite.{without}
-use Rattle.kdg_graph.specs.Selected.{AreSelected, forgotten, is_unblocked, listed_in, refreshed}
-use Rattle.kdg_graph.proofs.Carried.{listed_put, some_put}
+use Rattle.std.proofs.Common.{◌≡◌, ◌<◌, ◌≤◌, ◌∙◌, Bool, true, false, List, [], ◌∷◌, Option, ap, length, subst, sym, arith, IfSome}
+use Rattle.kdg_graph.proofs.Common.{AllByRecursion, NodeId, Node, new_node, NodeStock, HaveOwnIds, ids_of, node_at, is_blocked, IsOrder, fronts_after, AreFiled, HasRoom, rooms_of, without, AreSelected, forgotten, is_unblocked, listed_in, refreshed}
+use Rattle.kdg_graph.proofs.Listed.{listed_put, some_put}
 use Rattle.kdg_graph.proofs.LookUps.{ids_find_nodes}
 use Rattle.kdg_graph.proofs.Ordered.{place_left}
 use Rattle.kdg_graph.proofs.Selecting.{at_some, but, length-put}
-use Rattle.kdg_graph.proofs.Rooms.{keys_have_marks, numbers_left}
 use Rattle.kdg_graph.proofs.Settling.{fronts_failing, found_put, select_but, settled_put, without_put}
 use Rattle.kdg_graph.proofs.node_list.NodeList.put.Goals as goal
 
@@ -37,8 +25,9 @@ enter-requires-clause-some c =
     let nodes : List Node = c.self.inside.nodes.nodes in
     let node : Node = new_node c.put-id.result c.args.task c.args.set in
     let long = ap length c.put-id.ensures.nodes ∙ length-put node nodes in
-    let keys = keys_have_marks c.self.inside.nodes.numbers c.self.inside.nodes.keys c.self.inside.sources.marks (omega (arith, c.requires.numbers, ap (λ (stock : NodeStock). stock.numbers) c.self.view_is)) in
-    let fits : length c.put-id.new.self.nodes ≤ c.self.inside.sources.room = omega (arith, long, c.requires.marks, ap (λ (stock : NodeStock). stock.marks) c.self.view_is) in
+    let some : 0 < c.self.inside.spare = omega (arith, c.requires.room, ap (λ (stock : NodeStock). stock.room) c.self.view_is) in
+    let keys : c.self.inside.nodes.keys ≤ c.self.inside.sources.marks = c.self.invariant.2.marks some in
+    let fits : length c.put-id.new.self.nodes ≤ c.self.inside.sources.room = omega (arith, long, some, c.self.invariant.2.room) in
     let inside : c.put-id.result.at < c.self.inside.sources.marks = omega (arith, keys, c.put-id.ensures.key, c.put-id.ensures.keys) in
     some_put node nodes c.put-id.new.self.nodes c.self.inside.sources c.put-id.ensures.graph c.put-id.ensures.nodes fits inside c.self.invariant.0.some
 
@@ -63,19 +52,19 @@ invariant_of-self c =
     (node_at now id) node found (c.forget_behind.ensures.ids first (c.enter.ensures.ids (but id (is_unblocked nodes)) others)) fail in
     let spare = c.self.invariant.2 in
     let fewer = c.saturating_sub-self-inside.ensures in
-    let long = ap length c.put-id.ensures.nodes ∙ length-put node nodes in
-    let left_numbers = numbers_left 1 c.self.inside.nodes.numbers c.put-id.new.self.numbers _ _ _ _ c.put-id.ensures.numbers c.put-id.ensures.keys (c.forget_behind.ensures.marks ∙ c.enter.ensures.marks) in (
+    let long = ap length c.put-id.ensures.nodes ∙ length-put node nodes in (
       record {
         graph = c.put-id.ensures.graph;
         filed = c.enter-known.ensures.filed;
         some = c.forget_behind.ensures.some;
-        unblocked_are = settled_put node nodes now [] (is_unblocked nodes) (listed_in now c.forget_behind.new.self) c.self.invariant.0.graph.ascending c.put-id.ensures.graph c.put-id.ensures.nodes (λ n _ _. refl) all;
+        unblocked_are = settled_put node nodes now (listed_in now c.forget_behind.new.self) c.self.invariant.0.graph.ascending c.put-id.ensures.graph c.put-id.ensures.nodes all;
       },
       c.enter_order.ensures.order,
       record {
         places = omega (arith, spare.places, fewer, c.enter_order.ensures.places c.self.inside.nodes.numbers c.put-id.new.self.numbers c.put-id.ensures.numbers);
-        numbers = omega (arith, spare.numbers, fewer, left_numbers);
-        marks = omega (arith, spare.marks, fewer, long, c.enter.ensures.room, c.forget_behind.ensures.room);
+        numbers = omega (arith, spare.numbers, fewer, c.put-id.ensures.numbers);
+        marks = λ some. omega (arith, spare.marks (omega (arith, some, fewer)), c.put-id.ensures.keys, c.forget_behind.ensures.marks, c.enter.ensures.marks);
+        room = omega (arith, spare.room, fewer, long, c.enter.ensures.room, c.forget_behind.ensures.room);
       },
     )
 
@@ -88,16 +77,4 @@ enter_order-requires-clause-others c =
 
 pub enter_order-requires-clause-room : goal.enter_order-requires-clause-room
 enter_order-requires-clause-room c =
-    let was = ap (λ (stock : NodeStock). stock.places) c.self.view_is in
-    place_left c.self.inside.order c.self.inside.nodes.numbers (omega (arith, was, c.requires.places))
-
-pub returns-clause-places : goal.returns-clause-places
-returns-clause-places c =
-    let was = ap (λ (stock : NodeStock). stock.places) c.self.view_is in
-    omega (arith, was, c.enter_order.ensures.places c.self.inside.nodes.numbers c.put-id.new.self.numbers c.put-id.ensures.numbers)
-
-pub returns-clause-marks : goal.returns-clause-marks
-returns-clause-marks c =
-    let long = ap length c.put-id.ensures.nodes ∙ length-put (new_node c.put-id.result c.args.task c.args.set) c.self.inside.nodes.nodes in
-    let marks = ap (λ (stock : NodeStock). stock.marks) c.self.view_is in
-    omega (arith, long, marks, c.requires.marks, c.enter.ensures.room, c.forget_behind.ensures.room)
+    place_left c.self.inside.order c.self.inside.nodes.numbers (omega (arith, c.requires.room, ap (λ (stock : NodeStock). stock.room) c.self.view_is, c.self.invariant.2.places))

@@ -1,12 +1,6 @@
 use Rattle.std.proofs.Common.{◌≡◌, ◌∷◌, List, ap, subst, sym, length, arith}
-use Rattle.std.specs.List.{AllByRecursion}
-use Rattle.std.specs.Vec.Iter.{drain_items}
-use Rattle.kdg_graph.specs.declared.change.Fresh.{Fresh}
-use Rattle.kdg_graph.specs.Node.{Node}
-use Rattle.kdg_graph.specs.Nodes.{tasks_of}
-use Rattle.kdg_graph.specs.Rewrite.{AreAdded, HaveNewKeys}
-use Rattle.kdg_graph.proofs.Rewriting.{added_first, new_keys_rest}
-use Rattle.kdg_graph.specs.Locations.{HasRoom}
+use Rattle.kdg_graph.proofs.Common.{AllByRecursion, drain_items, Fresh, Node, tasks_of, AreAdded, HaveNewKeys, HasRoom}
+use Rattle.kdg_graph.proofs.Rewrites.{added_first, new_keys_rest}
 use Rattle.kdg_graph.proofs.Rooms.{all_left, first_room}
 use Rattle.kdg_graph.proofs.node_list.NodeList.put_all.Goals as goal
 
@@ -23,9 +17,7 @@ loop-item-preserved c =
     let short = ap length steps in
     record {
       len = omega arith;
-      places = omega arith;
-      numbers = omega arith;
-      marks = omega arith;
+      room = omega arith;
       rooms = all_left (λ (x : Fresh). x.set) (length (item ∷ rest)) rest at.self.rooms c.put.new.self.rooms c.put.ensures.rooms (omega arith) room.1;
       graph = c.put.ensures.graph;
       new = subst (λ (l : List Node). HaveNewKeys (tasks_of l) rest) (sym c.put.ensures.nodes) (new_keys_rest item rest at.self.nodes c.put.result keys);

@@ -1,20 +1,13 @@
 use Rattle.std.proofs.Common.{◌≡◌, ◌≤◌, List, length}
-use Rattle.std.specs.Vec.Iter.{drain_items, drain_len}
-use Rattle.std.specs.List.{AllByRecursion}
-use Rattle.kdg_graph.specs.Locations.{HasRoom}
-use Rattle.kdg_graph.specs.Node.{Node}
-use Rattle.kdg_graph.specs.Nodes.{IsGraph, tasks_of}
-use Rattle.kdg_graph.specs.Rewrite.{AreAdded, HaveNewKeys}
+use Rattle.kdg_graph.proofs.Common.{drain_items, drain_len, AllByRecursion, HasRoom, Node, IsGraph, tasks_of, AreAdded, HaveNewKeys}
 use Rattle.kdg_graph.proofs.node_list.NodeList.put_all.Given as goal
 
 -- whoever adds what is left adds all
 abbrev pub invariant-loop-item : goal.invariant-loop-item
 invariant-loop-item l = record {
   len : drain_len l.item-iterator ≡ length (drain_items l.item-iterator);
-  places : length (drain_items l.item-iterator) ≤ l.self.places;
-  numbers : length (drain_items l.item-iterator) ≤ l.self.numbers;
+  room : length (drain_items l.item-iterator) ≤ l.self.room;
   rooms : AllByRecursion (λ item. HasRoom (length (drain_items l.item-iterator)) item.set l.self.rooms) (drain_items l.item-iterator);
-  marks : length (drain_items l.item-iterator) ≤ l.self.marks;
   graph : IsGraph l.self.nodes;
   new : HaveNewKeys (tasks_of l.self.nodes) (drain_items l.item-iterator);
   added : (now : List Node) → AreAdded l.self.nodes (drain_items l.item-iterator) now → AreAdded l.initial.self.nodes (drain_items l.initial.item-iterator) now;

@@ -1,19 +1,8 @@
-use Rattle.std.proofs.Common.{◌≡◌, ◌∙◌, ℕ, List, [], Some, false, true, ap, length, subst, sym, arith}
-use Rattle.std.specs.List.{AllByRecursion}
-use Rattle.std.specs.Option.{option_map}
-use Rattle.rw_sets.specs.declared.access.Access.{Access}
-use Rattle.kdg_graph.specs.Lanes.{IsRankPast}
-use Rattle.kdg_graph.specs.Node.{Node}
-use Rattle.kdg_graph.specs.NodeStock.{NodeStock}
-use Rattle.kdg_graph.specs.Nodes.{node_at, task_at}
-use Rattle.kdg_graph.specs.Kept.{IsOrder}
-use Rattle.kdg_graph.specs.Locations.{AreFiled, clashing_at}
-use Rattle.kdg_graph.specs.Rewrite.{without}
-use Rattle.kdg_graph.specs.Selected.{AreSelected, is_unblocked, listed_in}
-use Rattle.kdg_graph.proofs.Carried.{listed_without, number_listed, some_without}
-use Rattle.kdg_graph.proofs.Leaving.{unblocked_leads}
+use Rattle.std.proofs.Common.{◌≡◌, ◌∙◌, ℕ, List, [], Some, false, true, ap, length, subst, sym, arith, option_map}
+use Rattle.kdg_graph.proofs.Common.{AllByRecursion, Access, IsRankPast, Node, NodeStock, node_at, task_at, IsOrder, AreFiled, clashing_at, without, AreSelected, is_unblocked, listed_in}
+use Rattle.kdg_graph.proofs.Arriving.{unblocked_leads}
+use Rattle.kdg_graph.proofs.Listed.{listed_without, number_listed, some_without}
 use Rattle.kdg_graph.proofs.Ordered.{length-without}
-use Rattle.kdg_graph.proofs.Rooms.{numbers_left}
 use Rattle.kdg_graph.proofs.Selecting.{at_some}
 use Rattle.kdg_graph.proofs.Settling.{select_left, settled_without}
 use Rattle.kdg_graph.proofs.node_list.NodeList.remove.Goals as goal
@@ -56,8 +45,7 @@ invariant_of-self c =
     let others = subst (λ (l : List Node). AreSelected l (is_unblocked nodes) (listed_in after c.forget.new.self)) (sym now) (same ∙ left) in
     let spare = c.self.invariant.2 in
     let fewer = ap length now in
-    let one = length-without c.args.id nodes c.remove-node.result c.self.invariant.0.graph c.remove-node.ensures.node in
-    let numbers = numbers_left 0 c.self.inside.nodes.numbers c.remove-node.new.self.numbers _ _ _ _ (omega (arith, c.remove-node.ensures.numbers)) c.remove-node.ensures.keys (c.refresh_behind.ensures.marks ∙ c.forget.ensures.marks) in (
+    let one = length-without c.args.id nodes c.remove-node.result c.self.invariant.0.graph c.remove-node.ensures.node in (
       record {
         graph = c.remove-node.ensures.graph;
         filed = subst (λ (l : List Node). AreFiled l c.leave-left.new.self.locations.items) (sym now) c.leave-left.ensures.filed;
@@ -67,8 +55,9 @@ invariant_of-self c =
       subst (λ (l : List Node). IsOrder l c.leave_order.new.order) (sym now) c.leave_order.ensures.order,
       record {
         places = omega (arith, spare.places, c.leave_order.ensures.places c.self.inside.nodes.numbers c.remove-node.new.self.numbers c.remove-node.ensures.numbers);
-        numbers = omega (arith, spare.numbers, numbers);
-        marks = omega (arith, spare.marks, fewer, one, c.self.invariant.0.some.room, c.forget.ensures.room, c.refresh_behind.ensures.room);
+        numbers = omega (arith, spare.numbers, c.remove-node.ensures.numbers);
+        marks = λ some. omega (arith, spare.marks some, c.remove-node.ensures.keys, c.refresh_behind.ensures.marks, c.forget.ensures.marks);
+        room = omega (arith, spare.room, fewer, one, c.self.invariant.0.some.room, c.forget.ensures.room, c.refresh_behind.ensures.room);
       },
     )
 
@@ -80,15 +69,3 @@ returns-clause-task c =
 
 pub returns-clause-nodes : goal.returns-clause-nodes
 returns-clause-nodes c = c.remove-node.ensures.nodes ∙ ap (λ (stock : NodeStock). without c.args.id stock.nodes) c.self.view_is
-
-pub returns-clause-places : goal.returns-clause-places
-returns-clause-places c =
-    let was = ap (λ (stock : NodeStock). stock.places) c.self.view_is in
-    omega (arith, was, c.leave_order.ensures.places c.self.inside.nodes.numbers c.remove-node.new.self.numbers c.remove-node.ensures.numbers)
-
-pub returns-clause-marks : goal.returns-clause-marks
-returns-clause-marks c =
-    let fewer = ap length c.remove-node.ensures.nodes in
-    let one = length-without c.args.id c.self.inside.nodes.nodes c.remove-node.result c.self.invariant.0.graph c.remove-node.ensures.node in
-    let was = ap (λ (stock : NodeStock). stock.marks) c.self.view_is in
-    omega (arith, fewer, one, was, c.self.invariant.0.some.room, c.forget.ensures.room, c.refresh_behind.ensures.room)

@@ -1,8 +1,5 @@
-use Rattle.std.proofs.Common.{◌≡◌, ◌∙◌, List, Some, ap, sym}
-use Rattle.std.specs.Prelude.{IsTrue}
-use Rattle.rw_sets.specs.Accesses.{same_accesses}
-use Rattle.kdg_graph.specs.Node.{Node}
-use Rattle.kdg_graph.specs.Nodes.{node_at}
+use Rattle.std.proofs.Common.{◌≡◌, ◌∙◌, List, Some, ap, sym, IsTrue}
+use Rattle.kdg_graph.proofs.Common.{same_accesses, Node, node_at}
 use Rattle.kdg_graph.proofs.Settling.{same_set_changes_none}
 use Rattle.kdg_graph.proofs.node_list.NodeList.set_set.Goals as goal
 

@@ -1,12 +1,6 @@
 use Rattle.std.proofs.Common.{◌≡◌, ◌∷◌, [], ◌∙◌, List, ap, subst, sym, length, arith}
-use Rattle.std.specs.List.{AllByRecursion}
-use Rattle.std.specs.Vec.Iter.{into_iter_items}
-use Rattle.kdg_graph.specs.declared.change.SetChange.{SetChange}
-use Rattle.kdg_graph.specs.Node.{Node}
-use Rattle.kdg_graph.specs.Nodes.{HasNode}
-use Rattle.kdg_graph.specs.Rewrite.{AreOfOwnNodes, with_sets}
-use Rattle.kdg_graph.proofs.Rewriting.{all_have_with_sets, nothing_left, with_no_sets, with_sets-cons}
-use Rattle.kdg_graph.specs.Locations.{HasRoom}
+use Rattle.kdg_graph.proofs.Common.{AllByRecursion, into_iter_items, SetChange, Node, HasNode, AreOfOwnNodes, with_sets, HasRoom}
+use Rattle.kdg_graph.proofs.Rewrites.{all_have_with_sets, nothing_left, with_no_sets, with_sets-cons}
 use Rattle.kdg_graph.proofs.Rooms.{all_left, first_room}
 use Rattle.kdg_graph.proofs.node_list.NodeList.set_sets.Goals as goal
 
@@ -27,10 +21,8 @@ loop-change-preserved c =
       there = subst (λ (l : List Node). AllByRecursion (λ (other : SetChange). HasNode l other.node) rest) (sym c.set_set.ensures.nodes) (all_have_with_sets (change ∷ []) rest at.self.nodes there.1);
       own = own.1;
       nodes = at.invariant.nodes ∙ ap (λ l. with_sets l at.self.nodes) steps ∙ with_sets-cons change rest at.self.nodes own.0 ∙ ap (with_sets rest) (sym c.set_set.ensures.nodes);
-      places = omega arith;
       graph = c.set_set.ensures.graph;
-      numbers = omega arith;
-      marks = omega arith;
+      room = omega arith;
       rooms = all_left (λ (x : SetChange). x.set) (length (change ∷ rest)) rest at.self.rooms c.set_set.new.self.rooms c.set_set.ensures.rooms (omega arith) room.1;
       taken = λ loc. omega (arith, at.invariant.taken loc, c.set_set.ensures.rooms loc, short);
     }

@@ -1,9 +1,5 @@
 use Rattle.std.proofs.Common.{◌≡◌, ◌≤◌, ◌+◌, ℕ, length}
-use Rattle.std.specs.List.{AllByRecursion}
-use Rattle.std.specs.Vec.Iter.{into_iter_items, into_iter_len}
-use Rattle.kdg_graph.specs.Locations.{HasRoom, room_at}
-use Rattle.kdg_graph.specs.Nodes.{HasNode, IsGraph}
-use Rattle.kdg_graph.specs.Rewrite.{AreOfOwnNodes, with_sets}
+use Rattle.kdg_graph.proofs.Common.{AllByRecursion, into_iter_items, into_iter_len, HasRoom, room_at, HasNode, IsGraph, AreOfOwnNodes, with_sets}
 use Rattle.kdg_graph.proofs.node_list.NodeList.set_sets.Given as goal
 
 -- what is left makes the whole change
@@ -13,10 +9,8 @@ invariant-loop-change l = record {
   there : AllByRecursion (λ change. HasNode l.self.nodes change.node) (into_iter_items l.change-iterator);
   own : AreOfOwnNodes (into_iter_items l.change-iterator);
   nodes : with_sets (into_iter_items l.initial.change-iterator) l.initial.self.nodes ≡ with_sets (into_iter_items l.change-iterator) l.self.nodes;
-  places : l.initial.self.places ≤ l.self.places;
   graph : IsGraph l.self.nodes;
-  numbers : l.initial.self.numbers ≤ l.self.numbers;
   rooms : AllByRecursion (λ change. HasRoom (length (into_iter_items l.change-iterator)) change.set l.self.rooms) (into_iter_items l.change-iterator);
   taken : (loc : ℕ) → room_at l.initial.self.rooms loc + length (into_iter_items l.change-iterator) ≤ room_at l.self.rooms loc + length (into_iter_items l.initial.change-iterator);
-  marks : l.initial.self.marks ≤ l.self.marks;
+  room : l.initial.self.room ≤ l.self.room;
 }

@@ -1,10 +1,6 @@
 use Rattle.std.proofs.Common.{◌≡◌, ◌∙◌, None, Some, ap}
-use Rattle.std.specs.Option.{option_cmp}
-use Rattle.task_order.specs.Key.{key_cmp}
-use Rattle.kdg_graph.specs.Node.{Node}
-use Rattle.kdg_graph.specs.NodeStock.{NodeShelf}
-use Rattle.kdg_graph.specs.Selected.{key_at}
-use Rattle.kdg_graph.proofs.Sought.{key_kept}
+use Rattle.kdg_graph.proofs.Common.{option_cmp, key_cmp, Node, NodeShelf, key_at}
+use Rattle.kdg_graph.proofs.Searches.{key_kept}
 use Rattle.kdg_graph.proofs.ordered_nodes.OrderedNodes.compare_keys.Goals as goal
 
 pub returns-in-Some-Some : goal.returns-in-Some-Some

@@ -1,12 +1,9 @@
-use Rattle.std.proofs.Common.{rules, ◌≡◌, ◌∙◌, List, [], Some, true, false, cond, ap, sym}
-use Rattle.std.specs.List.{filter}
-use Rattle.kdg_graph.specs.declared.node_id.NodeId.{NodeId}
-use Rattle.kdg_graph.specs.Node.{Node}
-use Rattle.kdg_graph.specs.Nodes.{least_of, node_at}
+use Rattle.std.proofs.Common.{rules, ◌≡◌, ◌∙◌, List, [], Some, true, false, cond, ap, sym, filter}
+use Rattle.kdg_graph.proofs.Common.{NodeId, Node, least_of, node_at}
 use Rattle.kdg_graph.proofs.Earliest.{either_first, either_none, first_is_node, other_none}
 use Rattle.kdg_graph.proofs.Fronting.{none_first}
+use Rattle.kdg_graph.proofs.KeyOrder.{is_before}
 use Rattle.kdg_graph.proofs.LookUps.{ids_find_nodes}
-use Rattle.kdg_graph.proofs.Ordering.{is_before}
 use Rattle.kdg_graph.proofs.ordered_nodes.OrderedNodes.earlier.Goals as goal
 
 pub returns-in_default : goal.returns-in_default

@@ -1,7 +1,6 @@
 use Rattle.std.proofs.Common.{◌∙◌, ap, subst, sym}
-use Rattle.kdg_graph.specs.Nodes.{HasNode, node_at}
-use Rattle.kdg_graph.specs.NodeStock.{NodeShelf}
-use Rattle.kdg_graph.proofs.Storing.{entry_of, key_of}
+use Rattle.kdg_graph.proofs.Common.{HasNode, node_at, NodeShelf}
+use Rattle.kdg_graph.proofs.Stored.{entry_of, key_of}
 use Rattle.kdg_graph.proofs.ordered_nodes.OrderedNodes.entry.Goals as goal
 
 pub index-requires : goal.index-requires

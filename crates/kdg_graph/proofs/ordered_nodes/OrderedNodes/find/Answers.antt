@@ -1,15 +1,8 @@
-use Rattle.std.proofs.Common.{rules, ◌≡◌, ◌∙◌, ℕ, None, Some, ap}
-use Rattle.std.specs.List.{find}
-use Rattle.std.specs.Option.{option_map}
-use Rattle.std.specs.Ordering.{is_eq}
+use Rattle.std.proofs.Common.{rules, ◌≡◌, ◌∙◌, ℕ, None, Some, ap, find, option_map, is_eq}
 use Rattle.std.proofs.lemmas.Iterator.Consumers.{YieldsList-from_first}
 use Rattle.std.proofs.lemmas.Iterator.Search.{find_from_yields_List}
-use Rattle.slab.specs.Slab.{entries}
-use Rattle.task_order.specs.Key.{key_cmp}
-use Rattle.kdg_graph.specs.Node.{Node}
-use Rattle.kdg_graph.specs.Nodes.{node_with_key}
-use Rattle.kdg_graph.specs.NodeStock.{NodeShelf}
-use Rattle.kdg_graph.proofs.Sought.{with_key_stored}
+use Rattle.kdg_graph.proofs.Common.{entries, key_cmp, Node, node_with_key, NodeShelf}
+use Rattle.kdg_graph.proofs.Searches.{with_key_stored}
 use Rattle.kdg_graph.proofs.ordered_nodes.OrderedNodes.find.Goals as goal
 
 pub returns-in_err-node : goal.returns-in_err-node

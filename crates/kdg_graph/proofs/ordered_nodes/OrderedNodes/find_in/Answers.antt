@@ -1,11 +1,6 @@
-use Rattle.std.proofs.Common.{◌≡◌, ◌∙◌, List, ap, sym}
-use Rattle.std.specs.Option.{option_map}
-use Rattle.kdg_graph.specs.Lanes.{IsLane}
-use Rattle.kdg_graph.specs.Node.{Node}
-use Rattle.kdg_graph.specs.Nodes.{ids_of, node_with_key}
-use Rattle.kdg_graph.specs.NodeStock.{NodeShelf}
-use Rattle.kdg_graph.specs.Stored.{nodes_of}
-use Rattle.kdg_graph.proofs.Sought.{id_found_at, none_at_gap}
+use Rattle.std.proofs.Common.{◌≡◌, ◌∙◌, List, ap, sym, option_map}
+use Rattle.kdg_graph.proofs.Common.{IsLane, Node, ids_of, node_with_key, NodeShelf, nodes_of}
+use Rattle.kdg_graph.proofs.Searches.{id_found_at, none_at_gap}
 use Rattle.kdg_graph.proofs.ordered_nodes.OrderedNodes.find_in.Goals as goal
 
 pub returns-in-Ok : goal.returns-in-Ok

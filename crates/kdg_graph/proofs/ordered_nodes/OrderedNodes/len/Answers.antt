@@ -1,7 +1,6 @@
 use Rattle.std.proofs.Common.{◌∙◌, ap, length, subst}
-use Rattle.kdg_graph.specs.Nodes.{IsGraph}
-use Rattle.kdg_graph.specs.NodeStock.{NodeShelf}
-use Rattle.kdg_graph.proofs.InOrder.{length_stored}
+use Rattle.kdg_graph.proofs.Common.{IsGraph, NodeShelf}
+use Rattle.kdg_graph.proofs.Stored.{length_stored}
 use Rattle.kdg_graph.proofs.ordered_nodes.OrderedNodes.len.Goals as goal
 
 pub returns-clause-len : goal.returns-clause-len

@@ -1,9 +1,6 @@
 use Rattle.std.proofs.Common.{◌≡◌, ◌∙◌, Some, ap, subst, sym}
-use Rattle.slab.specs.Slab.{get}
-use Rattle.kdg_graph.specs.Node.{Node}
-use Rattle.kdg_graph.specs.Nodes.{HasNode, started}
-use Rattle.kdg_graph.specs.NodeStock.{NodeShelf}
-use Rattle.kdg_graph.proofs.Storing.{key_of, started_stored}
+use Rattle.kdg_graph.proofs.Common.{get, Node, HasNode, started, NodeShelf}
+use Rattle.kdg_graph.proofs.Stored.{key_of, started_stored}
 use Rattle.kdg_graph.proofs.ordered_nodes.OrderedNodes.mark_running.Goals as goal
 
 pub index_mut-named-requires : goal.index_mut-named-requires

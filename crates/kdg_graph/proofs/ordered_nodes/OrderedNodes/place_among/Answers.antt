@@ -1,14 +1,8 @@
-use Rattle.std.proofs.Common.{◌≡◌, ◌∙◌, List, Ok, Option, Some, ap, subst, sym}
-use Rattle.std.specs.Prelude.{IfSome}
-use Rattle.kdg_graph.specs.declared.node_id.NodeId.{NodeId}
-use Rattle.kdg_graph.specs.Lanes.{IsSearched}
-use Rattle.kdg_graph.specs.Locations.{IsLaneAmong}
-use Rattle.kdg_graph.specs.Node.{Node}
-use Rattle.kdg_graph.specs.Nodes.{node_at}
-use Rattle.kdg_graph.specs.NodeStock.{NodeShelf}
-use Rattle.kdg_graph.proofs.Among.{lane_of_among}
+use Rattle.std.proofs.Common.{◌≡◌, ◌∙◌, List, Ok, Option, Some, ap, subst, sym, IfSome}
+use Rattle.kdg_graph.proofs.Common.{NodeId, IsSearched, IsLaneAmong, Node, node_at, NodeShelf}
+use Rattle.kdg_graph.proofs.Lanes.{lane_of_among}
+use Rattle.kdg_graph.proofs.Searches.{found_at_id, inside_at}
 use Rattle.kdg_graph.proofs.Selecting.{found_node}
-use Rattle.kdg_graph.proofs.Sought.{found_at_id, inside_at}
 use Rattle.kdg_graph.proofs.ordered_nodes.OrderedNodes.place_among.Goals as goal
 
 pub returns-in-Some-clause-found : goal.returns-in-Some-clause-found

@@ -1,13 +1,8 @@
 use Rattle.std.proofs.Common.{◌≡◌, ◌∙◌, ◌-◌, ◌^◌, ◌<◌, ap, arith, bit_and, subst, sym}
-use Rattle.slab.specs.Slab.{slab_len}
-use Rattle.task_order.specs.TaskList.{IsNewKey}
-use Rattle.kdg_graph.specs.Node.{Node, new_node}
-use Rattle.kdg_graph.specs.Nodes.{put_node, tasks_of}
-use Rattle.kdg_graph.specs.NodeStock.{NodeShelf}
-use Rattle.kdg_graph.specs.Stored.{nodes_of}
-use Rattle.kdg_graph.proofs.Rewritten.{there_by_put}
+use Rattle.kdg_graph.proofs.Common.{slab_len, IsNewKey, Node, new_node, put_node, tasks_of, NodeShelf, nodes_of}
+use Rattle.kdg_graph.proofs.Rewrites.{there_by_put}
 use Rattle.kdg_graph.proofs.Rooms.{key_is_id}
-use Rattle.kdg_graph.proofs.Storing.{put_stored}
+use Rattle.kdg_graph.proofs.Stored.{put_stored}
 use Rattle.kdg_graph.proofs.ordered_nodes.OrderedNodes.put.Goals as goal
 
 pub invariant_of-self : goal.invariant_of-self

@@ -1,10 +1,6 @@
-use Rattle.std.proofs.Common.{◌≡◌, ◌∙◌, Option, Some, ap, subst, sym}
-use Rattle.std.specs.Prelude.{IfSome}
-use Rattle.std.specs.List.{insert}
-use Rattle.kdg_graph.specs.Lanes.{IsRank}
-use Rattle.kdg_graph.specs.Node.{Node}
-use Rattle.kdg_graph.specs.Nodes.{ids_of, node_at, put_node}
-use Rattle.kdg_graph.proofs.Among.{filed}
+use Rattle.std.proofs.Common.{◌≡◌, ◌∙◌, Option, Some, ap, subst, sym, IfSome, insert}
+use Rattle.kdg_graph.proofs.Common.{IsRank, Node, ids_of, node_at, put_node}
+use Rattle.kdg_graph.proofs.Lanes.{filed}
 use Rattle.kdg_graph.proofs.LookUps.{ids_find_nodes}
 use Rattle.kdg_graph.proofs.ordered_nodes.OrderedNodes.put_among.Goals as goal
 

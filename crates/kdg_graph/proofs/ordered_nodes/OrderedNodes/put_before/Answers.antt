@@ -1,22 +1,12 @@
-use Rattle.std.proofs.Common.{◌≡◌, ◌≤◌, ◌∙◌, ℕ, List, Option, Some, ap, arith, get_or, length, refl, subst, sym}
-use Rattle.std.specs.Prelude.{IfSome}
-use Rattle.std.specs.List.{insert}
-use Rattle.std.specs.declared.cmp.Ordering.TheVariants.{Greater}
+use Rattle.std.proofs.Common.{◌≡◌, ◌≤◌, ◌∙◌, ℕ, List, Option, Some, ap, arith, get_or, length, refl, subst, sym, IfSome, insert, Greater}
 use Rattle.std.proofs.lemmas.List.Edits.{get_or-insert_at}
-use Rattle.std.proofs.lemmas.Option.{slice_get_read}
-use Rattle.kdg_graph.specs.declared.node_id.NodeId.{NodeId}
-use Rattle.kdg_graph.specs.Lanes.{AreLater, IsLane, IsRank, cmp_at}
-use Rattle.kdg_graph.specs.Locations.{IsLaneAmong}
-use Rattle.kdg_graph.specs.Node.{Node}
-use Rattle.kdg_graph.specs.Nodes.{ids_of, node_at, put_node}
-use Rattle.kdg_graph.specs.NodeStock.{NodeShelf}
-use Rattle.kdg_graph.proofs.Among.{filed, lane_of_among}
+use Rattle.kdg_graph.proofs.Common.{slice_get_read, NodeId, AreLater, IsLane, IsRank, cmp_at, IsLaneAmong, Node, ids_of, node_at, put_node, NodeShelf}
+use Rattle.kdg_graph.proofs.Lanes.{filed, lane_of_among}
 use Rattle.kdg_graph.proofs.LookUps.{ids_find_nodes}
-use Rattle.kdg_graph.proofs.Searching.{none_earlier}
+use Rattle.kdg_graph.proofs.Searches.{none_earlier, later_stored}
 use Rattle.kdg_graph.proofs.Selecting.{at_some, found_node}
-use Rattle.kdg_graph.proofs.Sought.{later_stored}
-use Rattle.kdg_graph.proofs.ordered_nodes.OrderedNodes.put_before.Goals as goal
 use Rattle.kdg_graph.proofs.ordered_nodes.OrderedNodes.put_before.Goals.{then-end-eq0, else-end-eq0}
+use Rattle.kdg_graph.proofs.ordered_nodes.OrderedNodes.put_before.Goals as goal
 
 known : (c : goal.After-behind-self) → AreLater c.args.self.now.nodes c.behind-self.inside.task.key c.args.lane.now.ids.items c.args.end
 known c =

@@ -1,10 +1,5 @@
-use Rattle.std.proofs.Common.{◌≡◌, ◌∙◌, List, [], ◌∷◌, Option, ap, arith, subst, sym}
-use Rattle.std.specs.Prelude.{IfSome}
-use Rattle.std.specs.List.{insert}
-use Rattle.std.proofs.lemmas.List.{nil_from_length}
-use Rattle.kdg_graph.specs.declared.node_id.NodeId.{NodeId}
-use Rattle.kdg_graph.specs.Node.{Node}
-use Rattle.kdg_graph.specs.Nodes.{ids_of, put_node}
+use Rattle.std.proofs.Common.{◌≡◌, ◌∙◌, List, [], ◌∷◌, Option, ap, arith, subst, sym, IfSome, insert}
+use Rattle.kdg_graph.proofs.Common.{nil_from_length, NodeId, Node, ids_of, put_node}
 use Rattle.kdg_graph.proofs.Filing.{no_ids}
 use Rattle.kdg_graph.proofs.LookUps.{ids_find_nodes}
 use Rattle.kdg_graph.proofs.Selecting.{found_node}

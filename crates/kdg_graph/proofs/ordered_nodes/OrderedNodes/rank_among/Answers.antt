@@ -1,7 +1,6 @@
 use Rattle.std.proofs.Common.{subst, sym}
-use Rattle.kdg_graph.specs.Locations.{IsLaneAmong}
-use Rattle.kdg_graph.specs.NodeStock.{NodeShelf}
-use Rattle.kdg_graph.proofs.Among.{lane_of_among}
+use Rattle.kdg_graph.proofs.Common.{IsLaneAmong, NodeShelf}
+use Rattle.kdg_graph.proofs.Lanes.{lane_of_among}
 use Rattle.kdg_graph.proofs.ordered_nodes.OrderedNodes.rank_among.Goals as goal
 
 pub returns-clause-rank : goal.returns-clause-rank

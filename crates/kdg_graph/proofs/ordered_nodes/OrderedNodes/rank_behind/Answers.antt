@@ -1,13 +1,8 @@
-use Rattle.std.proofs.Common.{◌≡◌, ◌+◌, ◌<◌, ◌∙◌, add-one, arith, length, List, Option, Some, ap, subst, sym}
-use Rattle.std.specs.Prelude.{IfSome}
-use Rattle.kdg_graph.specs.Lanes.{IsRankPast}
-use Rattle.kdg_graph.specs.Locations.{IsLaneAmong}
-use Rattle.kdg_graph.specs.Node.{Node}
-use Rattle.kdg_graph.specs.Nodes.{node_at}
-use Rattle.kdg_graph.specs.NodeStock.{NodeShelf}
-use Rattle.kdg_graph.proofs.Among.{lane_of_among}
+use Rattle.std.proofs.Common.{◌≡◌, ◌+◌, ◌<◌, ◌∙◌, add-one, arith, length, List, Option, Some, ap, subst, sym, IfSome}
+use Rattle.kdg_graph.proofs.Common.{IsRankPast, IsLaneAmong, Node, node_at, NodeShelf}
+use Rattle.kdg_graph.proofs.Lanes.{lane_of_among}
+use Rattle.kdg_graph.proofs.Searches.{found_at_id, inside_at, past_found}
 use Rattle.kdg_graph.proofs.Selecting.{found_node}
-use Rattle.kdg_graph.proofs.Sought.{found_at_id, inside_at, past_found}
 use Rattle.kdg_graph.proofs.ordered_nodes.OrderedNodes.rank_behind.Goals as goal
 
 pub overflow_add-result : goal.overflow_add-result

@@ -1,8 +1,6 @@
 use Rattle.std.proofs.Common.{◌∙◌, ap, subst, sym}
-use Rattle.kdg_graph.specs.Nodes.{HasNode, node_at}
-use Rattle.kdg_graph.specs.NodeStock.{NodeShelf}
-use Rattle.kdg_graph.specs.Rewrite.{without}
-use Rattle.kdg_graph.proofs.Storing.{entry_of, key_of, removed_stored}
+use Rattle.kdg_graph.proofs.Common.{HasNode, node_at, NodeShelf, without}
+use Rattle.kdg_graph.proofs.Stored.{entry_of, key_of, removed_stored}
 use Rattle.kdg_graph.proofs.ordered_nodes.OrderedNodes.remove.Goals as goal
 
 pub remove-requires : goal.remove-requires

@@ -1,7 +1,6 @@
 use Rattle.std.proofs.Common.{ap}
-use Rattle.slab.specs.Slab.{Slab}
-use Rattle.kdg_graph.specs.Node.{Node}
-use Rattle.kdg_graph.proofs.Storing.{room_stored}
+use Rattle.kdg_graph.proofs.Common.{Slab, Node}
+use Rattle.kdg_graph.proofs.Stored.{room_stored}
 use Rattle.kdg_graph.proofs.ordered_nodes.OrderedNodes.reserve.Goals as goal
 
 pub invariant_of-self : goal.invariant_of-self

@@ -1,9 +1,7 @@
 use Rattle.std.proofs.Common.{rules, ◌≡◌, ◌∙◌, ℕ, ap, filter, length}
 use Rattle.std.proofs.lemmas.Iterator.Consumers.{YieldsList-from_filter, YieldsList-from_first, count_from_yields_List}
-use Rattle.slab.specs.Slab.{entries}
-use Rattle.kdg_graph.specs.Node.{Node}
-use Rattle.kdg_graph.specs.NodeStock.{NodeShelf}
-use Rattle.kdg_graph.proofs.InOrder.{count_stored}
+use Rattle.kdg_graph.proofs.Common.{entries, Node, NodeShelf}
+use Rattle.kdg_graph.proofs.Stored.{count_stored}
 use Rattle.kdg_graph.proofs.ordered_nodes.OrderedNodes.running_len.Goals as goal
 
 pub returns : goal.returns

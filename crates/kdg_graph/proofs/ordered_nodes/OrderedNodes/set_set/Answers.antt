@@ -1,13 +1,6 @@
-use Rattle.std.proofs.Common.{rules, ◌≡◌, ◌∙◌, [], ◌∷◌, Some, ap, subst, sym}
-use Rattle.slab.specs.Slab.{get, with_value}
-use Rattle.std.specs.Option.{option_map}
-use Rattle.rw_sets.specs.Accesses.{Accesses}
-use Rattle.kdg_graph.specs.Node.{Node}
-use Rattle.kdg_graph.specs.Nodes.{HasNode, set_at}
-use Rattle.kdg_graph.specs.NodeStock.{NodeShelf}
-use Rattle.kdg_graph.specs.Rewrite.{with_sets}
-use Rattle.kdg_graph.specs.Stored.{IsStored, nodes_of}
-use Rattle.kdg_graph.proofs.Storing.{entry_of, key_of, with_set_stored}
+use Rattle.std.proofs.Common.{rules, ◌≡◌, ◌∙◌, [], ◌∷◌, Some, ap, subst, sym, option_map}
+use Rattle.kdg_graph.proofs.Common.{get, with_value, Accesses, Node, HasNode, set_at, NodeShelf, with_sets, IsStored, nodes_of}
+use Rattle.kdg_graph.proofs.Stored.{entry_of, key_of, with_set_stored}
 use Rattle.kdg_graph.proofs.ordered_nodes.OrderedNodes.set_set.Goals as goal
 
 pub index_mut-named-requires : goal.index_mut-named-requires

@@ -1,10 +1,7 @@
 use Rattle.std.proofs.Common.{◌∙◌, List, subst, sym}
-use Rattle.kdg_graph.specs.declared.node_id.NodeId.{NodeId}
-use Rattle.kdg_graph.specs.Node.{Node}
-use Rattle.kdg_graph.specs.Nodes.{IsGraph}
-use Rattle.kdg_graph.specs.NodeStock.{NodeShelf}
+use Rattle.kdg_graph.proofs.Common.{NodeId, Node, IsGraph, NodeShelf}
+use Rattle.kdg_graph.proofs.Searches.{found_at_id, unfiled_found}
 use Rattle.kdg_graph.proofs.Selecting.{found_node}
-use Rattle.kdg_graph.proofs.Sought.{found_at_id, unfiled_found}
 use Rattle.kdg_graph.proofs.ordered_nodes.OrderedNodes.take_from.Goals as goal
 
 pub returns-then-starts_with-clause-ids : goal.returns-then-starts_with-clause-ids

@@ -1,11 +1,8 @@
-use Rattle.std.proofs.Common.{◌∙◌, List, Option, subst}
-use Rattle.std.specs.Prelude.{IfSome}
-use Rattle.kdg_graph.specs.declared.node_id.NodeId.{NodeId}
-use Rattle.kdg_graph.specs.Lanes.{IsFound, IsGap}
-use Rattle.kdg_graph.specs.Node.{Node}
-use Rattle.kdg_graph.proofs.Among.{not_filed}
+use Rattle.std.proofs.Common.{◌∙◌, List, Option, subst, IfSome}
+use Rattle.kdg_graph.proofs.Common.{NodeId, IsFound, IsGap, Node}
+use Rattle.kdg_graph.proofs.Lanes.{not_filed}
+use Rattle.kdg_graph.proofs.Searches.{id_apart, unfiled_found}
 use Rattle.kdg_graph.proofs.Selecting.{found_node}
-use Rattle.kdg_graph.proofs.Sought.{id_apart, unfiled_found}
 use Rattle.kdg_graph.proofs.ordered_nodes.OrderedNodes.take_within.Goals as goal
 
 pub returns-clause-ids : goal.returns-clause-ids

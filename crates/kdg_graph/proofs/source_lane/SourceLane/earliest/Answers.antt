@@ -1,16 +1,10 @@
-use Rattle.std.proofs.Common.{◌≡◌, ◌∙◌, ◌++◌, ◌&&◌, Bool, List, Some, ap, append-nil, arith, get_or, sym, take}
-use Rattle.std.specs.List.{filter}
-use Rattle.std.proofs.lemmas.List.{take_all}
-use Rattle.kdg_graph.specs.declared.arrival.Arrival.{Arrival}
-use Rattle.kdg_graph.specs.declared.node_id.NodeId.{NodeId}
-use Rattle.kdg_graph.specs.Node.{Node}
-use Rattle.kdg_graph.specs.Nodes.{is_at, least_of, node_at}
-use Rattle.kdg_graph.specs.Selected.{MarkedIds, arrived, is_behind, is_left}
-use Rattle.kdg_graph.proofs.Among.{graph_among}
+use Rattle.std.proofs.Common.{◌≡◌, ◌∙◌, ◌++◌, ◌&&◌, Bool, List, Some, ap, append-nil, arith, get_or, sym, take, filter, take_all}
+use Rattle.kdg_graph.proofs.Common.{Arrival, NodeId, Node, is_at, least_of, node_at, MarkedIds, arrived, is_behind, is_left}
+use Rattle.kdg_graph.proofs.Lanes.{graph_among}
 use Rattle.kdg_graph.proofs.Left.{arrival_there, arrived_more, least_there, none_more, one_more, only_at}
 use Rattle.kdg_graph.proofs.Selecting.{at_some, found_node}
-use Rattle.kdg_graph.proofs.source_lane.SourceLane.earliest.Goals as goal
 use Rattle.kdg_graph.proofs.source_lane.SourceLane.earliest.Goals.{then-is_behind, else-is_behind}
+use Rattle.kdg_graph.proofs.source_lane.SourceLane.earliest.Goals as goal
 
 abbrev blank : Arrival
 blank = record { prio = 0; beginning = 0; id = record { at = 0 } }

@@ -1,6 +1,5 @@
 use Rattle.std.proofs.Common.{◌≡◌, ◌++◌, filter, take}
-use Rattle.kdg_graph.specs.Nodes.{least_of}
-use Rattle.kdg_graph.specs.Selected.{arrived, is_left}
+use Rattle.kdg_graph.proofs.Common.{least_of, arrived, is_left}
 use Rattle.kdg_graph.proofs.source_lane.SourceLane.earliest.Given as goal
 
 -- the first of those in order and of the arrivals so far

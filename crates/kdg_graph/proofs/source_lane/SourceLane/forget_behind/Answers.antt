@@ -1,11 +1,6 @@
-use Rattle.std.proofs.Common.{◌≡◌, ◌∙◌, List, Option, Some, true, false, ap, subst, sym}
-use Rattle.std.specs.Prelude.{IfSome}
-use Rattle.std.specs.List.{AllByRecursion}
-use Rattle.kdg_graph.specs.Fronts.{fronts_after}
-use Rattle.kdg_graph.specs.Node.{Node}
-use Rattle.kdg_graph.specs.Nodes.{ids_of, node_at}
-use Rattle.kdg_graph.specs.Selected.{AreSelected, forgotten, listed_in}
-use Rattle.kdg_graph.proofs.Fronts.{fronts_are_nodes}
+use Rattle.std.proofs.Common.{◌≡◌, ◌∙◌, List, Option, Some, true, false, ap, subst, sym, IfSome}
+use Rattle.kdg_graph.proofs.Common.{AllByRecursion, fronts_after, Node, ids_of, node_at, AreSelected, forgotten, listed_in}
+use Rattle.kdg_graph.proofs.Blocking.{fronts_are_nodes}
 use Rattle.kdg_graph.proofs.Selecting.{forgotten_failing, found_node}
 use Rattle.kdg_graph.proofs.source_lane.SourceLane.forget_behind.Goals as goal
 

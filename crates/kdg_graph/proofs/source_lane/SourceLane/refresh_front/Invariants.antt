@@ -1,15 +1,7 @@
-use Rattle.std.proofs.Common.{◌≡◌, ◌-◌, ◌≤◌, Bool, take, drop}
-use Rattle.kdg_graph.specs.Node.{Node}
-use Rattle.kdg_graph.specs.Locations.{lane_of}
-use Rattle.kdg_graph.specs.Selected.{AreSelected, AreSome, listed_in, refreshed}
+use Rattle.std.proofs.Common.{◌-◌, take, drop}
+use Rattle.kdg_graph.proofs.Common.{lane_of, AreRefreshed}
 use Rattle.kdg_graph.proofs.source_lane.SourceLane.refresh_front.Given as goal
 
 -- the nodes of the front so far are refreshed
 abbrev pub invariant-loop-place : goal.invariant-loop-place
-invariant-loop-place l = record {
-  ids : (test : Node → Bool) → AreSelected l.nodes.nodes test (listed_in l.nodes.nodes l.fn.self)
-      → AreSelected l.nodes.nodes (refreshed l.nodes.nodes (take (l.place - l.initial.place) (drop l.initial.place (lane_of l.locations.locations.items l.loc l.access))) test) (listed_in l.nodes.nodes l.self);
-  some : AreSome l.nodes.nodes l.self;
-  room : l.fn.self.room ≤ l.self.room;
-  marks : l.self.marks ≡ l.fn.self.marks;
-}
+invariant-loop-place l = AreRefreshed l.nodes.nodes (take (l.place - l.initial.place) (drop l.initial.place (lane_of l.locations.locations.items l.loc l.access))) l.fn.self l.self

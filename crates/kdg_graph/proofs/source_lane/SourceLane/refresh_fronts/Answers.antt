@@ -1,22 +1,10 @@
-use Rattle.std.proofs.Common.{◌∙◌, ℕ, List, ap, get_or, refl, subst, take, length, arith}
-use Rattle.std.specs.Prelude.{Contains}
-use Rattle.std.proofs.lemmas.List.{take_all}
-use Rattle.std.proofs.lemmas.List.Elements.{Contains-get_or}
-use Rattle.rw_sets.specs.declared.access.Access.{Access}
-use Rattle.rw_sets.specs.declared.access.Access.TheVariants.{Read}
-use Rattle.rw_sets.specs.Accesses.{Accesses}
-use Rattle.kdg_graph.specs.Node.{Node}
-use Rattle.kdg_graph.specs.Nodes.{ids_of}
-use Rattle.kdg_graph.specs.Fronts.{fronts_after}
-use Rattle.kdg_graph.specs.Lanes.{IsRankPast}
-use Rattle.kdg_graph.specs.Locations.{clashing_at}
-use Rattle.kdg_graph.specs.Selected.{AreSelected, is_unblocked, listed_in, refreshed}
-use Rattle.kdg_graph.proofs.Members.{all_at}
-use Rattle.kdg_graph.proofs.Selecting.{fronts_done}
+use Rattle.std.proofs.Common.{ℕ, ap, get_or, subst, length, arith, Contains, take_all}
+use Rattle.kdg_graph.proofs.Common.{Contains-get_or, Access, Read, Accesses, ids_of, fronts_after, IsRankPast, clashing_at, AreRefreshed, is_unblocked, all_at}
+use Rattle.kdg_graph.proofs.Selecting.{fronts_done, retested_none}
 use Rattle.kdg_graph.proofs.source_lane.SourceLane.refresh_fronts.Goals as goal
 
 pub loop-pair-init : goal.loop-pair-init
-loop-pair-init c = record { ids = λ test selected. selected; some = c.requires.some; room = omega arith; marks = refl }
+loop-pair-init c = retested_none (is_unblocked c.args.nodes.now.nodes) c.args.nodes.now.nodes c.args.self.now c.requires.some
 
 pub refresh_front-requires-clause-first : goal.refresh_front-requires-clause-first
 refresh_front-requires-clause-first c known =
@@ -27,18 +15,9 @@ refresh_front-requires-clause-first c known =
 
 pub loop-pair-preserved : goal.loop-pair-preserved
 loop-pair-preserved c =
-    let nodes : List Node = c.args.nodes.now.nodes in
-    record {
-      ids = λ test selected.
-          fronts_done (is_unblocked nodes) nodes c.items-pair-items.result.now c.args.set.now c.args.key.now c.loop-pair.pair-index (0, Read) test (listed_in c.args.nodes.now.nodes c.refresh_front.new.self) c.items-pair-items.ensures.all c.loop-pair-test.true
-          (c.refresh_front.ensures.ids (refreshed nodes (ids_of (fronts_after (take c.loop-pair.pair-index c.args.set.now) c.args.key.now nodes)) test) (c.loop-pair.invariant.ids test selected));
-      some = c.refresh_front.ensures.some;
-      room = omega (arith, c.loop-pair.invariant.room, c.refresh_front.ensures.room);
-      marks = c.refresh_front.ensures.marks ∙ c.loop-pair.invariant.marks;
-    }
+    fronts_done (is_unblocked c.args.nodes.now.nodes) c.args.nodes.now.nodes c.items-pair-items.result.now c.args.set.now c.args.key.now c.loop-pair.pair-index (0, Read) c.args.self.now c.loop-pair.self c.refresh_front.new.self c.items-pair-items.ensures.all c.loop-pair-test.true c.loop-pair.invariant c.refresh_front.ensures
 
-pub returns-clause-ids : goal.returns-clause-ids
-returns-clause-ids c test selected =
-    let nodes : List Node = c.args.nodes.now.nodes in
+pub returns : goal.returns
+returns c =
     let whole = take_all c.loop-pair.pair-index c.args.set.now (omega (arith, c.loop-pair-test.false, ap length c.items-pair-items.ensures.all)) in
-    subst (λ (s : Accesses). AreSelected nodes (refreshed nodes (ids_of (fronts_after s c.args.key.now nodes)) test) (listed_in c.args.nodes.now.nodes c.loop-pair.self)) whole (c.loop-pair.invariant.ids test selected)
+    subst (λ (s : Accesses). AreRefreshed c.args.nodes.now.nodes (ids_of (fronts_after s c.args.key.now c.args.nodes.now.nodes)) c.args.self.now c.loop-pair.self) whole c.loop-pair.invariant

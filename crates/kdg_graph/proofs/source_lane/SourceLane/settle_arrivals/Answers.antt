@@ -1,13 +1,7 @@
-use Rattle.std.proofs.Common.{◌≡◌, ◌∙◌, ◌++◌, ◌||◌, ℕ, List, ap, subst, sym, rules}
-use Rattle.std.specs.List.{AllByRecursion}
-use Rattle.std.specs.Ordering.{is_lt}
+use Rattle.std.proofs.Common.{◌≡◌, ◌∙◌, ◌++◌, ◌||◌, ℕ, List, ap, subst, sym, rules, is_lt}
 use Rattle.std.proofs.lemmas.Fn.{always_returns_same}
-use Rattle.kdg_graph.specs.declared.arrival.Arrival.{Arrival}
-use Rattle.kdg_graph.specs.declared.node_id.NodeId.{NodeId}
-use Rattle.kdg_graph.specs.Node.{Node}
-use Rattle.kdg_graph.specs.Selected.{AreInTurn, AreMarked, IsArrival, MarkedIds, arrival_cmp, arrived, has_number}
-use Rattle.kdg_graph.proofs.Listing.{all_moved, all_placed, in_order_of, latest_first}
-use Rattle.kdg_graph.proofs.Marking.{marked_moved, same_numbers}
+use Rattle.kdg_graph.proofs.Common.{AllByRecursion, Arrival, NodeId, Node, AreInTurn, AreMarked, IsArrival, MarkedIds, arrival_cmp, arrived, has_number}
+use Rattle.kdg_graph.proofs.Listed.{all_moved, all_placed, in_order_of, latest_first, marked_moved, same_numbers}
 use Rattle.kdg_graph.proofs.source_lane.SourceLane.settle_arrivals.Goals as goal
 
 pub put_in_order-requires-clause-arrivals : goal.put_in_order-requires-clause-arrivals

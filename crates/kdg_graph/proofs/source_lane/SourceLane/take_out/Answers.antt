@@ -1,13 +1,6 @@
-use Rattle.std.proofs.Common.{◌∙◌, ◌++◌, ◌<◌, false, List, ap, length, subst, sym, arith}
-use Rattle.std.proofs.lemmas.List.{length-set}
-use Rattle.kdg_graph.specs.declared.arrival.Arrival.{Arrival}
-use Rattle.kdg_graph.specs.declared.node_id.NodeId.{NodeId}
-use Rattle.kdg_graph.specs.declared.source_lane.Standing.{Standing}
-use Rattle.kdg_graph.specs.declared.source_lane.Standing.TheVariants.{Absent}
-use Rattle.kdg_graph.specs.Node.{Node}
-use Rattle.kdg_graph.specs.Selected.{AreSome, HaveMarks, MarkedIds, arrived, has_number, ids_in}
-use Rattle.kdg_graph.proofs.Listing.{has_mark, in_order_taking, selected_set, set_by_taking}
-use Rattle.kdg_graph.proofs.Marking.{IsSetIn, marked_set, set_as_it_is, set_in_either}
+use Rattle.std.proofs.Common.{◌∙◌, ◌++◌, ◌<◌, false, List, ap, length, subst, sym, arith, length-set}
+use Rattle.kdg_graph.proofs.Common.{Arrival, NodeId, Standing, Absent, Node, AreSome, HaveMarks, MarkedIds, arrived, has_number, ids_in}
+use Rattle.kdg_graph.proofs.Listed.{has_mark, in_order_taking, selected_set, set_by_taking, IsSetIn, marked_set, set_as_it_is, set_in_either}
 use Rattle.kdg_graph.proofs.source_lane.SourceLane.take_out.Goals as goal
 
 pub index_mut-requires : goal.index_mut-requires
@@ -35,20 +28,22 @@ invariant_of-self c =
     let inside : c.args.id.at < length standings = has_mark nodes c.args.id (length standings) c.requires.there some.marks in
     marked_set standings c.self.inside.settled.ids.items c.take_from.new.lane.ids.items recent recent c.args.id Absent c.self.invariant inside (sets c).0 (sets c).1
 
-pub returns-clause-ids : goal.returns-clause-ids
-returns-clause-ids c test was =
+pub returns : goal.returns
+returns c =
+    let nodes : List Node = c.args.nodes.now.nodes in
     let came : List NodeId = arrived c.self.inside.arrivals.items in
     let ids : List NodeId = c.take_from.new.lane.ids.items in
     let both = set_in_either false false c.args.id c.self.inside.settled.ids.items ids came came (sets c).0 (sets c).1 in
-    selected_set c.args.nodes.now.nodes test c.args.id false (ids_in c.args.self.now) (ids ++ came) c.requires.graph (subst (λ (marked : MarkedIds). IsSetIn false c.args.id (ids_in marked) (ids ++ came)) c.self.view_is both) was
-
-pub returns-clause-some : goal.returns-clause-some
-returns-clause-some c =
-    let nodes : List Node = c.args.nodes.now.nodes in
     let some = subst (AreSome nodes) (sym c.self.view_is) c.requires.some in
+    let long = length-set c.self.inside.standings.items c.args.id.at Absent in
     record {
-      in_order = in_order_taking nodes c.args.id c.self.inside.settled.ids.items c.take_from.new.lane.ids.items c.requires.graph some.in_order c.take_from.ensures.ids;
-      recent = some.recent;
-      room = omega (arith, some.room, c.take_from.ensures.room);
-      marks = subst (HaveMarks nodes) (sym (length-set c.self.inside.standings.items c.args.id.at Absent)) some.marks;
+      ids = λ test was. selected_set nodes test c.args.id false (ids_in c.args.self.now) (ids ++ came) c.requires.graph (subst (λ (marked : MarkedIds). IsSetIn false c.args.id (ids_in marked) (ids ++ came)) c.self.view_is both) was;
+      some = record {
+        in_order = in_order_taking nodes c.args.id c.self.inside.settled.ids.items ids c.requires.graph some.in_order c.take_from.ensures.ids;
+        recent = some.recent;
+        room = omega (arith, some.room, c.take_from.ensures.room);
+        marks = subst (HaveMarks nodes) (sym long) some.marks;
+      };
+      room = omega (arith, c.take_from.ensures.room, ap (λ (marked : MarkedIds). marked.room) c.self.view_is);
+      marks = long ∙ ap (λ (marked : MarkedIds). marked.marks) c.self.view_is;
     }

@@ -1,7 +1,6 @@
 use Rattle.std.proofs.Common.{◌∙◌, ap}
-use Rattle.kdg_graph.specs.Selected.{ids_in, not_running}
-use Rattle.kdg_graph.proofs.Left.{all_left}
-use Rattle.kdg_graph.proofs.Running.{not_running_unblocked}
+use Rattle.kdg_graph.proofs.Common.{ids_in, not_running}
+use Rattle.kdg_graph.proofs.Left.{all_left, not_running_unblocked}
 use Rattle.kdg_graph.proofs.sources.Sources.among.Goals as goal
 
 pub returns : goal.returns

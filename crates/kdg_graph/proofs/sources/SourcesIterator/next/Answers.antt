@@ -1,11 +1,6 @@
-use Rattle.std.proofs.Common.{◌≡◌, ◌∙◌, ◌∷◌, ◌+◌, ◌<◌, ◌^◌, true, false, List, Some, ap, arith, length, refl, sym}
-use Rattle.std.specs.Prelude.{slice_get}
+use Rattle.std.proofs.Common.{◌≡◌, ◌∙◌, ◌∷◌, ◌+◌, ◌<◌, ◌^◌, true, false, List, Some, ap, arith, length, refl, sym, slice_get}
 use Rattle.std.specs.Int.{from_bool}
-use Rattle.kdg_graph.specs.declared.node_id.NodeId.{NodeId}
-use Rattle.kdg_graph.specs.Lanes.{is_id_at}
-use Rattle.kdg_graph.specs.Node.{Node}
-use Rattle.kdg_graph.specs.Nodes.{node_at}
-use Rattle.kdg_graph.specs.Selected.{ids_in, is_left, left_in, not_running}
+use Rattle.kdg_graph.proofs.Common.{NodeId, is_id_at, Node, node_at, ids_in, is_left, left_in, not_running}
 use Rattle.kdg_graph.proofs.Left.{least_there, left_first, left_next, place_fits, same_at, seen_next, settled_first}
 use Rattle.kdg_graph.proofs.sources.SourcesIterator.next.Goals as goal
 

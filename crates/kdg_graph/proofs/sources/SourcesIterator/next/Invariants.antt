@@ -1,5 +1,5 @@
 use Rattle.std.proofs.Common.{◌≡◌, length}
-use Rattle.kdg_graph.specs.Selected.{AreLeft, ids_in, left_in, not_running}
+use Rattle.kdg_graph.proofs.Common.{AreLeft, ids_in, left_in, not_running}
 use Rattle.kdg_graph.proofs.sources.SourcesIterator.next.Given as goal
 
 -- only running nodes were passed over
