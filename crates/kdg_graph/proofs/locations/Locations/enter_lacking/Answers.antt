@@ -1,6 +1,7 @@
 use Rattle.std.proofs.Common.{rules, ◌≡◌, ◌+◌, ◌<◌, ◌≤◌, ◌∙◌, ℕ, List, Option, Some, true, false, add-one, ap, arith, get_or, length, set, suc, subst, sym, take, IfSome}
 use Rattle.kdg_graph.proofs.Common.{take-length, Access, Read, Accesses, IsAscendingSet, access_at, AreFiledWith, is_same, midway, HasRoom, room_at, room_in, rooms_of, Node, node_at, without}
 use Rattle.kdg_graph.proofs.Filing.{entered_as_was, entered_elsewhere, entered_had, entered_has, entered_there, filed_as, filed_own, for_found, midway_last, room_passed, still_beside, again, room_next, room_step, room_there, within_room}
+use Rattle.kdg_graph.proofs.locations.Locations.enter_lacking.Goals.{Else-has}
 use Rattle.kdg_graph.proofs.locations.Locations.enter_lacking.Goals as goal
 
 pub loop-pair-preserved-then-has : goal.loop-pair-preserved-then-has
@@ -27,45 +28,30 @@ loop-pair-preserved-then-has c =
       room = rw add-one (room_passed ps i p c.args.self.now.locations.items c.loop-pair.self.locations.items up c.loop-pair-test.true (again ps i (0, Read) p c.loop-pair-test.true) c.loop-pair.invariant.room);
     }
 
-pub index_mut-requires : goal.index_mut-requires
-index_mut-requires c =
-    let nodes : List Node = c.args.nodes.now.nodes in
+-- there is room at the location that is next
+next : (c : Else-has) → 1 ≤ room_at (rooms_of c.loop-pair.self.locations.items) (get_or c.items-pair-items.result.now c.loop-pair.pair-index (0, Read)).0
+next c =
     let held : Node = record { id = c.node.inside.id; task = c.node.inside.task; set = c.node.inside.set; running = c.node.inside.running } in
-    let found : node_at nodes c.args.id ≡ Some held = c.entry-node.ensures ∙ ap (λ (n : Node). Some n) (sym c.node.view_is) in
-    let before : Accesses = c.args.before.now in
+    let found : node_at c.args.nodes.now.nodes c.args.id ≡ Some held = c.entry-node.ensures ∙ ap (λ (n : Node). Some n) (sym c.node.view_is) in
     let ps : Accesses = c.items-pair-items.result.now in
     let i : ℕ = c.loop-pair.pair-index in
     let p : ℕ × Access = get_or ps i (0, Read) in
-    let inside : i < length held.set = subst (λ (l : Accesses). i < length l) c.items-pair-items.ensures.all c.loop-pair-test.true in
-    let at : p ≡ get_or held.set i p = subst (λ (l : Accesses). p ≡ get_or l i p) c.items-pair-items.ensures.all (again ps i (0, Read) p c.loop-pair-test.true) in
     let first = c.args.self.now.locations.items in
     let up : IsAscendingSet ps = subst IsAscendingSet (sym c.items-pair-items.ensures.all) c.items-pair-items.ensures.ascending in
-    let there : p ≡ get_or ps i p = again ps i (0, Read) p c.loop-pair-test.true in
     let all : HasRoom 1 held.set (rooms_of first) = subst (λ (o : Option Node). IfSome o (λ (n : Node). HasRoom 1 n.set (rooms_of first))) found c.requires.room in
     let own : HasRoom 1 ps (rooms_of first) = subst (λ (l : Accesses). HasRoom 1 l (rooms_of first)) (sym c.items-pair-items.ensures.all) all in
-    let next : 1 ≤ room_at (rooms_of c.loop-pair.self.locations.items) p.0 = room_next ps i p first c.loop-pair.self.locations.items up c.loop-pair-test.true there own c.loop-pair.invariant.room in
-    let within = within_room c.loop-pair.self.locations.items p.0 next in
+    room_next ps i p first c.loop-pair.self.locations.items up c.loop-pair-test.true (again ps i (0, Read) p c.loop-pair-test.true) own c.loop-pair.invariant.room
+
+pub index_mut-requires : goal.index_mut-requires
+index_mut-requires c =
+    let within = within_room c.loop-pair.self.locations.items _ (next (goal.at.index_mut-requires c).Else-has) in
     search (rules, within)
 
 pub enter-requires-clause-room : goal.enter-requires-clause-room
 enter-requires-clause-room c =
-    let nodes : List Node = c.args.nodes.now.nodes in
-    let held : Node = record { id = c.node.inside.id; task = c.node.inside.task; set = c.node.inside.set; running = c.node.inside.running } in
-    let found : node_at nodes c.args.id ≡ Some held = c.entry-node.ensures ∙ ap (λ (n : Node). Some n) (sym c.node.view_is) in
-    let before : Accesses = c.args.before.now in
-    let ps : Accesses = c.items-pair-items.result.now in
-    let i : ℕ = c.loop-pair.pair-index in
-    let p : ℕ × Access = get_or ps i (0, Read) in
-    let inside : i < length held.set = subst (λ (l : Accesses). i < length l) c.items-pair-items.ensures.all c.loop-pair-test.true in
-    let at : p ≡ get_or held.set i p = subst (λ (l : Accesses). p ≡ get_or l i p) c.items-pair-items.ensures.all (again ps i (0, Read) p c.loop-pair-test.true) in
-    let first = c.args.self.now.locations.items in
-    let up : IsAscendingSet ps = subst IsAscendingSet (sym c.items-pair-items.ensures.all) c.items-pair-items.ensures.ascending in
-    let there : p ≡ get_or ps i p = again ps i (0, Read) p c.loop-pair-test.true in
-    let all : HasRoom 1 held.set (rooms_of first) = subst (λ (o : Option Node). IfSome o (λ (n : Node). HasRoom 1 n.set (rooms_of first))) found c.requires.room in
-    let own : HasRoom 1 ps (rooms_of first) = subst (λ (l : Accesses). HasRoom 1 l (rooms_of first)) (sym c.items-pair-items.ensures.all) all in
-    let next : 1 ≤ room_at (rooms_of c.loop-pair.self.locations.items) p.0 = room_next ps i p first c.loop-pair.self.locations.items up c.loop-pair-test.true there own c.loop-pair.invariant.room in
-    let within = within_room c.loop-pair.self.locations.items p.0 next in
-    omega (arith, next, room_there c.loop-pair.self.locations.items p.0 c.index_mut.result.now within, ap room_in c.index_mut.ensures.value)
+    let room = next (goal.at.enter-requires-clause-room c).Else-has in
+    let within = within_room c.loop-pair.self.locations.items _ room in
+    omega (arith, room, room_there c.loop-pair.self.locations.items _ c.index_mut.result.now within, ap room_in c.index_mut.ensures.value)
 
 pub loop-pair-preserved : goal.loop-pair-preserved
 loop-pair-preserved c =
@@ -83,10 +69,7 @@ loop-pair-preserved c =
     let first = c.args.self.now.locations.items in
     let up : IsAscendingSet ps = subst IsAscendingSet (sym c.items-pair-items.ensures.all) c.items-pair-items.ensures.ascending in
     let there : p ≡ get_or ps i p = again ps i (0, Read) p c.loop-pair-test.true in
-    let all : HasRoom 1 held.set (rooms_of first) = subst (λ (o : Option Node). IfSome o (λ (n : Node). HasRoom 1 n.set (rooms_of first))) found c.requires.room in
-    let own : HasRoom 1 ps (rooms_of first) = subst (λ (l : Accesses). HasRoom 1 l (rooms_of first)) (sym c.items-pair-items.ensures.all) all in
-    let next : 1 ≤ room_at (rooms_of c.loop-pair.self.locations.items) p.0 = room_next ps i p first c.loop-pair.self.locations.items up c.loop-pair-test.true there own c.loop-pair.invariant.room in
-    let within = within_room c.loop-pair.self.locations.items p.0 next in
+    let within = within_room c.loop-pair.self.locations.items p.0 (next (goal.at.loop-pair-preserved c).Else-has) in
     let f : ℕ → Option Access = midway before held.set (take i held.set) in
     let g : ℕ → Option Access = midway before held.set (take (suc i) held.set) in
     let locations = set c.loop-pair.self.locations.items p.0 c.enter.new.self in
