@@ -25,7 +25,6 @@ pub mod FinishMembers
 pub mod FinishTasks
 pub mod FirstNodes
 pub mod FixedSets
-pub mod IdLists
 pub mod Listed
 pub mod MakingFresh
 pub mod Marks

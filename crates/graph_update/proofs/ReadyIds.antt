@@ -14,7 +14,6 @@ use Rattle.graph_update.specs.declared.job.Job.{Job}
 use Rattle.graph_update.specs.declared.ready.Ready.{Ready}
 use Rattle.graph_update.specs.Engine.{AreReady, IsOfClear}
 use Rattle.graph_update.specs.Events.{IsFinished, IsOverLimit, clear_nodes, is_clear}
-use Rattle.graph_update.specs.IdChunks.{ids_in}
 use Rattle.graph_update.specs.Laws.{Event, IsPerformed, Moment}
 use Rattle.graph_update.specs.Progress.{Progress}
 use Rattle.graph_update.specs.Sound.{IsSound}
@@ -23,13 +22,13 @@ use Rattle.graph_update.proofs.ClearIds.{clear_are_safe, is_safe_id}
 use Rattle.graph_update.proofs.Members.{all_at, all_from, from_filter, from_map, in_filter, in_map}
 
 module _ {V : Type 0} (app : Application V) where
-  pub all_are_ready : (nodes : List Node) (ready : Ready) → ids_in ready.ids ≡ ids_of (clear_nodes app nodes) → AreReady app nodes ready
+  pub all_are_ready : (nodes : List Node) (ready : Ready) → ready.ids.items ≡ ids_of (clear_nodes app nodes) → AreReady app nodes ready
   all_are_ready nodes ready is = record {
     clear = subst (AllByRecursion (IsOfClear app nodes)) (sym is) (all_from (IsOfClear app nodes) (ids_of (clear_nodes app nodes)) (λ id has. has));
     all = λ current. is;
   }
 
-  pub some_are_ready : (nodes : List Node) (ready : Ready) (ids : List NodeId) → ids_in ready.ids ≡ ids → ready.is_current ≡ false → AllByRecursion (IsOfClear app nodes) ids → AreReady app nodes ready
+  pub some_are_ready : (nodes : List Node) (ready : Ready) (ids : List NodeId) → ready.ids.items ≡ ids → ready.is_current ≡ false → AllByRecursion (IsOfClear app nodes) ids → AreReady app nodes ready
   some_are_ready nodes ready ids is stale clear = record {
     clear = subst (AllByRecursion (IsOfClear app nodes)) (sym is) clear;
     all = λ current. absurd (true≢false (sym current ∙ stale));

@@ -20,7 +20,6 @@ use Rattle.graph_update.specs.declared.answers.Claim.TheVariants as claim
 use Rattle.graph_update.specs.declared.job.Done.{Done}
 use Rattle.graph_update.specs.declared.job.Job.{Job}
 use Rattle.graph_update.specs.declared.ready.Ready.{Ready}
-use Rattle.graph_update.specs.IdChunks.{ids_in}
 use Rattle.graph_update.specs.Events.{clear_nodes}
 use Rattle.graph_update.specs.Laws.{IsPerformed}
 use Rattle.graph_update.specs.Progress.{Progress}
@@ -73,8 +72,8 @@ module _ {V : Type 0} (app : Application V) where
 
   -- The ready nodes are clear. Where no task has ended since the last look, they are just the clear ones, in key order.
   pub record AreReady (nodes : List Node) (ready : Ready) : Type 0 where
-    pub clear : AllByRecursion (IsOfClear nodes) (ids_in ready.ids)
-    pub all : ready.is_current ≡ true → ids_in ready.ids ≡ ids_of (clear_nodes app nodes)
+    pub clear : AllByRecursion (IsOfClear nodes) ready.ids.items
+    pub all : ready.is_current ≡ true → ready.ids.items ≡ ids_of (clear_nodes app nodes)
 
   -- where the sets are fixed, each recorded set is the one that a walk finds, whatever the cells hold
   abbrev pub HaveFixedSets : List Node → Type 0

@@ -7,7 +7,6 @@ pub mod Events
 pub mod Faults
 pub mod FinishBasis
 pub mod Finishes
-pub mod IdChunks
 pub mod Jobs
 pub mod Laws
 pub mod Progress

@@ -37,13 +37,13 @@ impl<'a, A: App> Engine<'a, A> {
             return Ok(Claim::Ended);
         }
         self.ready.look(self.app, &self.graph, &mut self.horizon)?;
-        let Some((node, spot)) = self.ready.picked(pick) else {
+        let Some((node, place)) = self.ready.picked(pick) else {
             return Ok(Claim::NotYet);
         };
         let task = self.graph.task(node).copy()?;
         let bundle = self.store.take(self.graph.set(node))?;
         self.graph.mark_running(node);
-        self.ready.take(spot);
+        self.ready.take(place);
         Ok(Claim::Job(Job { node, task, bundle }))
     }
 }

@@ -8,7 +8,6 @@ mod claiming;
 mod engine;
 mod finish_laws;
 mod finishing;
-mod id_list;
 mod job;
 mod laws;
 mod pending;

@@ -1,20 +1,18 @@
 //! The clear nodes that wait to be claimed.
 
-ghost use Rattle.std.specs.Prelude.{◌≡◌, ◌≢◌, ◌%◌, ◌^◌, ℕ, [], ◌∷◌, List, length, slice_get, remove, false, IfNone, IfOk, IfSome, OnOk, OnErr};
-ghost use Rattle.std.specs.List.{AllByRecursion};
+ghost use Rattle.std.specs.Prelude.{◌≡◌, ◌%◌, ◌^◌, ◌<◌, ◌++◌, [], ◌∷◌, length, slice_get, true, false, IfOk, IfSome, OnOk, OnErr};
+ghost use Rattle.std.specs.List.{AllByRecursion, remove};
 ghost use Rattle.std.specs.Option.{option_map};
-ghost use Rattle.kdg_graph.specs.declared.node_id.NodeId.{NodeId};
 ghost use Rattle.kdg_graph.specs.Nodes.{ids_of, tasks_of};
 ghost use Rattle.graph_update.specs.Engine.{AreCovered, AreReady, HaveFixedSets, IsOfClear};
 ghost use Rattle.graph_update.specs.Events.{clear_nodes};
-ghost use Rattle.graph_update.specs.IdChunks.{IsSpot, ids_in};
 
-use crate::id_list::{IdList, Spot};
 use crate::pending::Pending;
 use app_laws::App;
 use kdg_graph::{Graph, NodeId, node_laws, source_laws};
 use kdg_text::NoRoom;
 use std::alloc::Global;
+use tiered_list::TieredList;
 
 /// The clear nodes that wait to be claimed, as far as they are known. One that was found stays until
 /// it is claimed, since it stays clear.
@@ -22,7 +20,7 @@ use std::alloc::Global;
 pub(crate) struct Ready {
     alloc: Global,
     /// Their ids, in key order.
-    ids: IdList,
+    ids: TieredList<NodeId>,
     /// Whether these are all of them: no task has ended since the last look at the sources.
     is_current: bool,
 }
@@ -30,12 +28,12 @@ pub(crate) struct Ready {
 impl Ready {
     /// Before the first look.
     pub(crate) fn new(alloc: Global) -> Ready
-        ensures ids { ids_in result.ids ≡ [] }
+        ensures ids { result.ids.items ≡ [] }
         ensures current { result.is_current ≡ false }
     {
         Ready {
             alloc,
-            ids: IdList::new(alloc),
+            ids: no_ids(alloc),
             is_current: false,
         }
     }
@@ -51,12 +49,12 @@ impl Ready {
     /// Forgets the nodes that it knows, as one of them may be claimed elsewhere.
     #[inline(always)]
     pub(crate) fn forget(&mut self)
-        ensures ids { ids_in self.new.ids ≡ [] }
+        ensures ids { self.new.ids.items ≡ [] }
         ensures current { self.new.is_current ≡ false }
     {
         self.is_current = false;
         if self.ids.len() > 0 {
-            self.ids = IdList::new(self.alloc);
+            self.ids = no_ids(self.alloc);
         }
     }
 
@@ -73,7 +71,7 @@ impl Ready {
         requires told { A.tells app.now horizon.old (tasks_of graph.now) }
         requires ready { AreReady (A.meaning app.now) graph.now self.old }
         ensures told { A.tells app.now horizon.new (tasks_of graph.now) }
-        ensures all { OnOk result (ids_in self.new.ids ≡ ids_of (clear_nodes (A.meaning app.now) graph.now)) }
+        ensures all { OnOk result (self.new.ids.items ≡ ids_of (clear_nodes (A.meaning app.now) graph.now)) }
         ensures ready { AreReady (A.meaning app.now) graph.now self.new }
         ensures unchanged { OnErr result (self.new ≡ self.old) }
     {
@@ -84,66 +82,83 @@ impl Ready {
         Ok(())
     }
 
-    /// The id at the remainder of a pick, where there is one, and where it stands.
+    /// The id at the remainder of a pick, where there is one, and its place.
     #[inline(always)]
-    pub(crate) fn picked(&self, pick: u64) -> Option<(NodeId, Spot)>
-        ensures id { option_map (λ found. found.0) result ≡ slice_get (ids_in self.now.ids) (pick % length (ids_in self.now.ids)) }
-        ensures spot { IfSome result (λ found. IsSpot self.now.ids (pick % length (ids_in self.now.ids)) found.1) }
+    pub(crate) fn picked(&self, pick: u64) -> Option<(NodeId, usize)>
+        ensures id { option_map (λ found. found.0) result ≡ slice_get self.now.ids.items (pick % length self.now.ids.items) }
+        ensures place { IfSome result (λ found. found.1 ≡ pick % length self.now.ids.items) }
+        ensures within { IfSome result (λ found. found.1 < length self.now.ids.items) }
     {
-        let place = pick.checked_rem(self.ids.len() as u64)?;
-        let spot = self.ids.spot(place as usize);
-        Some((self.ids.get(spot), spot))
+        let place = pick.checked_rem(self.ids.len() as u64)? as usize;
+        let id = *self.ids.get(place)?;
+        Some((id, place))
     }
 
-    /// The id that stands there is no more.
+    /// The id at a place is no more.
     #[inline(always)]
-    pub(crate) fn take(&mut self, spot: Spot)
-        requires { (place : ℕ) × IsSpot self.old.ids place spot }
-        ensures ids { (place : ℕ) → IsSpot self.old.ids place spot → ids_in self.new.ids ≡ remove (ids_in self.old.ids) place }
+    pub(crate) fn take(&mut self, place: usize)
+        requires { place < length self.old.ids.items }
+        ensures ids { self.new.ids.items ≡ remove self.old.ids.items place }
         ensures current { self.new.is_current ≡ self.old.is_current }
     {
-        self.ids.remove(spot);
+        self.ids.remove(place);
     }
+}
+
+/// No ids. What stands for an id where there is none is never read.
+fn no_ids(alloc: Global) -> TieredList<NodeId>
+    ensures { result.items ≡ [] }
+{
+    TieredList::new(alloc, NodeId { at: 0 })
 }
 
 /// The ids of the clear nodes, in key order. Some are known: only the other sources are tested, as
 /// long as the known ids are in key order.
 fn clear_ids<A: App>(
     alloc: Global,
-    known: &IdList,
+    known: &TieredList<NodeId>,
     app: &A,
     graph: &Graph,
     horizon: &mut A::Horizon,
-) -> Result<IdList, NoRoom>
+) -> Result<TieredList<NodeId>, NoRoom>
     requires covered { AreCovered (A.meaning app.now) graph.now }
     requires fixed { HaveFixedSets (A.meaning app.now) graph.now }
     requires told { A.tells app.now horizon.old (tasks_of graph.now) }
-    requires known { AllByRecursion (IsOfClear (A.meaning app.now) graph.now) (ids_in known.now) }
+    requires known { AllByRecursion (IsOfClear (A.meaning app.now) graph.now) known.now.items }
     ensures told { A.tells app.now horizon.new (tasks_of graph.now) }
-    ensures ids { IfOk result (λ ids. ids_in ids ≡ ids_of (clear_nodes (A.meaning app.now) graph.now)) }
+    ensures ids { IfOk result (λ ids. ids.items ≡ ids_of (clear_nodes (A.meaning app.now) graph.now)) }
 {
     node_laws();
     source_laws();
-    let known = known.to_vec()?;
-    let mut left: &[NodeId] = &known;
-    let mut ids = IdList::new(alloc);
+    let mut passed = 0;
+    let mut ids = no_ids(alloc);
     let pending = Pending::of(graph);
     for node in graph.sources() {
-        if let Some(rest) = behind(left, node) {
-            left = rest;
-            ids.push(node)?;
+        if is_at(known, passed, node) {
+            passed += 1;
+            push(&mut ids, node)?;
         } else if pending.is_safe(node, app, horizon) {
-            ids.push(node)?;
+            push(&mut ids, node)?;
         }
     }
     Ok(ids)
 }
 
-/// The ids behind this one, where it is the first of them.
-fn behind(ids: &[NodeId], id: NodeId) -> Option<&[NodeId]>
-    ensures first { IfSome result (λ rest. ids.now ≡ id ∷ rest.now) }
-    ensures other { IfNone result ((rest : List NodeId) → ids.now ≢ id ∷ rest) }
+/// Whether this id stands at the place.
+#[inline(always)]
+fn is_at(ids: &TieredList<NodeId>, place: usize, id: NodeId) -> bool
+    ensures there { result ≡ true → slice_get ids.now.items place ≡ Some id }
+    ensures small { length ids.now.items < 2 ^ 63 }
 {
-    let (first, rest) = ids.split_first()?;
-    if *first == id { Some(rest) } else { None }
+    ids.get(place).is_some_and(|found| *found == id)
+}
+
+/// Puts an id behind the others.
+fn push(ids: &mut TieredList<NodeId>, id: NodeId) -> Result<(), NoRoom>
+    ensures { OnOk result (ids.new.items ≡ ids.old.items ++ id ∷ []) }
+{
+    ids.reserve(1)?;
+    let len = ids.len();
+    ids.insert(len, id);
+    Ok(())
 }

@@ -1,13 +1,13 @@
-use Rattle.std.proofs.Common.{◌≡◌, ◌++◌, [], ◌∷◌, sym, ap, subst, ◌∙◌}
+use Rattle.std.proofs.Common.{◌≡◌, ◌++◌, [], sym, ap, subst, ◌∙◌, arith}
 use Rattle.std.specs.Prelude.{Contains}
 use Rattle.std.specs.List.{AllByRecursion}
 use Rattle.std.proofs.lemmas.List.{append-nil}
+use Rattle.std.proofs.lemmas.Option.{get_or_from_slice_get, slice_get_within}
 use Rattle.kdg_graph.specs.Edges.{sources_of}
 use Rattle.kdg_graph.specs.Nodes.{tasks_of}
 use Rattle.graph_update.specs.Engine.{HaveFixedSets, IsOfClear}
-use Rattle.graph_update.specs.IdChunks.{ids_in}
 use Rattle.graph_update.proofs.ClearIds.{answer_is, clear_are_safe, next_passed, safe_ids}
-use Rattle.graph_update.proofs.Members.{all_from}
+use Rattle.graph_update.proofs.Members.{all_at, all_from}
 use Rattle.graph_update.proofs.ReadyIds.{known_is_safe}
 use Rattle.graph_update.proofs.ready.clear_ids.Goals as goal
 
@@ -16,41 +16,44 @@ loop-node-init g c =
     let sources : c.into_iter-node-iterator.result ≡ sources_of c.args.graph.now = c.into_iter-node-iterator.ensures.into_iter_gives ∙ c.sources-node-items.ensures.sources in
     let app = g.A.App.meaning c.args.app.now in
     record {
-      passed = ap (λ ids. ids ++ safe_ids app c.args.graph.now c.into_iter-node-iterator.result) c.new-ids.ensures ∙ ap (safe_ids app c.args.graph.now) sources;
+      passed = ap (λ ids. ids ++ safe_ids app c.args.graph.now c.into_iter-node-iterator.result) c.no_ids-ids.ensures ∙ ap (safe_ids app c.args.graph.now) sources;
       there = subst (AllByRecursion (Contains (sources_of c.args.graph.now))) (sym sources) (all_from (Contains (sources_of c.args.graph.now)) (sources_of c.args.graph.now) (λ id has. has));
-      known = subst (AllByRecursion (IsOfClear app c.args.graph.now)) (sym (c.deref-left.ensures.value ∙ c.in_ok-known.ensures)) c.requires.known;
       told = c.requires.told;
     }
 
-pub loop-node-preserved-in-Continue-branch-2 : goal.loop-node-preserved-in-Continue-branch-2
-loop-node-preserved-in-Continue-branch-2 g c =
+pub loop-node-preserved-in-Continue-1 : goal.loop-node-preserved-in-Continue-1
+loop-node-preserved-in-Continue-1 g c =
     let app = g.A.App.meaning c.args.app.now in
     let steps = c.in-Some.ensures.steps in
-    let known : AllByRecursion (IsOfClear app c.args.graph.now) (c.in-Some.node ∷ c.in-Some-behind.rest.now) = subst (AllByRecursion (IsOfClear app c.args.graph.now)) c.in-Some-behind.ensures.first c.loop-node.invariant.known in
-    let safe = known_is_safe app c.args.graph.now c.node_laws.ensures.have_ids c.sources-node-items.ensures.graph c.in-Some.node known.0 in
+    let at = c.is_at.ensures.there c.if-is_at.true in
+    let known = all_at (IsOfClear app c.args.graph.now) c.args.known.now.items c.in-Some.node c.requires.known
+    (c.loop-node.passed, slice_get_within c.args.known.now.items c.loop-node.passed c.in-Some.node at, get_or_from_slice_get c.args.known.now.items c.loop-node.passed c.in-Some.node c.in-Some.node at) in
+    let safe = known_is_safe app c.args.graph.now c.node_laws.ensures.have_ids c.sources-node-items.ensures.graph c.in-Some.node known in
     record {
-      passed = ap (λ ids. ids ++ safe_ids app c.args.graph.now c.next.new.self) c.in_ok-push.ensures.ok
-          ∙ (next_passed app c.args.graph.now (ids_in c.loop-node.ids) c.in-Some.node c.next.new.self _ (ap (λ left. ids_in c.loop-node.ids ++ safe_ids app c.args.graph.now left) (sym steps) ∙ c.loop-node.invariant.passed)).0 safe;
+      passed = ap (λ ids. ids ++ safe_ids app c.args.graph.now c.next.new.self) c.in_ok-push.ensures
+          ∙ (next_passed app c.args.graph.now c.loop-node.ids.items c.in-Some.node c.next.new.self _ (ap (λ left. c.loop-node.ids.items ++ safe_ids app c.args.graph.now left) (sym steps) ∙ c.loop-node.invariant.passed)).0 safe;
       there = (subst (AllByRecursion (Contains (sources_of c.args.graph.now))) steps c.loop-node.invariant.there).1;
-      known = known.1;
       told = c.loop-node.invariant.told;
     }
+
+pub overflow_add-passed : goal.overflow_add-passed
+overflow_add-passed g c =
+    omega (arith, slice_get_within c.args.known.now.items c.loop-node.passed c.in-Some.node (c.is_at.ensures.there c.if-is_at.true), c.is_at.ensures.small)
 
 pub is_safe-requires-clause-fixed : goal.is_safe-requires-clause-fixed
 is_safe-requires-clause-fixed g c κs within = subst (HaveFixedSets (g.A.App.meaning c.args.app.now)) (sym c.of-pending.ensures) c.requires.fixed
 
-pub loop-node-preserved-in-Continue-branch-3 : goal.loop-node-preserved-in-Continue-branch-3
-loop-node-preserved-in-Continue-branch-3 g c =
+pub loop-node-preserved-in-Continue-branch-2 : goal.loop-node-preserved-in-Continue-branch-2
+loop-node-preserved-in-Continue-branch-2 g c =
     let app = g.A.App.meaning c.args.app.now in
     let graph = c.args.graph.now in
     let steps = c.in-Some.ensures.steps in
     let left = subst (AllByRecursion (Contains (sources_of graph))) steps c.loop-node.invariant.there in
     let safe = answer_is app graph c.source_laws.ensures.nodes c.sources-node-items.ensures.graph c.in-Some.node left.0 c.of-pending.result c.of-pending.ensures c.is_safe.result c.is_safe.ensures.answer ∙ c.if-is_safe.true in
     record {
-      passed = ap (λ ids. ids ++ safe_ids app graph c.next.new.self) c.in_ok-push-2.ensures.ok
-          ∙ (next_passed app graph (ids_in c.loop-node.ids) c.in-Some.node c.next.new.self _ (ap (λ left. ids_in c.loop-node.ids ++ safe_ids app graph left) (sym steps) ∙ c.loop-node.invariant.passed)).0 safe;
+      passed = ap (λ ids. ids ++ safe_ids app graph c.next.new.self) c.in_ok-push-2.ensures
+          ∙ (next_passed app graph c.loop-node.ids.items c.in-Some.node c.next.new.self _ (ap (λ left. c.loop-node.ids.items ++ safe_ids app graph left) (sym steps) ∙ c.loop-node.invariant.passed)).0 safe;
       there = left.1;
-      known = c.loop-node.invariant.known;
       told = subst (λ nodes. g.A.App.tells c.args.app.now c.is_safe.new.horizon (tasks_of nodes)) c.of-pending.ensures c.is_safe.ensures.told;
     }
 
@@ -58,5 +61,5 @@ pub returns-clause-ids : goal.returns-clause-ids
 returns-clause-ids g c =
     let app = g.A.App.meaning c.args.app.now in
     let none : c.loop-node.node-iterator ≡ [] = c.in-None.ensures.steps.0 in
-    sym (append-nil (ids_in c.loop-node.ids)) ∙ ap (λ ids. ids_in c.loop-node.ids ++ safe_ids app c.args.graph.now ids) (sym none)
+    sym (append-nil c.loop-node.ids.items) ∙ ap (λ ids. c.loop-node.ids.items ++ safe_ids app c.args.graph.now ids) (sym none)
     ∙ c.loop-node.invariant.passed ∙ clear_are_safe app c.args.graph.now c.node_laws.ensures.have_ids c.sources-node-items.ensures.graph

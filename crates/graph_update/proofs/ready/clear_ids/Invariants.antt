@@ -3,16 +3,13 @@ use Rattle.std.specs.Prelude.{Contains}
 use Rattle.std.specs.List.{AllByRecursion}
 use Rattle.kdg_graph.specs.Edges.{sources_of}
 use Rattle.kdg_graph.specs.Nodes.{tasks_of}
-use Rattle.graph_update.specs.Engine.{IsOfClear}
-use Rattle.graph_update.specs.IdChunks.{ids_in}
 use Rattle.graph_update.proofs.ClearIds.{safe_ids}
 use Rattle.graph_update.proofs.ready.clear_ids.Given as goal
 
--- the safe ones of the sources that were passed, the sources that are left, the known ones that are left, and what the horizon tells
+-- the safe ones of the sources that were passed, the sources that are left, and what the horizon tells
 abbrev pub invariant-loop-node : goal.invariant-loop-node
 invariant-loop-node g l = record {
-  passed : ids_in l.ids ++ safe_ids (g.A.App.meaning l.app) l.graph l.node-iterator ≡ safe_ids (g.A.App.meaning l.app) l.graph (sources_of l.graph);
+  passed : l.ids.items ++ safe_ids (g.A.App.meaning l.app) l.graph l.node-iterator ≡ safe_ids (g.A.App.meaning l.app) l.graph (sources_of l.graph);
   there : AllByRecursion (Contains (sources_of l.graph)) l.node-iterator;
-  known : AllByRecursion (IsOfClear (g.A.App.meaning l.app) l.graph) l.left;
   told : g.A.App.tells l.app l.horizon (tasks_of l.graph);
 }

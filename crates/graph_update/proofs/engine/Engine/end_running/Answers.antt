@@ -1,7 +1,8 @@
 use Rattle.std.proofs.Common.{◌+◌, ◌≤◌, ◌∙◌, length, refl, sym, ap, subst}
+use Rattle.tiered_list.specs.Tiered.{Tiered}
+use Rattle.kdg_graph.specs.declared.node_id.NodeId.{NodeId}
 use Rattle.graph_update.specs.declared.job.Done.{Done}
 use Rattle.graph_update.specs.Engine.{AreReady, HaveFixedSets, IsKept, IsOneStepEach}
-use Rattle.graph_update.specs.IdChunks.{ids_in}
 use Rattle.graph_update.specs.Progress.{EngineState, Progress}
 use Rattle.graph_update.proofs.Performed.{bundle_is_out}
 use Rattle.graph_update.proofs.ReadyIds.{some_are_ready}
@@ -31,8 +32,8 @@ invariant_of-self g c =
     let finished = finished_at_home basis _ done is c.give-shell.new.self c.give-shell.ensures.given c.items.result.now c.items.ensures.all (c.sound_finish_laws.ensures c.self.inside.app.now) within
     c.end_at_home-ended.new.graph c.end_at_home-ended.new.log.entries c.in-Ok.ensures.ended in (
       stays_kept basis _ done is within _ finished (c.sound_finish_laws.ensures c.self.inside.app.now) c.self.invariant.0.limited,
-      some_are_ready (g.A.App.meaning c.self.inside.app.now) c.end_at_home-ended.new.graph c.expect_more.new.self (ids_in c.self.inside.ready.ids) (ap ids_in c.expect_more.ensures.ids) c.expect_more.ensures.current
-          (stays_ready basis _ done is within _ finished (c.stay_clear_laws.ensures.stay c.self.inside.app.now) (ids_in c.self.inside.ready.ids) c.self.invariant.1.clear),
+      some_are_ready (g.A.App.meaning c.self.inside.app.now) c.end_at_home-ended.new.graph c.expect_more.new.self c.self.inside.ready.ids.items (ap (λ (ids : Tiered NodeId). ids.items) c.expect_more.ensures.ids) c.expect_more.ensures.current
+          (stays_ready basis _ done is within _ finished (c.stay_clear_laws.ensures.stay c.self.inside.app.now) c.self.inside.ready.ids.items c.self.invariant.1.clear),
       stays_fixed basis _ done is within _ finished c.self.invariant.2,
       c.in-Ok.ensures.told,
     )
