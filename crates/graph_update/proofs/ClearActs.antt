@@ -1,10 +1,11 @@
 -- A clear node that is named by its id is claimed, and its task is performed and ended.
-use Rattle.std.proofs.Common.{◌≡◌, ℕ, zero, suc, ◌+◌, ◌%◌, ◌<◌, ◌≤◌, true, false, cond, List, [], ◌∷◌, Option, Some, None, length, slice_get, refl, sym, ap, subst, ◌∙◌, arith, inr}
+use Rattle.std.proofs.Common.{◌≡◌, ℕ, ◌+◌, ◌%◌, ◌<◌, ◌≤◌, true, false, cond, List, [], ◌∷◌, Option, Some, None, length, slice_get, refl, sym, ap, subst, ◌∙◌, arith, inr}
 use Rattle.std.specs.Prelude.{Contains, IsSome}
 use Rattle.std.specs.List.{filter}
 use Rattle.std.specs.Option.{option_or}
 use Rattle.std.specs.Ordering.{is_lt}
 use Rattle.std.proofs.Math.Nat.{mod-eq_of_lt}
+use Rattle.std.proofs.lemmas.Option.{same_Some, slice_get_read}
 use Rattle.task_order.specs.declared.key.Key.{Key}
 use Rattle.task_order.specs.declared.task.Task.{Task}
 use Rattle.task_order.specs.Key.{key_cmp}
@@ -22,8 +23,8 @@ use Rattle.graph_update.specs.declared.answers.OverCause.{OverCause}
 use Rattle.graph_update.specs.declared.answers.OverCause.TheVariants as cause
 use Rattle.graph_update.specs.declared.job.Done.{Done}
 use Rattle.graph_update.specs.declared.job.Job.{Job}
-use Rattle.graph_update.specs.Acting.{HasActed, IsActFault, IsPlayed, IsStarted, IsStuck, IsTooMany}
-use Rattle.graph_update.specs.AtHome.{done_of}
+use Rattle.graph_update.specs.Acting.{HasActed, IsActFault, IsPlayed, IsStarted}
+use Rattle.graph_update.specs.AtHome.{IsBackHome, IsEndFault, done_of}
 use Rattle.graph_update.specs.Basis.{Basis}
 use Rattle.graph_update.specs.Engine.{IsDone, IsKept, IsOfClear, MayRun}
 use Rattle.graph_update.specs.Events.{IsFinished, IsOverLimit, clear_nodes, is_clear}
@@ -33,12 +34,9 @@ use Rattle.graph_update.specs.Sound.{IsSound}
 use Rattle.graph_update.proofs.Claims.{found_is_there}
 use Rattle.graph_update.proofs.ClearClaims.{claimed, has_node, may_run, picked_home, sound_after}
 use Rattle.graph_update.proofs.Marks.{sound_marked}
-use Rattle.graph_update.proofs.Members.{from_filter, in_map, none}
+use Rattle.graph_update.proofs.Members.{from_filter, in_map}
 use Rattle.graph_update.proofs.Picked.{IsPicked, pick_is}
 use Rattle.graph_update.proofs.Starting.{as_many_started, start, start_runs, started_graph}
-
-Some-injective : {X : Type 0} (a b : X) → Some a ≡ Some b → a ≡ b
-Some-injective a b same = cc
 
 -- ---- the later nodes
 
@@ -85,19 +83,16 @@ module _ {V : Type 0} (app : Application V) where
     pub is_done : IsDone app (midway_of old set nodes) (done_of id task bundle children text)
     pub given : home ≡ cells_given (cells_taken old.cells set) bundle
     pub acted : ¬ IsOverLimit app (midway_of old set nodes) (done_of id task bundle children text) → (now : Progress V) → IsFinished app (midway_of old set nodes) (done_of id task bundle children text) now → HasActed app old id now
-    pub counted : old.ended + length nodes ≡ old.created
-    pub too_many : old.over ≡ None → (created : ℕ) → created ≡ old.created + length children → old.limit < created
-        → IsTooMany app old id (record (midway_of old set nodes) { over = Some (cause.Budget created old.limit) }) created old.limit
-    pub stuck : old.over ≡ None → ¬ IsOverLimit app (midway_of old set nodes) (done_of id task bundle children text) → IsStuck app old id (record (midway_of old set nodes) { over = Some cause.NoRoom })
+    pub fault : old.over ≡ None → (why : OverCause) → IsEndFault (old.ended + length nodes + length children) old.limit why
+        → IsActFault app old id (record (midway_of old set nodes) { over = Some why }) why
     pub steps : (first last : ℕ) → ((of : Node) → node_at nodes id ≡ Some of → last ≤ first + length (laters_of nodes of)) → (of : Node) → node_at old.nodes id ≡ Some of → last ≤ first + length (laters_of old.nodes of)
 
--- ---- the claim
+  -- its new values are home
+  abbrev pub back_of : {old : Progress V} {id : NodeId} {set : Accesses} {nodes : List Node} {home : List (Cell V)} {children : List Child} {text : List ℕ}
+      → IsMidway old id set nodes home children text → IsBackHome app (record (midway_of old set nodes) { cells = home }) id children text
+  back_of {old} {id} {set} midway = record { away = cells_taken old.cells set; task = midway.task; bundle = midway.bundle; is_done = midway.is_done; given = midway.given }
 
--- what is found at the place of a member
-found_at : {X : Type 0} (xs : List X) (x : X) (has : Contains xs x) → Some x ≡ slice_get xs has.0
-found_at [] x has = absurd (none x has)
-found_at (y ∷ xs) x (zero, inside, is) = ap Some (sym is)
-found_at (y ∷ xs) x (suc k, inside, is) = found_at xs x (k, omega (arith, inside), is)
+-- ---- the claim
 
 module _ {V : Type 0} {app : Application V} (basis : Basis app) (old : Progress V) (kept : IsKept app old) (id : NodeId) (clear : IsOfClear app old.nodes id) where
   -- the place of its id among those of the clear nodes is a pick that takes it
@@ -105,7 +100,7 @@ module _ {V : Type 0} {app : Application V} (basis : Basis app) (old : Progress 
   picked =
       let ids = ids_of (clear_nodes app old.nodes) in
       let small : clear.0 % length ids ≡ clear.0 = mod-eq_of_lt clear.1 in
-      pick_is app old.nodes clear.0 ids (Some id) refl (found_at ids id clear ∙ ap (slice_get ids) (sym small))
+      pick_is app old.nodes clear.0 ids (Some id) refl (sym (slice_get_read ids (length ids) clear.0 id refl clear.1 (sym clear.2)) ∙ ap (slice_get ids) (sym small))
 
   pub is_node : HasNode old.nodes id
   is_node = has_node basis old kept.jobs kept.values kept.sound clear.0 id picked
@@ -172,7 +167,7 @@ module _ {V : Type 0} {app : Application V} (basis : Basis app) (old : Progress 
       steps_before : (first last : ℕ) → ((of : Node) → node_at nodes id ≡ Some of → last ≤ first + length (laters_of nodes of)) → (of : Node) → node_at old.nodes id ≡ Some of → last ≤ first + length (laters_of old.nodes of)
       steps_before first last each of is =
           let same : laters_of nodes running ≡ laters_of old.nodes node = ap (λ (nodes : List Node). laters_of nodes running) started_is ∙ laters_started node.set node.task.key node.id old.nodes in
-          subst (λ (n : Node). last ≤ first + length (laters_of old.nodes n)) (Some-injective node of (sym before ∙ is))
+          subst (λ (n : Node). last ≤ first + length (laters_of old.nodes n)) (same_Some node of (sym before ∙ is))
           (subst (λ (ids : List NodeId). last ≤ first + length ids) same (each running after))
 
       -- ---- its task was performed
@@ -187,29 +182,26 @@ module _ {V : Type 0} {app : Application V} (basis : Basis app) (old : Progress 
         played : IsPlayed app old id midway done
         played = record { job = job; started = is_started; performed = performed [] }
 
-        is_too_many : old.over ≡ None → (created : ℕ) → created ≡ old.created + length children → old.limit < created
-            → IsTooMany app old id (record midway { over = Some (cause.Budget created old.limit) }) created old.limit
-        is_too_many not_over created created_is above =
-            let same : created ≡ midway.created + length children = created_is ∙ ap (λ count. count + length children) (sym same_count) in
-            record {
-              midway = midway;
-              done = done;
-              played = played;
-              above = subst (λ count. old.limit < count) same above;
-              created_is = same;
-              limit_is = refl;
-              after = ap (λ (over : Option OverCause). let now : Progress V = record midway { over = option_or over (Some (cause.Budget created old.limit)) } in now) (sym not_over)
-                  ∙ ap (λ count. let now : Progress V = record midway { over = option_or old.over (Some (cause.Budget count old.limit)) } in now) same;
-            }
-
-        is_stuck : old.over ≡ None → ¬ IsOverLimit app midway done → IsStuck app old id (record midway { over = Some cause.NoRoom })
-        is_stuck not_over within = record {
+        why_stuck : old.over ≡ None → (why : OverCause) → IsEndFault (old.ended + length nodes + length children) old.limit why
+            → IsActFault app old id (record midway { over = Some why }) why
+        why_stuck not_over (cause.Budget asked most) (asked_is, most_is, above) = record {
           midway = midway;
           done = done;
           played = played;
-          within = within;
-          after = ap (λ (over : Option OverCause). let now : Progress V = record midway { over = option_or over (Some cause.NoRoom) } in now) (sym not_over);
+          above = above;
+          created_is = asked_is;
+          limit_is = most_is;
+          after = ap (λ (over : Option OverCause). let now : Progress V = record midway { over = option_or over (Some (cause.Budget asked most)) } in now) (sym not_over)
+              ∙ ap (λ created. let now : Progress V = record midway { over = option_or old.over (Some (cause.Budget created most)) } in now) asked_is
+              ∙ ap (λ limit. let now : Progress V = record midway { over = option_or old.over (Some (cause.Budget (midway.created + length children) limit)) } in now) most_is;
         }
+        why_stuck not_over cause.NoRoom below = inr (record {
+          midway = midway;
+          done = done;
+          played = played;
+          within = λ above. let is_above : old.limit < old.ended + length nodes + length children = above in omega (arith, below, is_above);
+          after = ap (λ (over : Option OverCause). let now : Progress V = record midway { over = option_or over (Some cause.NoRoom) } in now) (sym not_over);
+        })
 
         pub is_midway : IsMidway app old id set nodes home children text
         is_midway = record {
@@ -220,26 +212,18 @@ module _ {V : Type 0} {app : Application V} (basis : Basis app) (old : Progress 
           is_done = record { jobs = job ∷ kept.jobs; values = kept.values; sound = sound_midway; job = job; others = kept.jobs; performed = performed kept.jobs };
           given = made.given;
           acted = λ within now finished. record { midway = midway; done = done; played = played; within = within; finished = finished };
-          counted = same_count;
-          too_many = is_too_many;
-          stuck = is_stuck;
+          fault = why_stuck;
           steps = steps_before;
         }
 
--- what is said of the parts of an engine is said of it
+-- what is said of an engine is said of its parts, and the other way round
 module _ {A V : Type 0} (meaning : A → Application V) (inside engine : EngineState A V) (same : inside ≡ engine) (id : NodeId) where
+  pub inside_clear : IsOfClear (meaning engine.app) engine.progress.nodes id → IsOfClear (meaning inside.app) inside.progress.nodes id
+  inside_clear clear = subst (λ (state : EngineState A V). IsOfClear (meaning state.app) state.progress.nodes id) (sym same) clear
+
   pub engine_acted : (now : Progress V) → HasActed (meaning inside.app) inside.progress id now → HasActed (meaning engine.app) engine.progress id now
   engine_acted now has = subst (λ (state : EngineState A V). HasActed (meaning state.app) state.progress id now) same has
 
-  -- where the cells are out again
-  pub engine_too_many : (cells left : List (Cell V)) (nodes : List Node) (counted : ℕ) (over : Option OverCause) (created limit : ℕ) → left ≡ cells
-      → IsTooMany (meaning inside.app) inside.progress id (record inside.progress { cells = cells; nodes = nodes; created = counted; over = over }) created limit
-      → IsTooMany (meaning engine.app) engine.progress id (record inside.progress { cells = left; nodes = nodes; created = counted; over = over }) created limit
-  engine_too_many cells left nodes counted over created limit left_is many =
-      let out : IsTooMany (meaning inside.app) inside.progress id (record inside.progress { cells = left; nodes = nodes; created = counted; over = over }) created limit =
-      subst (λ (cells : List (Cell V)). IsTooMany (meaning inside.app) inside.progress id (record inside.progress { cells = cells; nodes = nodes; created = counted; over = over }) created limit) (sym left_is) many in
-      subst (λ (state : EngineState A V). IsTooMany (meaning state.app) state.progress id (record inside.progress { cells = left; nodes = nodes; created = counted; over = over }) created limit) same out
-
-  pub engine_stuck : (out now : Progress V) → now ≡ out → IsStuck (meaning inside.app) inside.progress id out → IsActFault (meaning engine.app) engine.progress id now cause.NoRoom
-  engine_stuck out now is stuck = inr (subst (λ (state : EngineState A V). IsStuck (meaning state.app) state.progress id now) same
-      (subst (λ (now : Progress V). IsStuck (meaning inside.app) inside.progress id now) (sym is) stuck))
+  pub engine_fault : (out now : Progress V) (why : OverCause) → now ≡ out → IsActFault (meaning inside.app) inside.progress id out why → IsActFault (meaning engine.app) engine.progress id now why
+  engine_fault out now why is fault =
+      subst (λ (state : EngineState A V). IsActFault (meaning state.app) state.progress id now why) same (subst (λ (now : Progress V). IsActFault (meaning inside.app) inside.progress id now why) (sym is) fault)

@@ -1,7 +1,8 @@
 -- What a drain takes, by the least node.
-use Rattle.std.proofs.Common.{◌≡◌, ◌==◌, cond, List, [], ◌∷◌, Some, None, refl, sym, ap, subst, ◌∙◌, eq-eqb}
+use Rattle.std.proofs.Common.{◌≡◌, ◌==◌, cond, List, [], ◌∷◌, Some, refl, sym, ap, subst, ◌∙◌, eq-eqb}
 use Rattle.std.specs.Prelude.{Result, Ok, Err, OnOk, OnErr}
 use Rattle.std.specs.Option.{option_map}
+use Rattle.std.proofs.lemmas.Option.{none-some, same_Some}
 use Rattle.task_order.specs.declared.task.Task.{Task}
 use Rattle.task_order.specs.Key.{at_key}
 use Rattle.output_log.specs.Entries.{Entry, entries_from}
@@ -14,21 +15,15 @@ use Rattle.graph_update.specs.Events.{undrainable}
 use Rattle.graph_update.specs.Laws.{MarksAndDrainsKeepSound}
 use Rattle.graph_update.specs.Progress.{Progress}
 
-Some-injective : {X : Type 0} (a b : X) → Some a ≡ Some b → a ≡ b
-Some-injective a b same = cc
-
-none_is_not_some : {X : Type 0} (x : X) → Some x ≡ None → ⊥
-none_is_not_some x same = cc
-
 module _ {V : Type 0} (app : Application V) where
   -- the entries that stay are those that are not earlier than the least node's task
   pub left_by_least : (nodes : List Node) (id : NodeId) (task : Task) (log : List Entry) → Some id ≡ least_of nodes → task_at nodes id ≡ Some task
       → entries_from (at_key task.key) log ≡ undrainable app nodes log
-  left_by_least [] id task log least found = absurd (none_is_not_some id least)
+  left_by_least [] id task log least found = absurd (none-some id (sym least))
   left_by_least (node ∷ nodes) id task log least found =
       let own : Some node ≡ node_at (node ∷ nodes) id =
-      ap (λ test. cond test (Some node) (node_at nodes id)) (sym (ap (λ (i : NodeId). node.id.at == i.at) (Some-injective id node.id least) ∙ eq-eqb node.id.at node.id.at refl)) in
-      let same : node.task ≡ task = Some-injective node.task task (ap (option_map (λ (n : Node). n.task)) own ∙ found) in
+      ap (λ test. cond test (Some node) (node_at nodes id)) (sym (ap (λ (i : NodeId). node.id.at == i.at) (same_Some id node.id least) ∙ eq-eqb node.id.at node.id.at refl)) in
+      let same : node.task ≡ task = same_Some node.task task (ap (option_map (λ (n : Node). n.task)) own ∙ found) in
       ap (λ (t : Task). entries_from (at_key t.key) log) (sym same)
 
   -- whatever the log is after a drain, which takes what it may or nothing, the execution is kept

@@ -1,8 +1,9 @@
 -- The first tasks as nodes, one after another.
-use Rattle.std.proofs.Common.{◌≡◌, ◌≢◌, ℕ, zero, suc, ◌+◌, ◌<◌, false, List, [], ◌∷◌, length, drop, get_or, refl, sym, ap, ◌∙◌, subst, arith, add-one, drop-cons}
+use Rattle.std.proofs.Common.{◌≡◌, ◌≢◌, ℕ, suc, ◌+◌, ◌<◌, false, List, [], ◌∷◌, length, drop, get_or, refl, sym, ap, ◌∙◌, subst, arith, add-one, drop-cons}
 use Rattle.std.specs.List.{AllByRecursion}
 use Rattle.std.specs.Ordering.{is_lt}
 use Rattle.std.proofs.lemmas.Bool.{cond_both}
+use Rattle.std.proofs.lemmas.List.Elements.{All-from_recursion, All-get_or}
 use Rattle.task_order.specs.declared.key.Key.{Key}
 use Rattle.task_order.specs.declared.start.Start.{Start}
 use Rattle.task_order.specs.declared.task.Task.{Task}
@@ -105,12 +106,9 @@ module _ {V : Type 0} (app : Application V) (cells : List V) (first : List Start
           none_runs = subst (AllByRecursion (λ (n : Node). n.running ≡ false)) (sym now_is) (all-put_node (λ (n : Node). n.running ≡ false) node nodes refl left.none_runs);
         })
 
-all-get_or : {X : Type 0} (P : X → Type 0) (xs : List X) (i : ℕ) (d : X) → i < length xs → AllByRecursion P xs → P (get_or xs i d)
-all-get_or P [] i d within all = absurd (omega (arith, within))
-all-get_or P (x ∷ xs) zero d within all = all.0
-all-get_or P (x ∷ xs) (suc i) d within all = all-get_or P xs i d (omega (arith, within)) all.1
-
 -- the next of them is a task of the application
 pub next_is_fit : {V : Type 0} (app : Application V) (first : List Start) (number : ℕ) (start : Start) → number < length first → AreFitStarts app first
     → app.is_fit_task (get_or first number start).prio (get_or first number start).body
-next_is_fit app first number start within fit = all-get_or (λ (s : Start). app.is_fit_task s.prio s.body) first number start within fit
+next_is_fit app first number start within fit =
+    let Fits = λ (start : Start). app.is_fit_task start.prio start.body in
+    All-get_or Fits first number start within (All-from_recursion Fits first fit)

@@ -1,6 +1,7 @@
 -- The fresh tasks of a task's children, one child at a time.
-use Rattle.std.proofs.Common.{◌≡◌, ℕ, zero, suc, ◌+◌, ◌<◌, ◌≤◌, List, [], ◌∷◌, ◌++◌, length, drop, get_or, refl, sym, ap, subst, ◌∙◌, add-one, drop-cons, append_assoc, arith}
+use Rattle.std.proofs.Common.{◌≡◌, ℕ, suc, ◌+◌, ◌<◌, List, [], ◌∷◌, ◌++◌, length, drop, get_or, sym, ap, subst, ◌∙◌, add-one, drop-cons, append_assoc}
 use Rattle.std.specs.List.{AllByRecursion}
+use Rattle.std.proofs.lemmas.List.Elements.{All-from_recursion, All-get_or}
 use Rattle.task_order.specs.declared.key.Key.{Key}
 use Rattle.task_order.specs.declared.task.Task.{Task}
 use Rattle.task_order.specs.Key.{child_key}
@@ -11,24 +12,13 @@ use Rattle.kdg_graph.specs.Rewrite.{fresh_tasks}
 use Rattle.app_laws.specs.declared.child.Child.{Child}
 use Rattle.graph_update.specs.Events.{fresh_from}
 
-all-drop : (P : Child → Type 0) (children : List Child) (number : ℕ) → AllByRecursion P children → AllByRecursion P (drop number children)
-all-drop P children zero all = all
-all-drop P [] (suc number) all = tt
-all-drop P (child ∷ children) (suc number) all = all-drop P children number all.1
-
-pub none_left : (children : List Child) (number : ℕ) → length children ≤ number → drop number children ≡ []
-none_left [] zero past = refl
-none_left [] (suc number) past = refl
-none_left (child ∷ children) zero past = absurd (omega (arith, past))
-none_left (child ∷ children) (suc number) past = none_left children number (omega (arith, past))
-
 module _ (children : List Child) (number : ℕ) (child : Child) (within : number < length children) (here : child ≡ get_or children number child) where
   left : drop number children ≡ child ∷ drop (suc number) children
   left = drop-cons children number child within ∙ ap (λ (first : Child). first ∷ drop (suc number) children) (sym here)
 
   -- what holds of all children holds of this one
   pub of_child : (P : Child → Type 0) → AllByRecursion P children → P child
-  of_child P all = (subst (AllByRecursion P) left (all-drop P children number all)).0
+  of_child P all = subst P (sym here) (All-get_or P children number child within (All-from_recursion P children all))
 
   -- with this child's task put in, the others are left
   pub one_more_put : (parent : Key) (tasks : List Task) → put_all (fresh_tasks (fresh_from parent (number + 1) (drop (number + 1) children))) (put_in (record { key = child_key parent number child.prio; body = child.body }) tasks)

@@ -7,6 +7,7 @@ use Rattle.std.specs.declared.cmp.Ordering.{Ordering}
 use Rattle.std.specs.declared.cmp.Ordering.TheVariants.{Less, Equal, Greater}
 use Rattle.std.specs.Ordering.{is_lt}
 use Rattle.std.proofs.lemmas.Bool.{true≢false}
+use Rattle.std.proofs.lemmas.Option.{none-some, same_Some}
 use Rattle.task_order.specs.declared.task.Task.{Task}
 use Rattle.task_order.specs.Key.{key_cmp}
 use Rattle.rw_sets.specs.Accesses.{Accesses, Conflicts, IsWithin}
@@ -25,12 +26,6 @@ use Rattle.graph_update.proofs.ClearNodes.{all-tasks, tasks-earlier_than, wider_
 use Rattle.graph_update.proofs.FinishTasks.{all-weaker}
 use Rattle.graph_update.proofs.Members.{all_at, from_filter, in_map}
 
-Some-injective : {X : Type 0} (a b : X) → Some a ≡ Some b → a ≡ b
-Some-injective a b same = cc
-
-none_is_not_some : {X : Type 0} (x : X) → None ≡ Some x → ⊥
-none_is_not_some x same = cc
-
 less_where_earlier : (order : Ordering) → is_lt order ≡ true → order ≡ Less
 less_where_earlier Less is = refl
 less_where_earlier Equal is = absurd (true≢false (sym is))
@@ -44,8 +39,8 @@ pub node_of : (nodes : List Node) (id : NodeId) (task : Task) → task_at nodes 
 node_of nodes id task at = by_node (node_at nodes id) refl
   where
     by_node : (found : Option Node) → node_at nodes id ≡ found → (node : Node) × (node_at nodes id ≡ Some node) × (node.task ≡ task)
-    by_node None is = absurd (none_is_not_some task (sym (ap (option_map (λ (n : Node). n.task)) is) ∙ at))
-    by_node (Some node) is = (node, is, Some-injective node.task task (sym (ap (option_map (λ (n : Node). n.task)) is) ∙ at))
+    by_node None is = absurd (none-some task (sym (ap (option_map (λ (n : Node). n.task)) is) ∙ at))
+    by_node (Some node) is = (node, is, same_Some node.task task (sym (ap (option_map (λ (n : Node). n.task)) is) ∙ at))
 
 module _ {V : Type 0} (app : Application V) where
   -- an engine's nodes are covered by its whole cells

@@ -1,7 +1,7 @@
 -- The nodes of a graph, which are taken out one by one, the earliest first.
 use Rattle.std.proofs.Common.{◌≡◌, ◌<◌, not, cond, List, [], ◌∷◌, ◌++◌, Option, Some, length, append_assoc, refl, sym, ap, ◌∙◌, arith, eq-eqb}
 use Rattle.std.specs.Option.{option_map}
-use Rattle.std.specs.Prelude.{None}
+use Rattle.std.proofs.lemmas.Option.{none-some, same_Some}
 use Rattle.task_order.specs.declared.task.Task.{Task}
 use Rattle.kdg_graph.specs.declared.change.Fresh.{Fresh}
 use Rattle.kdg_graph.specs.declared.change.SetChange.{SetChange}
@@ -9,7 +9,7 @@ use Rattle.kdg_graph.specs.declared.node_id.NodeId.{NodeId}
 use Rattle.kdg_graph.specs.Node.{Node}
 use Rattle.kdg_graph.specs.Nodes.{IsGraph, least_of, node_at, task_at, tasks_of}
 use Rattle.kdg_graph.specs.Rewrite.{IsRewritten, fresh_nodes, put_nodes, with_sets, without}
-use Rattle.graph_update.proofs.ClaimedNodes.{Some-injective, none_taken}
+use Rattle.graph_update.proofs.ClaimedNodes.{none_taken}
 
 same_sets : (nodes : List Node) → with_sets [] nodes ≡ nodes
 same_sets [] = refl
@@ -27,9 +27,9 @@ pub record IsTaken (nodes now : List Node) (task : Task) : Type 0 where
 
 module _ (id : NodeId) (changes : List SetChange) (none : changes ≡ []) (fresh : List Fresh) (empty : fresh ≡ []) (task : Task) where
   pub least_taken : (nodes now : List Node) → IsGraph nodes → Some id ≡ least_of nodes → task_at nodes id ≡ Some task → IsRewritten nodes id changes fresh now → IsTaken nodes now task
-  least_taken [] now graph least of_id rewritten = absurd (let wrong : (Some id ≡ None) = least in cc)
+  least_taken [] now graph least of_id rewritten = absurd (none-some id (sym least))
   least_taken (node ∷ nodes) now graph least of_id rewritten =
-      let same : id ≡ node.id = Some-injective id node.id least in
+      let same : id ≡ node.id = same_Some id node.id least in
       let own = eq-eqb node.id.at id.at (ap (λ (one : NodeId). one.at) (sym same)) in
       let others : without id (node ∷ nodes) ≡ nodes =
       ap (λ test. cond (not test) (node ∷ without id nodes) (without id nodes)) own ∙ ap (λ one. without one nodes) same ∙ none_taken node.id nodes graph.own_ids.0 in
@@ -38,7 +38,7 @@ module _ (id : NodeId) (changes : List SetChange) (none : changes ≡ []) (fresh
       record {
         first = node;
         nodes_are = ap (λ rest. node ∷ rest) (sym left);
-        task_is = Some-injective node.task task (sym (ap (λ test. task_in (cond test (Some node) (node_at nodes id))) own) ∙ of_id);
+        task_is = same_Some node.task task (sym (ap (λ test. task_in (cond test (Some node) (node_at nodes id))) own) ∙ of_id);
       }
     where
       task_in : Option Node → Option Task

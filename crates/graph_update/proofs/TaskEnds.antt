@@ -23,7 +23,6 @@ use Rattle.app_laws.specs.Applications.{Application}
 use Rattle.graph_update.specs.declared.answers.OverCause.{OverCause}
 use Rattle.graph_update.specs.declared.answers.OverCause.TheVariants as cause
 use Rattle.graph_update.specs.declared.job.Done.{Done}
-use Rattle.graph_update.specs.AtHome.{EndsAtHome, IsBackHome, done_of, with_parts}
 use Rattle.graph_update.specs.Engine.{FinishStaysSound, HaveFixedSets, IsDone, IsKept, IsOfClear, IsOneStepEach, StaysSound, most_tasks}
 use Rattle.graph_update.specs.Events.{IsFinished, IsOverLimit, budget_marked, fresh_from, renewals}
 use Rattle.graph_update.specs.FinishBasis.{FinishBasis}
@@ -56,13 +55,19 @@ effect_back {V} effect bundle text bundle_is text_is =
     ap (λ (bundle : Part V). let back : Effect V = record effect { bundle = bundle; text = text } in back) bundle_is
     ∙ ap (λ (text : List ℕ). let back : Effect V = record effect { text = text } in back) text_is
 
-pub progress_back : {V : Type 0} (old : Progress V) (cells : List (Cell V)) (nodes : List Node) (log : List Entry) → old.created ≡ old.ended + length old.nodes
-    → cells ≡ old.cells → nodes ≡ old.nodes → log ≡ old.log → (record old { cells = cells; nodes = nodes; log = log; created = old.ended + length nodes }) ≡ old
-progress_back {V} old cells nodes log counted cells_are nodes_are log_is =
-    ap (λ (cells : List (Cell V)). let back : Progress V = record old { cells = cells; nodes = nodes; log = log; created = old.ended + length nodes } in back) cells_are
-    ∙ ap (λ (nodes : List Node). let back : Progress V = record old { nodes = nodes; log = log; created = old.ended + length nodes } in back) nodes_are
+-- nodes and entries are as they were, and as many tasks were created as have ended and are pending
+pub progress_back : {V : Type 0} (old : Progress V) (nodes : List Node) (log : List Entry) → old.created ≡ old.ended + length old.nodes
+    → nodes ≡ old.nodes → log ≡ old.log → (record old { nodes = nodes; log = log; created = old.ended + length nodes }) ≡ old
+progress_back {V} old nodes log counted nodes_are log_is =
+    ap (λ (nodes : List Node). let back : Progress V = record old { nodes = nodes; log = log; created = old.ended + length nodes } in back) nodes_are
     ∙ ap (λ (log : List Entry). let back : Progress V = record old { log = log; created = old.ended + length old.nodes } in back) log_is
     ∙ ap (λ (created : ℕ). let back : Progress V = record old { created = created } in back) (sym counted)
+
+-- two executions are the same with the same cells
+pub with_cells : {V : Type 0} (now old : Progress V) → now ≡ old → (back cells : List (Cell V)) → back ≡ cells → (record now { cells = back }) ≡ (record old { cells = cells })
+with_cells {V} now old same back cells is =
+    ap (λ (progress : Progress V). let other : Progress V = record progress { cells = back } in other) same
+    ∙ ap (λ (cells : List (Cell V)). let other : Progress V = record old { cells = cells } in other) is
 
 -- what is said of an engine is said of its parts, and the other way round
 module _ {A V : Type 0} (meaning : A → Application V) (inside engine : EngineState A V) (done : Done V) (same : inside ≡ engine) where
@@ -182,6 +187,14 @@ module _ {V : Type 0} {app : Application V} (basis : FinishBasis app) (old : Pro
       let is_over : old.limit < old.created + length done.effect.children = over in
       omega (arith, is_over, created_are, within)
 
+  -- where it is finished, as many tasks were created as have ended and are pending
+  pub counted_end : FinishesKeepSound app → ¬ IsOverLimit app old done → (cells : List (Cell V)) (nodes : List Node) (log : List Entry)
+      → IsFinished app old done (record old { cells = cells; nodes = nodes; log = log; created = old.created + length done.effect.children; ended = old.ended + 1 })
+      → IsFinished app old done (record old { cells = cells; nodes = nodes; log = log; created = old.ended + 1 + length nodes; ended = old.ended + 1 })
+  counted_end keeps within cells nodes log finished =
+      let sound = keeps old _ done is.job is.jobs is.others is.values is.sound is.performed within finished in
+      subst (λ (created : ℕ). IsFinished app old done (record old { cells = cells; nodes = nodes; log = log; created = created; ended = old.ended + 1 })) sound.keys_and_counts.created finished
+
   -- what is kept where it is finished
   module _ (within : ¬ IsOverLimit app old done) (now : Progress V) (finished : IsFinished app old done now) where
     pub stays_fixed : HaveFixedSets app old.nodes → HaveFixedSets app now.nodes
@@ -224,28 +237,3 @@ module _ {V : Type 0} {app : Application V} (basis : FinishBasis app) (old : Pro
       dropped left taken =
           taken ∙ ap (cells_taken cells) (set_is set at) ∙ ap (λ (cells : List (Cell V)). cells_taken cells done.effect.bundle.set) given
           ∙ basis.takes_back old.cells done.effect.bundle (bundle_is_out basis is.sound is.performed)
-
-    module _ (children : List Child) (children_are : children ≡ done.effect.children) where
-      abbrev back_home : IsBackHome app (record old { cells = cells }) done.node children done.effect.text
-      back_home = record {
-        away = old.cells;
-        task = done.task;
-        bundle = done.effect.bundle;
-        is_done = subst (λ (children : List Child). IsDone app old (done_of done.node done.task done.effect.bundle children done.effect.text)) (sym children_are) is;
-        given = given;
-      }
-
-      pub is_back : (counts : Progress V) × IsBackHome app (with_parts counts cells old.nodes old.log) done.node children done.effect.text
-      is_back = (old, back_home)
-
-      -- as many tasks were created then as have ended and are pending
-      pub finished_at_home : FinishesKeepSound app → ¬ IsOverLimit app old done → (nodes : List Node) (log : List Entry)
-          → EndsAtHome app cells old.nodes old.log done.node children done.effect.text nodes log
-          → IsFinished app old done (record old { cells = cells; nodes = nodes; log = log; created = old.ended + 1 + length nodes; ended = old.ended + 1 })
-      finished_at_home keeps within nodes log ends =
-          let After = λ (created : ℕ). IsFinished app old done (record old { cells = cells; nodes = nodes; log = log; created = created; ended = old.ended + 1 }) in
-          let finished : After (old.created + length done.effect.children) =
-          subst (λ (some : List Child). IsFinished app old (done_of done.node done.task done.effect.bundle some done.effect.text)
-          (record old { cells = cells; nodes = nodes; log = log; created = old.created + length some; ended = old.ended + 1 })) children_are (ends old back_home) in
-          let sound = keeps old _ done is.job is.jobs is.others is.values is.sound is.performed within finished in
-          subst After sound.keys_and_counts.created finished

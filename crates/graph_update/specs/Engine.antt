@@ -3,6 +3,7 @@ use Rattle.std.specs.Prelude.{◌≡◌, ◌+◌, ◌<◌, ◌≤◌, ℕ, Bool,
 use Rattle.std.specs.List.{AllByRecursion}
 use Rattle.task_order.specs.declared.key.Key.{Key}
 use Rattle.task_order.specs.declared.start.Start.{Start}
+use Rattle.task_order.specs.declared.task.Task.{Task}
 use Rattle.task_order.specs.TaskList.{put_all}
 use Rattle.rw_sets.specs.Accesses.{IsWithin}
 use Rattle.cell_store.specs.declared.cell.Cell.{Cell}
@@ -13,6 +14,7 @@ use Rattle.kdg_graph.specs.Nodes.{IsGraph, ids_of, node_with_key, tasks_of}
 use Rattle.app_laws.specs.declared.app.SetAnswer.TheVariants as answer
 use Rattle.app_laws.specs.Applications.{Application, AreFitTasks, FixedSetsAreKnown, IsFitTask, IsTaken, set_in}
 use Rattle.app_laws.specs.Execution.{first_from}
+use Rattle.graph_update.specs.declared.agenda.Tally.{Tally}
 use Rattle.graph_update.specs.declared.answers.BeginFault.{BeginFault}
 use Rattle.graph_update.specs.declared.answers.BeginFault.TheVariants as fault
 use Rattle.graph_update.specs.declared.answers.Claim.{Claim}
@@ -28,6 +30,18 @@ use Rattle.graph_update.specs.Sound.{IsSound}
 -- the greatest number of tasks that an execution may be allowed
 abbrev pub most_tasks : ℕ
 most_tasks = 1_000_000_000
+
+-- how far an execution has come, with these cells and nodes
+abbrev pub progress_of : {V : Type 0} → List (Cell V) → List Node → Tally → Progress V
+progress_of cells nodes tally = record {
+  cells = cells;
+  nodes = nodes;
+  log = tally.log.entries;
+  created = tally.ended + length nodes;
+  ended = tally.ended;
+  limit = tally.limit;
+  over = tally.over;
+}
 
 -- some node is running
 pub record SomeRuns (nodes : List Node) : Type 0 where
@@ -78,6 +92,12 @@ module _ {V : Type 0} (app : Application V) where
   -- where the sets are fixed, each recorded set is the one that a walk finds, whatever the cells hold
   abbrev pub HaveFixedSets : List Node → Type 0
   HaveFixedSets nodes = FixedSetsAreKnown app → (cells : List (Cell V)) → AllByRecursion (λ node. app.walk node.task.body cells ≡ answer.Known node.set) nodes
+
+  -- what is known of pending tasks: clear ones among them, the sets of all where sets are fixed, and what is told of them
+  pub record AreKnown (Tells : List Task → Type 0) (nodes : List Node) (ready : Ready) : Type 0 where
+    pub clear : AreReady nodes ready
+    pub fixed : HaveFixedSets nodes
+    pub told : Tells (tasks_of nodes)
 
   -- the nodes' tasks are the application's, and in some cells of it each recorded set has all of the declared one
   pub record AreCovered (nodes : List Node) : Type 0 where

@@ -9,7 +9,6 @@ ghost use Rattle.graph_update.specs.Engine.{AreCovered, AsksForNoFixedSet, HaveF
 ghost use Rattle.graph_update.specs.Events.{clear_nodes};
 
 use crate::finish_laws::{self, sound_finish_laws};
-use crate::finishing::end_at_home;
 use crate::laws::basis;
 use crate::pending::Pending;
 use crate::{Engine, OverCause};
@@ -26,7 +25,7 @@ impl<'a, A: App> Engine<'a, A> {
         ensures ids { OnOk result (ids.new.items ≡ ids_of (clear_nodes (A.meaning self.old.app) self.old.progress.nodes)) }
     {
         self.settle();
-        list_clear(self.app, &self.graph, &mut self.horizon, ids)
+        list_clear(self.app, &self.agenda.graph, &mut self.agenda.horizon, ids)
     }
 
     /// Claims a clear task, performs it and ends it, with nothing between. Neither the task nor its cells
@@ -50,45 +49,27 @@ impl<'a, A: App> Engine<'a, A> {
         basis::<A>();
         finish_laws::basis::<A>();
         sound_finish_laws::<A>();
-        let (task, set) = (self.graph.task(node), self.graph.set(node));
+        let (task, set) = (self.agenda.graph.task(node), self.agenda.graph.set(node));
         let Ok((children, text)) = act_at_home(self.app, task, set, &mut self.store) else {
             return Err(OverCause::NoRoom);
         };
-        let children = children.items();
-        let (created, limit) = (
-            self.ended + self.graph.len() as u64 + children.len() as u64,
-            self.limit,
-        );
-        self.graph.mark_running(node);
-        self.ready.forget();
-        if created > limit {
-            self.store.drop_written(self.graph.set(node));
-            let cause = OverCause::Budget { created, limit };
-            self.over = Some(cause);
-            return Err(cause);
-        }
-        let ended = end_at_home(
-            self.alloc,
+        self.agenda.graph.mark_running(node);
+        self.agenda.ready.forget();
+        let ended = self.agenda.end_within(
             self.app,
             &self.store,
-            &mut self.graph,
-            &mut self.log,
-            &mut self.horizon,
-            &mut self.fresh,
+            &mut self.tally,
             node,
-            children,
+            &children,
             text,
             steps,
         );
         match ended {
-            Ok(()) => {
-                self.ended += 1;
-                Ok(())
-            }
-            Err(_) => {
-                self.store.drop_written(self.graph.set(node));
-                self.over = Some(OverCause::NoRoom);
-                Err(OverCause::NoRoom)
+            Ok(()) => Ok(()),
+            Err(cause) => {
+                self.store.drop_written(self.agenda.graph.set(node));
+                self.tally.over = Some(cause);
+                Err(cause)
             }
         }
     }

@@ -30,20 +30,22 @@ impl<'a, A: App> Engine<'a, A> {
     {
         basis::<A>();
         self.settle();
-        if let Some(cause) = self.over {
+        if let Some(cause) = self.tally.over {
             return Ok(Claim::Over(cause));
         }
-        if self.graph.least().is_none() {
+        if self.agenda.graph.least().is_none() {
             return Ok(Claim::Ended);
         }
-        self.ready.look(self.app, &self.graph, &mut self.horizon)?;
-        let Some((node, place)) = self.ready.picked(pick) else {
+        self.agenda
+            .ready
+            .look(self.app, &self.agenda.graph, &mut self.agenda.horizon)?;
+        let Some((node, place)) = self.agenda.ready.picked(pick) else {
             return Ok(Claim::NotYet);
         };
-        let task = self.graph.task(node).copy()?;
-        let bundle = self.store.take(self.graph.set(node))?;
-        self.graph.mark_running(node);
-        self.ready.take(place);
+        let task = self.agenda.graph.task(node).copy()?;
+        let bundle = self.store.take(self.agenda.graph.set(node))?;
+        self.agenda.graph.mark_running(node);
+        self.agenda.ready.take(place);
         Ok(Claim::Job(Job { node, task, bundle }))
     }
 }

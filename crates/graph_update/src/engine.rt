@@ -8,13 +8,14 @@ ghost use Rattle.graph_update.specs.Engine.{IsBeginFault, IsKept, StaysSound};
 ghost use Rattle.graph_update.specs.Events.{drainable, drained, marked};
 ghost use Rattle.graph_update.specs.Sound.{IsSound};
 
+use crate::agenda::{Agenda, Tally};
 use crate::beginning::{empty_graph, home_store, put_first};
 use crate::laws::{basis, begin_laws, drain_laws};
 use crate::ready::Ready;
 use crate::{BeginFault, Counts, OverCause};
 use app_laws::{App, Finals};
 use cell_store::{Store, value_laws};
-use kdg_graph::{Fresh, Graph};
+use kdg_graph::Graph;
 use kdg_text::{NoRoom, Steps, Text};
 use output_log::Log;
 use std::alloc::Global;
@@ -29,51 +30,22 @@ use task_order::StartList;
 /// meanwhile, in any order.
 #[derive(Drop)]
 pub struct Engine<'a, A: App> {
-    pub(crate) alloc: Global,
     pub(crate) app: &'a A,
-    /// What the application keeps of the pending tasks to tell whether one is safe.
-    pub(crate) horizon: A::Horizon,
+    pub(crate) agenda: Agenda<A>,
     pub(crate) store: Store<A::Val>,
-    pub(crate) graph: Graph,
-    pub(crate) log: Log,
-    pub(crate) ended: u64,
-    pub(crate) limit: u64,
-    pub(crate) over: Option<OverCause>,
-    pub(crate) ready: Ready,
-    /// The children of a task that ends, which keeps its memory for those of others.
-    pub(crate) fresh: Vec<Fresh>,
+    pub(crate) tally: Tally,
 }
 
 impl<'a, A: App> Model for Engine<'a, A> {
-    ghost use Rattle.std.specs.Prelude.{◌+◌, length};
-    ghost use Rattle.kdg_graph.specs.Nodes.{tasks_of};
-    ghost use Rattle.graph_update.specs.Engine.{AreReady, HaveFixedSets, IsKept};
+    ghost use Rattle.graph_update.specs.Engine.{AreKnown, IsKept, progress_of};
     ghost use Rattle.graph_update.specs.Progress.{EngineState};
 
     ghost Value = { EngineState A A.Val };
 
-    ghost view = { λ e. record {
-      app = e.app.now;
-      progress = record {
-        cells = e.store;
-        nodes = e.graph;
-        log = e.log.entries;
-        created = e.ended + length e.graph;
-        ended = e.ended;
-        limit = e.limit;
-        over = e.over;
-      };
-    } };
+    ghost view = { λ e. record { app = e.app.now; progress = progress_of e.store e.agenda.graph e.tally } };
 
-    ghost invariant = { λ e. IsKept (A.meaning e.app.now) (record {
-      cells = e.store;
-      nodes = e.graph;
-      log = e.log.entries;
-      created = e.ended + length e.graph;
-      ended = e.ended;
-      limit = e.limit;
-      over = e.over;
-    }) × AreReady (A.meaning e.app.now) e.graph e.ready × HaveFixedSets (A.meaning e.app.now) e.graph × A.tells e.app.now e.horizon (tasks_of e.graph) };
+    ghost invariant = { λ e. IsKept (A.meaning e.app.now) (progress_of e.store e.agenda.graph e.tally)
+        × AreKnown (A.meaning e.app.now) (A.tells e.app.now e.agenda.horizon) e.agenda.graph e.agenda.ready };
 }
 
 impl<'a, A: App> Engine<'a, A> {
@@ -116,18 +88,24 @@ impl<'a, A: App> Engine<'a, A> {
         let graph = empty_graph(alloc, app);
         let graph = put_first(alloc, app, graph, starts, &store, steps)?;
         let horizon = app.horizon(alloc)?;
-        Ok(Engine {
+        let agenda = Agenda {
             alloc,
-            app,
-            horizon,
-            store,
             graph,
+            horizon,
+            ready: Ready::new(alloc),
+            fresh: Vec::new(alloc),
+        };
+        let tally = Tally {
             log: Log::new(alloc),
             ended: 0,
             limit: budget,
             over: None,
-            ready: Ready::new(alloc),
-            fresh: Vec::new(alloc),
+        };
+        Ok(Engine {
+            app,
+            agenda,
+            store,
+            tally,
         })
     }
 
@@ -143,7 +121,7 @@ impl<'a, A: App> Engine<'a, A> {
         ensures nodes { result.now ≡ self.now.progress.nodes }
         ensures kept { IsKept (A.meaning self.now.app) self.now.progress }
     {
-        &self.graph
+        &self.agenda.graph
     }
 
     /// How many tasks were created, have ended, are pending, and are running. This goes over the
@@ -153,10 +131,10 @@ impl<'a, A: App> Engine<'a, A> {
         ensures kept { IsKept (A.meaning self.now.app) self.now.progress }
     {
         Counts {
-            created: self.ended + self.graph.len() as u64,
-            ended: self.ended,
-            nodes: self.graph.len() as u64,
-            running: self.graph.running_len() as u64,
+            created: self.tally.ended + self.agenda.graph.len() as u64,
+            ended: self.tally.ended,
+            nodes: self.agenda.graph.len() as u64,
+            running: self.agenda.graph.running_len() as u64,
         }
     }
 
@@ -164,7 +142,7 @@ impl<'a, A: App> Engine<'a, A> {
     pub fn ended(&self) -> u64
         ensures { result ≡ self.now.progress.ended }
     {
-        self.ended
+        self.tally.ended
     }
 
     /// Puts the pending tasks in order before they are looked at, which changes nothing that is seen.
@@ -172,7 +150,7 @@ impl<'a, A: App> Engine<'a, A> {
     pub(crate) fn settle(&mut self)
         ensures { self.new ≡ self.old }
     {
-        self.graph.settle();
+        self.agenda.graph.settle();
     }
 
     /// Nothing more is to be claimed, for want of memory, unless a mark stands that says why.
@@ -180,8 +158,8 @@ impl<'a, A: App> Engine<'a, A> {
         ensures marked { self.new ≡ record self.old { progress = marked (A.meaning self.old.app) self.old.progress cause.NoRoom } }
         ensures sound { StaysSound (A.meaning self.old.app) self.old.progress self.new.progress }
     {
-        if self.over.is_none() {
-            self.over = Some(OverCause::NoRoom);
+        if self.tally.over.is_none() {
+            self.tally.over = Some(OverCause::NoRoom);
         }
     }
 
@@ -195,9 +173,12 @@ impl<'a, A: App> Engine<'a, A> {
     {
         self.settle();
         drain_laws::<A>();
-        match self.graph.least() {
-            Some(least) => self.log.take_below(&self.graph.task(least).key),
-            None => self.log.take_all(),
+        match self.agenda.graph.least() {
+            Some(least) => self
+                .tally
+                .log
+                .take_below(&self.agenda.graph.task(least).key),
+            None => self.tally.log.take_all(),
         }
     }
 
@@ -205,7 +186,7 @@ impl<'a, A: App> Engine<'a, A> {
     pub fn is_silent(&self) -> bool
         ensures { IsTrue result ↔ (with_texts self.now.progress.log ≡ []) }
     {
-        self.log.is_silent()
+        self.tally.log.is_silent()
     }
 
     /// The cells, all of them home, the texts of what was logged and not drained, and how many tasks
@@ -218,11 +199,11 @@ impl<'a, A: App> Engine<'a, A> {
         ensures whole { (values : List A.Val) × IsSound (A.meaning self.entry.app) self.entry.progress [] values × IfOk result (λ finals. finals.store ≡ homes values) }
     {
         basis::<A>();
-        let text = self.log.take_all()?;
+        let text = self.tally.log.take_all()?;
         Ok(Finals {
             store: self.store,
             text,
-            count: self.ended,
+            count: self.tally.ended,
         })
     }
 }

@@ -1,28 +1,26 @@
 //! How a task ends.
 
-ghost use Rattle.std.specs.Prelude.{◌≡◌, ◌+◌, ◌<◌, ◌≤◌, ◌^◌, Some, length, IfErr, OnOk, OnErr};
+ghost use Rattle.std.specs.Prelude.{◌≡◌, ◌+◌, ◌<◌, ◌≤◌, Some, length, IfErr, OnOk, OnErr};
 ghost use Rattle.task_order.specs.declared.task.Task.{Task};
 ghost use Rattle.kdg_graph.specs.Edges.{laters_of};
 ghost use Rattle.kdg_graph.specs.Node.{Node};
-ghost use Rattle.kdg_graph.specs.Nodes.{node_at, tasks_of};
+ghost use Rattle.kdg_graph.specs.Nodes.{node_at};
 ghost use Rattle.graph_update.specs.Answers.{IsFinishRefusal};
-ghost use Rattle.graph_update.specs.AtHome.{EndsAtHome, IsBackHome, with_parts};
-ghost use Rattle.graph_update.specs.Engine.{AsksForNoFixedSet, FinishStaysSound, HaveFixedSets, IsDone, IsOneStepEach, StaysSound};
+ghost use Rattle.graph_update.specs.AtHome.{EndsAtHome, IsBackHome, IsEndFault};
+ghost use Rattle.graph_update.specs.Engine.{AreKnown, AsksForNoFixedSet, FinishStaysSound, IsDone, IsOneStepEach, StaysSound, most_tasks, progress_of};
 ghost use Rattle.graph_update.specs.Events.{IsFinished, IsOverLimit};
-ghost use Rattle.graph_update.specs.Progress.{Progress};
 
+use crate::agenda::{Agenda, Tally};
 use crate::finish_laws::{basis, sound_finish_laws};
 use crate::laws::drain_laws;
 use crate::rewriting::{end_node, fresh_tasks};
 use crate::standing_laws::stay_clear_laws;
 use crate::touching::touch_end;
 use crate::{Done, Engine, FinishFault, OverCause};
-use app_laws::{App, Child, Effect};
+use app_laws::{App, ChildList, Effect};
 use cell_store::Store;
-use kdg_graph::{Fresh, Graph, NodeId};
+use kdg_graph::NodeId;
 use kdg_text::{Steps, Text};
-use output_log::Log;
-use std::alloc::Global;
 use std::sync::ledger::Ledger;
 
 impl<'a, A: App> Engine<'a, A> {
@@ -49,12 +47,11 @@ impl<'a, A: App> Engine<'a, A> {
         ensures no_step { AsksForNoFixedSet (A.has_fixed_sets self.old.app) steps.old steps.new }
     {
         drain_laws::<A>();
-        let (created, limit) = (
-            self.ended + self.graph.len() as u64 + done.effect.children.items().len() as u64,
-            self.limit,
-        );
+        let (pending, children) = (self.agenda.graph.len(), done.effect.children.items().len());
+        let (created, limit) = (self.tally.created(pending, children), self.tally.limit);
         if created > limit {
-            self.over = self.over.or(Some(OverCause::Budget { created, limit }));
+            let cause = OverCause::Budget { created, limit };
+            self.tally.over = self.tally.over.or(Some(cause));
             return Err(FinishFault::Budget {
                 done,
                 created,
@@ -95,32 +92,23 @@ impl<'a, A: App> Engine<'a, A> {
     {
         basis::<A>();
         sound_finish_laws::<A>();
-        stay_clear_laws::<A>();
         let Effect {
             bundle,
             children,
             text,
         } = effect;
         let shell = self.store.give(bundle);
-        let ended = end_at_home(
-            self.alloc,
+        let ended = self.agenda.end_at_home(
             self.app,
             &self.store,
-            &mut self.graph,
-            &mut self.log,
-            &mut self.horizon,
-            &mut self.fresh,
+            &mut self.tally,
             node,
-            children.items(),
+            &children,
             text,
             steps,
         );
         match ended {
-            Ok(()) => {
-                self.ended += 1;
-                self.ready.expect_more();
-                Ok(())
-            }
+            Ok(()) => Ok(()),
             Err(text) => {
                 let bundle = self.store.regain(shell);
                 Err(Effect {
@@ -133,49 +121,94 @@ impl<'a, A: App> Engine<'a, A> {
     }
 }
 
-/// Ends a task whose new values are home: its children are nodes in place of its own, the later nodes
-/// in conflict have new sets, its text is logged, and the horizon is told of both. Where memory runs out,
-/// the text comes back, and nodes and entries are as they were.
-#[inline(always)]
-pub(crate) fn end_at_home<A: App, L: Ledger>(
-    alloc: Global,
-    app: &A,
-    store: &Store<A::Val>,
-    graph: &mut Graph,
-    log: &mut Log,
-    horizon: &mut A::Horizon,
-    fresh: &mut Vec<Fresh>,
-    node: NodeId,
-    children: &[Child],
-    text: Text,
-    steps: &mut Steps<L>,
-) -> Result<(), Text>
-    requires home { (counts : Progress A.Val) × IsBackHome (A.meaning app.now) (with_parts counts store.now graph.old log.old.entries) node children.now text }
-    requires sets { HaveFixedSets (A.meaning app.now) graph.old }
-    requires few { length children.now < 2 ^ 32 }
-    requires told { A.tells app.now horizon.old (tasks_of graph.old) }
-    ensures told { A.tells app.now horizon.new (tasks_of graph.new) }
-    ensures ended { OnOk result (EndsAtHome (A.meaning app.now) store.now graph.old log.old.entries node children.now text graph.new log.new.entries) }
-    ensures returned { IfErr result (λ back. back ≡ text) }
-    ensures nodes { OnErr result (graph.new ≡ graph.old) }
-    ensures entries { OnErr result (log.new.entries ≡ log.old.entries) }
-    ensures steps { (of : Node) → node_at graph.old node ≡ Some of → steps.new ≤ steps.old + length (laters_of graph.old of) }
-    ensures no_step { AsksForNoFixedSet (A.has_fixed_sets app.now) steps.old steps.new }
-{
-    basis::<A>();
-    let Ok(()) = log.reserve_for(&text) else {
-        return Err(text);
-    };
-    let parent = &graph.task(node).key;
-    let Ok(()) = fresh_tasks(fresh, parent, children) else {
-        return Err(text);
-    };
-    match end_node(alloc, app, graph, store, node, fresh, steps) {
-        Ok(task) => {
-            touch_end(app, horizon, &task.body, children);
-            log.put(task.key, text);
-            Ok(())
+impl<A: App> Agenda<A> {
+    /// Ends a task as `end_at_home` does, unless with its children there would be more tasks than may be
+    /// created. It tells why the task didn't end.
+    #[inline(always)]
+    pub(crate) fn end_within<L: Ledger>(
+        &mut self,
+        app: &A,
+        store: &Store<A::Val>,
+        tally: &mut Tally,
+        node: NodeId,
+        children: &ChildList,
+        text: Text,
+        steps: &mut Steps<L>,
+    ) -> Result<(), OverCause>
+        requires home { IsBackHome (A.meaning app.now) (progress_of store.now self.old.graph tally.old) node children.now text }
+        requires limited { tally.old.limit ≤ most_tasks }
+        requires known { AreKnown (A.meaning app.now) (A.tells app.now self.old.horizon) self.old.graph self.old.ready }
+        ensures known { AreKnown (A.meaning app.now) (A.tells app.now self.new.horizon) self.new.graph self.new.ready }
+        ensures ended { OnOk result (EndsAtHome (A.meaning app.now) (progress_of store.now self.old.graph tally.old) node children.now text (progress_of store.now self.new.graph tally.new)) }
+        ensures within { OnOk result (tally.old.ended + length self.old.graph + length children.now ≤ tally.old.limit) }
+        ensures cause { IfErr result (IsEndFault (tally.old.ended + length self.old.graph + length children.now) tally.old.limit) }
+        ensures unchanged { OnErr result (progress_of store.now self.new.graph tally.new ≡ progress_of store.now self.old.graph tally.old) }
+        ensures steps { (of : Node) → node_at self.old.graph node ≡ Some of → steps.new ≤ steps.old + length (laters_of self.old.graph of) }
+        ensures no_step { AsksForNoFixedSet (A.has_fixed_sets app.now) steps.old steps.new }
+    {
+        let created = tally.created(self.graph.len(), children.items().len());
+        let limit = tally.limit;
+        if created > limit {
+            return Err(OverCause::Budget { created, limit });
         }
-        Err(_) => Err(text),
+        match self.end_at_home(app, store, tally, node, children, text, steps) {
+            Ok(()) => Ok(()),
+            Err(_) => Err(OverCause::NoRoom),
+        }
+    }
+
+    /// Ends a task whose new values are home: its children are nodes in place of its own, the later nodes
+    /// in conflict have new sets, its text is logged, and the horizon is told of both. Where memory runs
+    /// out, the text comes back, and nodes and entries are as they were.
+    #[inline(always)]
+    pub(crate) fn end_at_home<L: Ledger>(
+        &mut self,
+        app: &A,
+        store: &Store<A::Val>,
+        tally: &mut Tally,
+        node: NodeId,
+        children: &ChildList,
+        text: Text,
+        steps: &mut Steps<L>,
+    ) -> Result<(), Text>
+        requires home { IsBackHome (A.meaning app.now) (progress_of store.now self.old.graph tally.old) node children.now text }
+        requires within { tally.old.ended + length self.old.graph + length children.now ≤ tally.old.limit }
+        requires known { AreKnown (A.meaning app.now) (A.tells app.now self.old.horizon) self.old.graph self.old.ready }
+        ensures known { AreKnown (A.meaning app.now) (A.tells app.now self.new.horizon) self.new.graph self.new.ready }
+        ensures ended { OnOk result (EndsAtHome (A.meaning app.now) (progress_of store.now self.old.graph tally.old) node children.now text (progress_of store.now self.new.graph tally.new)) }
+        ensures returned { IfErr result (λ back. back ≡ text) }
+        ensures unchanged { OnErr result (progress_of store.now self.new.graph tally.new ≡ progress_of store.now self.old.graph tally.old) }
+        ensures steps { (of : Node) → node_at self.old.graph node ≡ Some of → steps.new ≤ steps.old + length (laters_of self.old.graph of) }
+        ensures no_step { AsksForNoFixedSet (A.has_fixed_sets app.now) steps.old steps.new }
+    {
+        basis::<A>();
+        sound_finish_laws::<A>();
+        stay_clear_laws::<A>();
+        let children = children.items();
+        let Ok(()) = tally.log.reserve_for(&text) else {
+            return Err(text);
+        };
+        let parent = &self.graph.task(node).key;
+        let Ok(()) = fresh_tasks(&mut self.fresh, parent, children) else {
+            return Err(text);
+        };
+        match end_node(
+            self.alloc,
+            app,
+            &mut self.graph,
+            store,
+            node,
+            &mut self.fresh,
+            steps,
+        ) {
+            Ok(task) => {
+                touch_end(app, &mut self.horizon, &task.body, children);
+                self.ready.expect_more();
+                tally.log.put(task.key, text);
+                tally.ended += 1;
+                Ok(())
+            }
+            Err(_) => Err(text),
+        }
     }
 }

@@ -2,6 +2,7 @@
 #![tactic(auto)]
 
 mod acting;
+mod agenda;
 mod answers;
 mod beginning;
 mod claiming;

@@ -8,6 +8,7 @@ ghost use Rattle.graph_update.specs.Renaming.{IsRenamed};
 ghost use Rattle.graph_update.specs.Sound.{IsSound};
 
 use crate::Engine;
+use crate::agenda::Agenda;
 use crate::beginning::put_first;
 use crate::laws::{basis, renaming_laws};
 use crate::touching::horizon_under_names;
@@ -42,35 +43,36 @@ impl<'a, A: App> Engine<'a, A> {
         renaming_laws::<A>();
         naming_laws();
         let Engine {
-            alloc,
             app,
-            horizon,
+            agenda,
             store,
+            mut tally,
+        } = self;
+        let Agenda {
+            alloc,
             mut graph,
-            log: _,
-            ended,
-            limit,
-            over,
+            horizon,
             mut ready,
             mut fresh,
-        } = self;
+        } = agenda;
         let tasks = take_tasks(alloc, &mut graph, &mut fresh)?;
         let first = starts_by_path(tasks)?;
         let graph = put_first(alloc, app, graph, &first, &store, steps)?;
         let horizon = horizon_under_names(alloc, app, horizon)?;
         ready.forget();
-        Ok(Engine {
+        let agenda = Agenda {
             alloc,
-            app,
-            horizon,
-            store,
             graph,
-            log: Log::new(alloc),
-            ended,
-            limit,
-            over,
+            horizon,
             ready,
             fresh,
+        };
+        tally.log = Log::new(alloc);
+        Ok(Engine {
+            app,
+            agenda,
+            store,
+            tally,
         })
     }
 }

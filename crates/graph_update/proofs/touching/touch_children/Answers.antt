@@ -1,10 +1,11 @@
 use Rattle.std.proofs.Common.{refl, sym, ap, subst, ◌∙◌}
+use Rattle.std.proofs.lemmas.List.{drop_all}
 use Rattle.task_order.specs.declared.task.Task.{Task}
 use Rattle.task_order.specs.Key.{child_key}
 use Rattle.task_order.specs.TaskList.{put_all, put_in}
 use Rattle.kdg_graph.specs.Rewrite.{fresh_tasks}
 use Rattle.graph_update.specs.Events.{fresh_from}
-use Rattle.graph_update.proofs.MakingFresh.{none_left, one_more_put}
+use Rattle.graph_update.proofs.MakingFresh.{one_more_put}
 use Rattle.graph_update.proofs.touching.touch_children.Goals as goal
 
 pub loop-child-preserved : goal.loop-child-preserved
@@ -20,4 +21,4 @@ pub returns : goal.returns
 returns g c parent tasks told =
     let so_far = c.loop-child.invariant parent tasks told in
     subst (g.A.App.tells c.args.app.now c.loop-child.horizon)
-    (sym (ap (λ more. put_all (fresh_tasks (fresh_from parent c.loop-child.child-index more)) so_far.0) (none_left c.args.children.now c.loop-child.child-index c.loop-child-test.false)) ∙ so_far.2) so_far.1
+    (sym (ap (λ more. put_all (fresh_tasks (fresh_from parent c.loop-child.child-index more)) so_far.0) (drop_all c.loop-child.child-index c.args.children.now c.loop-child-test.false)) ∙ so_far.2) so_far.1

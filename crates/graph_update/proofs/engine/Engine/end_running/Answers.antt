@@ -1,27 +1,31 @@
 use Rattle.std.proofs.Common.{◌+◌, ◌≤◌, ◌∙◌, length, refl, sym, ap, subst}
-use Rattle.tiered_list.specs.Tiered.{Tiered}
-use Rattle.kdg_graph.specs.declared.node_id.NodeId.{NodeId}
 use Rattle.graph_update.specs.declared.job.Done.{Done}
-use Rattle.graph_update.specs.Engine.{AreReady, HaveFixedSets, IsKept, IsOneStepEach}
+use Rattle.graph_update.specs.Engine.{IsKept, IsOneStepEach}
 use Rattle.graph_update.specs.Progress.{EngineState, Progress}
 use Rattle.graph_update.proofs.Performed.{bundle_is_out}
-use Rattle.graph_update.proofs.ReadyIds.{some_are_ready}
-use Rattle.graph_update.proofs.TaskEnds.{bundle_back, cells_back, effect_back, engine_finished, engine_sound, finished_at_home, inside_done, is_back, node_is, not_over, progress_back, stays_fixed, stays_kept, stays_ready, stays_sound, step_each}
+use Rattle.graph_update.proofs.TaskEnds.{bundle_back, cells_back, effect_back, engine_finished, engine_sound, inside_done, node_is, not_over, stays_kept, stays_sound, step_each, with_cells}
 use Rattle.graph_update.proofs.engine.Engine.end_running.Goals as goal
 
 pub give-shell-requires-after_bounds : goal.give-shell-requires-after_bounds
 give-shell-requires-after_bounds g c κs within =
     let done : Done _ = record { node = c.args.node; task = g.task; effect = c.args.effect } in
     let is = inside_done g.A.App.meaning _ _ done c.self.view_is c.requires.1.1.1.1.1.1.0 in
-    let basis = c.basis.ensures c.self.inside.app.now in
-    bundle_is_out basis is.sound is.performed
+    bundle_is_out (c.basis.ensures c.self.inside.app.now) is.sound is.performed
 
 pub end_at_home-ended-requires-clause-home : goal.end_at_home-ended-requires-clause-home
 end_at_home-ended-requires-clause-home g c κs within =
     let done : Done _ = record { node = c.args.node; task = g.task; effect = c.args.effect } in
-    let is = inside_done g.A.App.meaning _ _ done c.self.view_is c.requires.1.1.1.1.1.1.0 in
-    let basis = c.basis.ensures c.self.inside.app.now in
-    is_back basis _ done is c.give-shell.new.self c.give-shell.ensures.given c.items.result.now c.items.ensures.all
+    record {
+      away = c.self.inside.store;
+      task = g.task;
+      bundle = c.args.effect.bundle;
+      is_done = inside_done g.A.App.meaning _ _ done c.self.view_is c.requires.1.1.1.1.1.1.0;
+      given = c.give-shell.ensures.given;
+    }
+
+pub end_at_home-ended-requires-clause-within : goal.end_at_home-ended-requires-clause-within
+end_at_home-ended-requires-clause-within g c κs within =
+    subst (λ (engine : EngineState _ _). engine.progress.created + length c.args.effect.children ≤ engine.progress.limit) (sym c.self.view_is) c.requires.1.1.1.1.1.1.1
 
 pub invariant_of-self : goal.invariant_of-self
 invariant_of-self g c =
@@ -29,14 +33,8 @@ invariant_of-self g c =
     let is = inside_done g.A.App.meaning _ _ done c.self.view_is c.requires.1.1.1.1.1.1.0 in
     let basis = c.basis.ensures c.self.inside.app.now in
     let within = not_over basis _ done is _ refl (subst (λ (engine : EngineState _ _). engine.progress.created + length c.args.effect.children ≤ engine.progress.limit) (sym c.self.view_is) c.requires.1.1.1.1.1.1.1) in
-    let finished = finished_at_home basis _ done is c.give-shell.new.self c.give-shell.ensures.given c.items.result.now c.items.ensures.all (c.sound_finish_laws.ensures c.self.inside.app.now) within
-    c.end_at_home-ended.new.graph c.end_at_home-ended.new.log.entries c.in-Ok.ensures.ended in (
-      stays_kept basis _ done is within _ finished (c.sound_finish_laws.ensures c.self.inside.app.now) c.self.invariant.0.limited,
-      some_are_ready (g.A.App.meaning c.self.inside.app.now) c.end_at_home-ended.new.graph c.expect_more.new.self c.self.inside.ready.ids.items (ap (λ (ids : Tiered NodeId). ids.items) c.expect_more.ensures.ids) c.expect_more.ensures.current
-          (stays_ready basis _ done is within _ finished (c.stay_clear_laws.ensures.stay c.self.inside.app.now) c.self.inside.ready.ids.items c.self.invariant.1.clear),
-      stays_fixed basis _ done is within _ finished c.self.invariant.2,
-      c.in-Ok.ensures.told,
-    )
+    let finished = c.in-Ok.ensures.ended (record { away = c.self.inside.store; task = g.task; bundle = c.args.effect.bundle; is_done = is; given = c.give-shell.ensures.given }) in
+    (stays_kept basis _ done is within _ finished (c.sound_finish_laws.ensures c.self.inside.app.now) c.self.invariant.0.limited, c.in-Ok.ensures.known)
 
 pub invariant_of-self-in-Err : goal.invariant_of-self-in-Err
 invariant_of-self-in-Err g c =
@@ -44,22 +42,15 @@ invariant_of-self-in-Err g c =
     let is = inside_done g.A.App.meaning _ _ done c.self.view_is c.requires.1.1.1.1.1.1.0 in
     let basis = c.basis.ensures c.self.inside.app.now in
     let cells_are = cells_back c.self.inside.store c.give-shell.new.self c.args.effect.bundle c.give-shell.result (bundle_is_out basis is.sound is.performed) c.give-shell.ensures.given c.give-shell.ensures.shell basis.takes_back c.regain-bundle.new.self c.regain-bundle.ensures.taken in
-    let back = progress_back _ c.regain-bundle.new.self c.end_at_home-ended.new.graph c.end_at_home-ended.new.log.entries refl cells_are c.in-Err.ensures.nodes c.in-Err.ensures.entries in (
-      subst (IsKept (g.A.App.meaning c.self.inside.app.now)) (sym back) c.self.invariant.0,
-      subst (λ nodes. AreReady (g.A.App.meaning c.self.inside.app.now) nodes c.self.inside.ready) (sym c.in-Err.ensures.nodes) c.self.invariant.1,
-      subst (HaveFixedSets (g.A.App.meaning c.self.inside.app.now)) (sym c.in-Err.ensures.nodes) c.self.invariant.2,
-      c.in-Err.ensures.told,
-    )
+    let back = with_cells _ _ c.in-Err.ensures.unchanged c.regain-bundle.new.self c.self.inside.store cells_are in
+    (subst (IsKept (g.A.App.meaning c.self.inside.app.now)) (sym back) c.self.invariant.0, c.in-Err.ensures.known)
 
 pub returns-in-Ok-clause-finished : goal.returns-in-Ok-clause-finished
 returns-in-Ok-clause-finished g c =
     let done : Done _ = record { node = c.args.node; task = g.task; effect = c.args.effect } in
     let is = inside_done g.A.App.meaning _ _ done c.self.view_is c.requires.1.1.1.1.1.1.0 in
-    let basis = c.basis.ensures c.self.inside.app.now in
-    let within = not_over basis _ done is _ refl (subst (λ (engine : EngineState _ _). engine.progress.created + length c.args.effect.children ≤ engine.progress.limit) (sym c.self.view_is) c.requires.1.1.1.1.1.1.1) in
-    let finished = finished_at_home basis _ done is c.give-shell.new.self c.give-shell.ensures.given c.items.result.now c.items.ensures.all (c.sound_finish_laws.ensures c.self.inside.app.now) within
-    c.end_at_home-ended.new.graph c.end_at_home-ended.new.log.entries c.in-Ok.ensures.ended in
-    engine_finished g.A.App.meaning _ _ done c.self.view_is _ finished
+    engine_finished g.A.App.meaning _ _ done c.self.view_is _
+    (c.in-Ok.ensures.ended (record { away = c.self.inside.store; task = g.task; bundle = c.args.effect.bundle; is_done = is; given = c.give-shell.ensures.given }))
 
 pub returns-in-Ok-clause-sound : goal.returns-in-Ok-clause-sound
 returns-in-Ok-clause-sound g c =
@@ -67,8 +58,7 @@ returns-in-Ok-clause-sound g c =
     let is = inside_done g.A.App.meaning _ _ done c.self.view_is c.requires.1.1.1.1.1.1.0 in
     let basis = c.basis.ensures c.self.inside.app.now in
     let within = not_over basis _ done is _ refl (subst (λ (engine : EngineState _ _). engine.progress.created + length c.args.effect.children ≤ engine.progress.limit) (sym c.self.view_is) c.requires.1.1.1.1.1.1.1) in
-    let finished = finished_at_home basis _ done is c.give-shell.new.self c.give-shell.ensures.given c.items.result.now c.items.ensures.all (c.sound_finish_laws.ensures c.self.inside.app.now) within
-    c.end_at_home-ended.new.graph c.end_at_home-ended.new.log.entries c.in-Ok.ensures.ended in
+    let finished = c.in-Ok.ensures.ended (record { away = c.self.inside.store; task = g.task; bundle = c.args.effect.bundle; is_done = is; given = c.give-shell.ensures.given }) in
     engine_sound g.A.App.meaning _ _ done c.self.view_is _ (stays_sound basis _ done is within _ finished (c.sound_finish_laws.ensures c.self.inside.app.now))
 
 pub returns-in-Ok-clause-steps : goal.returns-in-Ok-clause-steps
@@ -102,5 +92,5 @@ returns-in-Err-clause-unchanged g c =
     let is = inside_done g.A.App.meaning _ _ done c.self.view_is c.requires.1.1.1.1.1.1.0 in
     let basis = c.basis.ensures c.self.inside.app.now in
     let cells_are = cells_back c.self.inside.store c.give-shell.new.self c.args.effect.bundle c.give-shell.result (bundle_is_out basis is.sound is.performed) c.give-shell.ensures.given c.give-shell.ensures.shell basis.takes_back c.regain-bundle.new.self c.regain-bundle.ensures.taken in
-    let back = progress_back _ c.regain-bundle.new.self c.end_at_home-ended.new.graph c.end_at_home-ended.new.log.entries refl cells_are c.in-Err.ensures.nodes c.in-Err.ensures.entries in
+    let back = with_cells _ _ c.in-Err.ensures.unchanged c.regain-bundle.new.self c.self.inside.store cells_are in
     ap (λ (progress : Progress _). let engine : EngineState _ _ = record { app = c.self.inside.app.now; progress = progress } in engine) back ∙ c.self.view_is

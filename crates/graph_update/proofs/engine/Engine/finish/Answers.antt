@@ -1,4 +1,4 @@
-use Rattle.std.proofs.Common.{ℕ, ◌+◌, ◌≤◌, ◌∙◌, Some, length, sym, ap, subst}
+use Rattle.std.proofs.Common.{◌≡◌, ℕ, ◌+◌, ◌≤◌, ◌∙◌, Some, length, sym, ap, subst}
 use Rattle.std.specs.Option.{option_or}
 use Rattle.task_order.specs.declared.task.Task.{Task}
 use Rattle.graph_update.specs.declared.answers.OverCause.TheVariants as cause
@@ -12,16 +12,20 @@ use Rattle.graph_update.proofs.engine.Engine.finish.Goals as goal
 
 pub returns-then-created-limit-clause-refused_sound : goal.returns-then-created-limit-clause-refused_sound
 returns-then-created-limit-clause-refused_sound g c =
+    let many : c.created-created.result ≡ c.self.inside.tally.ended + length c.self.inside.agenda.graph + length c.args.done.effect.children =
+    c.created-created.ensures ∙ ap (λ (nodes : ℕ). c.self.inside.tally.ended + nodes + length c.items.result.now) c.len-pending.ensures.len
+    ∙ ap (λ (children : _). c.self.inside.tally.ended + length c.self.inside.agenda.graph + length children) c.items.ensures.all in
     over_sound g.A.App.meaning _ _ c.args.done c.self.view_is (c.drain_laws.ensures.sound c.args.self.now.app) c.or-self-inside.result
-    (c.or-self-inside.ensures ∙ ap (λ (nodes : ℕ). option_or c.self.inside.over (Some (cause.Budget (c.self.inside.ended + nodes + length c.items.result.now) c.self.inside.limit))) c.len.ensures.len
-    ∙ ap (λ (children : _). option_or c.self.inside.over (Some (cause.Budget (c.self.inside.ended + length c.self.inside.graph + length children) c.self.inside.limit))) c.items.ensures.all)
+    (c.or-self-inside.ensures ∙ ap (λ (created : ℕ). option_or c.self.inside.tally.over (Some (cause.Budget created c.self.inside.tally.limit))) many)
 
 pub end_running-requires : goal.end_running-requires
 end_running-requires g c κs within =
     let is = subst (λ (done : Done _). IsDone (g.A.App.meaning c.args.self.now.app) c.args.self.now.progress done) (sym (same_done c.args.self.now.progress c.args.done c.requires)) c.requires in
-    let below = subst (λ (children : _). c.self.inside.ended + length c.self.inside.graph + length children ≤ c.self.inside.limit) c.items.ensures.all
-    (subst (λ (nodes : ℕ). c.self.inside.ended + nodes + length c.items.result.now ≤ c.self.inside.limit) c.len.ensures.len c.if-created-limit.false) in
-    let few = subst (λ (engine : EngineState _ _). engine.progress.created + length c.args.done.effect.children ≤ engine.progress.limit) c.self.view_is below in
+    let many : c.created-created.result ≡ c.self.inside.tally.ended + length c.self.inside.agenda.graph + length c.args.done.effect.children =
+    c.created-created.ensures ∙ ap (λ (nodes : ℕ). c.self.inside.tally.ended + nodes + length c.items.result.now) c.len-pending.ensures.len
+    ∙ ap (λ (children : _). c.self.inside.tally.ended + length c.self.inside.agenda.graph + length children) c.items.ensures.all in
+    let few = subst (λ (engine : EngineState _ _). engine.progress.created + length c.args.done.effect.children ≤ engine.progress.limit) c.self.view_is
+    (subst (λ (created : ℕ). created ≤ c.self.inside.tally.limit) many c.if-created-limit.false) in
     (within.0, (within.1.0, (within.1.1.0, (within.1.1.1, (c.type_bounds.send-A-Val, (c.type_bounds.send-A-Horizon, (is, few)))))))
 
 pub returns-in-Ok-clause-finished : goal.returns-in-Ok-clause-finished

@@ -51,12 +51,14 @@ invariant_of-result g c =
       stays_kept (c.basis.ensures c.self.inside.app.now) _ c.self.invariant.0 idle c.in_ok-tasks.tasks.items c.in_ok-first.first.items c.deref.result.now
           c.in_ok-tasks.ensures.tasks c.in_ok-first.ensures c.deref.ensures.value c.in_ok-graph.graph c.new.result.entries c.in_ok-graph.ensures.nodes c.new.ensures
           (c.renaming_laws.ensures c.self.inside.app.now),
-      some_are_ready app c.in_ok-graph.graph c.forget.new.self [] c.forget.ensures.ids c.forget.ensures.current tt,
-      stays_fixed (c.basis.ensures c.self.inside.app.now) _ c.self.invariant.0 idle c.in_ok-tasks.tasks.items c.in_ok-first.first.items c.deref.result.now
-          c.in_ok-tasks.ensures.tasks c.in_ok-first.ensures c.deref.ensures.value c.in_ok-graph.graph c.new.result.entries c.in_ok-graph.ensures.nodes c.new.ensures
-          (c.renaming_laws.ensures c.self.inside.app.now),
-      subst (g.A.App.tells c.self.inside.app.now c.in_ok-horizon.horizon) (names.are_first ∙ sym c.in_ok-graph.ensures.nodes.tasks)
-          (c.in_ok-horizon.ensures (tasks_of c.self.inside.graph) names.name names.has_name names.naming names.have_names c.self.invariant.3),
+      record {
+        clear = some_are_ready app c.in_ok-graph.graph c.forget.new.self [] c.forget.ensures.ids c.forget.ensures.current tt;
+        fixed = stays_fixed (c.basis.ensures c.self.inside.app.now) _ c.self.invariant.0 idle c.in_ok-tasks.tasks.items c.in_ok-first.first.items c.deref.result.now
+            c.in_ok-tasks.ensures.tasks c.in_ok-first.ensures c.deref.ensures.value c.in_ok-graph.graph c.new.result.entries c.in_ok-graph.ensures.nodes c.new.ensures
+            (c.renaming_laws.ensures c.self.inside.app.now);
+        told = subst (g.A.App.tells c.self.inside.app.now c.in_ok-horizon.horizon) (names.are_first ∙ sym c.in_ok-graph.ensures.nodes.tasks)
+            (c.in_ok-horizon.ensures (tasks_of c.self.inside.agenda.graph) names.name names.has_name names.naming names.have_names c.self.invariant.1.told);
+      },
     )
 
 pub returns-clause-renamed : goal.returns-clause-renamed
