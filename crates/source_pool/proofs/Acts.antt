@@ -5,6 +5,7 @@ use Rattle.std.specs.List.{AllByRecursion, filter}
 use Rattle.std.specs.Option.{is_some}
 use Rattle.std.specs.declared.cmp.Ordering.TheVariants.{Less}
 use Rattle.std.proofs.lemmas.Bool.{true≢false, and_from}
+use Rattle.std.proofs.lemmas.Option.{same_Some}
 use Rattle.task_order.specs.declared.task.Task.{Task}
 use Rattle.task_order.specs.Key.{key_cmp}
 use Rattle.task_order.specs.TaskList.{IsAscending}
@@ -28,7 +29,7 @@ use Rattle.source_pool.specs.Course.{AreAllDone, IsActing, IsAtRest, IsDrawing, 
 use Rattle.source_pool.specs.Laws.{ActsBegin, ActsComeToRest, ActsGoOn, FirstMayAct, RoundsHaveActs, TooManyActsNeverEnd}
 use Rattle.source_pool.proofs.Drawing.{claims_go_on, drawings_begin, found_is_there, unblocked}
 use Rattle.source_pool.proofs.Ending.{ends_come_to_rest, ends_go_on, too_many_never_end}
-use Rattle.source_pool.proofs.Lists.{Some-injective, all_at, all_from, cases, from_filter, from_map, here, in_filter, in_map, none, same_tasks}
+use Rattle.source_pool.proofs.Lists.{all_at, all_from, cases, from_filter, from_map, here, in_filter, in_map, none, same_tasks}
 
 -- ---- some of the nodes
 
@@ -189,7 +190,7 @@ module _ {V : Type 0} {app : Application V} (basis : Basis app) where
           let there = (from_filter (is_clear app now.nodes) now.nodes claimed.node (found_is_there basis (clear_nodes app now.nodes) _ claimed.node claimed.chosen)).0 in
           let by_id = basis.have_ids now.nodes claimed.node acting.rest.come.sound.keys_and_counts.graph there in
           let same_id : claimed.node.id ≡ first.node.id = ap (λ (j : Job V). j.node) (sym claimed.job_is) ∙ played.started.node ∙ first.id_is in
-          Some-injective claimed.node first.node (sym by_id ∙ ap (node_at now.nodes) same_id ∙ found)
+          same_Some claimed.node first.node (sym by_id ∙ ap (node_at now.nodes) same_id ∙ found)
 
       task_is : job.task ≡ first.node.task
       task_is = ap (λ (j : Job V). j.task) claimed.job_is ∙ ap (λ (n : Node). n.task) same_node

@@ -5,25 +5,18 @@ use Rattle.std.specs.List.{All, flat_map}
 use Rattle.std.proofs.lemmas.Bool.{eq-eqb}
 use Rattle.std.proofs.lemmas.Bool.Decides.{eqb_tells}
 use Rattle.std.proofs.lemmas.List.{append-nil, append_assoc, length-set}
-use Rattle.std.proofs.lemmas.Option.{get_or_from_slice_get, slice_get_within}
+use Rattle.std.proofs.lemmas.Option.{get_or_from_slice_get, same_Some, slice_get_within}
 use Rattle.std.proofs.lemmas.List.Sorted.{IsPermutation-append_left, IsPermutation-append_right, IsPermutation-refl, IsPermutation-to_front, IsPermutation-trans}
 use Rattle.graph_update.specs.declared.job.Done.{Done}
 use Rattle.graph_update.specs.declared.job.Job.{Job}
 use Rattle.source_pool.specs.declared.hands.Hand.{Hand}
 use Rattle.source_pool.specs.Performing.{AreDealt, AreEmptyHands, dealt_jobs, share}
-use Rattle.source_pool.proofs.Lists.{Some-injective}
 
 -- ---- what stands where in a list
 
-pushed_at : {X : Type 0} (xs : List X) (y : X) (k : ℕ) (z : X) → slice_get (xs ++ y ∷ []) k ≡ Some z → (slice_get xs k ≡ Some z) ⊎ ((k ≡ length xs) × (y ≡ z))
-pushed_at [] y zero z is = inr (refl, Some-injective y z is)
-pushed_at [] y (suc k) z is = absurd (cc)
-pushed_at (x ∷ xs) y zero z is = inl is
-pushed_at (x ∷ xs) y (suc k) z is = elim (pushed_at xs y k z is) [ inl before ↦ inl before | inr last ↦ inr (ap suc last.0, last.1) ]
-
 set_at : {X : Type 0} (xs : List X) (i : ℕ) (y : X) (k : ℕ) (z : X) → slice_get (slice_set xs i y) k ≡ Some z → ((k ≡ i) × (y ≡ z)) ⊎ ((k ≢ i) × (slice_get xs k ≡ Some z))
 set_at [] i y k z is = absurd (cc)
-set_at (x ∷ xs) zero y zero z is = inl (refl, Some-injective y z is)
+set_at (x ∷ xs) zero y zero z is = inl (refl, same_Some y z is)
 set_at (x ∷ xs) zero y (suc k) z is = inr ((λ same. omega (arith, same)), is)
 set_at (x ∷ xs) (suc i) y zero z is = inr ((λ same. omega (arith, same)), is)
 set_at (x ∷ xs) (suc i) y (suc k) z is = elim (set_at xs i y k z is) [
@@ -36,7 +29,7 @@ grown : {X Y : Type 0} (f : X → List Y) (xs : List X) (place : ℕ) (x next : 
     → IsPermutation (flat_map f xs ++ y ∷ []) (flat_map f (slice_set xs place next))
 grown f [] place x next y at is = absurd (cc)
 grown {X} {Y} f (z ∷ xs) zero x next y at is =
-    let same : f next ≡ f z ++ y ∷ [] = is ∙ ap (λ (w : X). f w ++ y ∷ []) (sym (Some-injective z x at)) in
+    let same : f next ≡ f z ++ y ∷ [] = is ∙ ap (λ (w : X). f w ++ y ∷ []) (sym (same_Some z x at)) in
     let left : (f z ++ flat_map f xs) ++ y ∷ [] ≡ f z ++ (flat_map f xs ++ y ∷ []) = append_assoc (f z) (flat_map f xs) (y ∷ []) in
     let right : f next ++ flat_map f xs ≡ f z ++ (y ∷ flat_map f xs) = ap (λ (l : List Y). l ++ flat_map f xs) same ∙ append_assoc (f z) (y ∷ []) (flat_map f xs) in
     subst (λ (l : List Y). IsPermutation l (f next ++ flat_map f xs)) (sym left) (subst (IsPermutation (f z ++ (flat_map f xs ++ y ∷ []))) (sym right)

@@ -1,11 +1,14 @@
 -- The jobs that are drawn in a round are those of all clear tasks.
-use Rattle.std.proofs.Common.{◌≡◌, ◌≢◌, ◌⊎◌, inl, inr, ℕ, zero, suc, ◌+◌, ◌<◌, not, Bool, true, false, cond, List, [], ◌∷◌, Some, length, slice_get, refl, sym, ap, subst, ◌∙◌, arith, eqb-true, eq-eqb}
+use Rattle.std.proofs.Common.{◌≡◌, ◌≢◌, ◌⊎◌, inl, inr, ℕ, suc, ◌+◌, ◌<◌, not, Bool, true, false, cond, List, [], ◌∷◌, Some, length, get_or, slice_get, refl, sym, ap, subst, ◌∙◌, arith, eqb-true, eq-eqb}
 use Rattle.std.specs.Prelude.{Contains, IsSome}
 use Rattle.std.specs.List.{AllByRecursion, filter}
 use Rattle.std.specs.declared.cmp.Ordering.{Ordering}
 use Rattle.std.specs.declared.cmp.Ordering.TheVariants.{Less, Equal, Greater}
 use Rattle.std.specs.Ordering.{is_eq, is_lt}
 use Rattle.std.proofs.lemmas.Bool.{true≢false, and_from, and_parts}
+use Rattle.std.proofs.lemmas.List.Elements.{Contains-get_or}
+use Rattle.std.proofs.lemmas.List.Folds.{Any-from_list_any, list_any_none}
+use Rattle.std.proofs.lemmas.Option.{get_or_from_slice_get, slice_get_within}
 use Rattle.task_order.specs.declared.key.Key.{Key}
 use Rattle.task_order.specs.declared.task.Task.{Task}
 use Rattle.task_order.specs.Key.{key_cmp}
@@ -34,7 +37,7 @@ use Rattle.source_pool.specs.Basis.{Basis}
 use Rattle.source_pool.specs.Course.{AreAllDone, IsJobDone, idle_count, IsDrawing, IsEnding, done_tasks}
 use Rattle.source_pool.specs.Laws.{ClaimsGoOn, ClaimsStartOne, DrawingsBegin, DrawnJobsAreTheRound, DrawnJobsDiffer, RoundsHaveJobs, StartsAreAtRest}
 use Rattle.source_pool.proofs.Jobs.{job_is_clear, node_of, sound_turned}
-use Rattle.source_pool.proofs.Lists.{Some-injective, all_at, all_from, cases, from_filter, from_map, here, in_filter, in_map, none, none_any, passing, same_tasks, there}
+use Rattle.source_pool.proofs.Lists.{all_at, all_from, cases, from_filter, from_map, in_filter, in_map, none, same_tasks, there}
 use Rattle.source_pool.proofs.Logged.{logged_first, logged_same}
 
 -- a node with the id, running
@@ -146,7 +149,9 @@ module _ {V : Type 0} {app : Application V} (basis : Basis app) where
       let earlier = earlier_than key now.nodes in
       let same = tasks-earlier_than key now.nodes in
       let Exact = λ (other : Node). other.set ≡ set_in app values other.task in
-      let free : is_blocked now.nodes node ≡ false = none_any (λ (other : Node). conflicts_with other.set node.set) earlier (λ other among.
+      let free : is_blocked now.nodes node ≡ false = list_any_none (λ (other : Node). conflicts_with other.set node.set) earlier (λ k d inside.
+      let other = get_or earlier k d in
+      let among = Contains-get_or earlier k d inside in
       let were = from_filter (λ (n : Node). is_lt (key_cmp n.task.key key)) now.nodes other among in
       let task_there = subst (λ tasks. Contains tasks other.task) same (in_map (λ (n : Node). n.task) earlier other among) in
       let apart = all_at (λ (task : Task). ¬ Conflicts (set_in app values task) (set_in app values node.task)) (tasks_before key (tasks_of now.nodes)) other.task clear.unblocked.apart task_there in
@@ -206,11 +211,12 @@ module _ {V : Type 0} {app : Application V} (basis : Basis app) where
         let node = from.0 in
         let running = runs node from.1 (unblocked first now cells state text jobs drawing node from.1 (subst (IsClear app (whole_state now values)) (sym from.2) here_clear)) in
         let any : HasJob app jobs node = all_at (λ (n : Node). n.running ≡ true → HasJob app jobs n) now.nodes node sound.outs_match.all from.1 running in
-        let its : (job : Job V) × Contains jobs job × (is_eq (key_cmp job.task.key node.task.key) ≡ true) = passing (λ (j : Job V). is_eq (key_cmp j.task.key node.task.key)) jobs any in
-        let job = its.0 in
-        let key = same_key basis.exact job.task.key node.task.key its.2 in
-        let task_is : job.task ≡ node.task = task_of_key job node its.1 from.1 key in
-        let done : (d : Done V) × Contains dones d × IsJobDone app job d = all.each job its.1 in
+        let its = Any-from_list_any (λ (j : Job V). is_eq (key_cmp j.task.key node.task.key)) jobs any in
+        let job = its.1 in
+        let has : Contains jobs job = (its.0, its.2, its.3) in
+        let key = same_key basis.exact job.task.key node.task.key its.4 in
+        let task_is : job.task ≡ node.task = task_of_key job node has from.1 key in
+        let done : (d : Done V) × Contains dones d × IsJobDone app job d = all.each job has in
         let same : done.0.task ≡ task = sym done.2.task ∙ task_is ∙ from.2 in
         subst (Contains (done_tasks dones)) same (in_map (λ (d : Done V). d.task) dones done.0 done.1)
 
@@ -287,9 +293,7 @@ module _ {V : Type 0} {app : Application V} (basis : Basis app) where
       ]
 
   pub found_is_there : {X : Type 0} (xs : List X) (i : ℕ) (x : X) → slice_get xs i ≡ Some x → Contains xs x
-  found_is_there [] i x found = cc
-  found_is_there {X} (y ∷ xs) zero x found = subst (λ (z : X). Contains (y ∷ xs) z) (Some-injective y x found) (here y xs)
-  found_is_there (y ∷ xs) (suc i) x found = there y x xs (found_is_there xs i x found)
+  found_is_there xs i x found = (i, slice_get_within xs i x found, get_or_from_slice_get xs i x x found)
 
   pub claims_start_one : ClaimsStartOne app
   claims_start_one old now pick job graph claimed =

@@ -1,7 +1,7 @@
 -- Performed jobs with keys of their own ascend where none is earlier than the one before it.
 use Rattle.std.proofs.Common.{◌≡◌, ◌≢◌, inl, inr, suc, ◌+◌, false, List, [], ◌∷◌, map, get_or, sym, ◌∙◌, ap, arith}
 use Rattle.std.specs.List.{AllByRecursion}
-use Rattle.std.specs.List.Sorted.{IsSortedBy}
+use Rattle.std.specs.List.Sorted.{IsSortedByKey}
 use Rattle.std.specs.Ordering.{is_lt}
 use Rattle.std.specs.declared.cmp.Ordering.TheVariants.{Less}
 use Rattle.std.proofs.lemmas.Bool.{true≢false}
@@ -41,8 +41,8 @@ module _ {V : Type 0} where
       all_other one (other ∷ jobs) all = ((λ same. all.0 (sym same)), all_other one jobs all.1)
 
   -- no key is earlier than the one before it
-  abbrev pub IsEarliestFirst : List (Done V) → Type 0
-  IsEarliestFirst dones = IsSortedBy (λ one other. is_lt (key_cmp one.task.key other.task.key)) dones
+  abbrev IsEarliestFirst : List (Done V) → Type 0
+  IsEarliestFirst dones = IsSortedByKey (λ (done : Done V). done.task.key) key_cmp dones
 
   -- the first one is earlier than each after it
   rest_later : EarlierIsConnected → (done : Done V) (dones : List (Done V)) → IsEarliestFirst (done ∷ dones) → IsNewKey done.task.key (done_tasks dones)

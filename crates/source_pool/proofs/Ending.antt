@@ -16,13 +16,14 @@ use Rattle.commuting.specs.Clear.{IsClear}
 use Rattle.commuting.specs.Standing.{StandsFor}
 use Rattle.commuting.specs.States.{State, after_task, after_tasks, run_from}
 use Rattle.graph_update.specs.declared.job.Done.{Done}
+use Rattle.graph_update.specs.Engine.{IsDone}
 use Rattle.graph_update.specs.Events.{IsFinished, IsOverLimit}
 use Rattle.graph_update.specs.Finishes.{IsEnd}
 use Rattle.graph_update.specs.Progress.{Progress, whole_state}
 use Rattle.graph_update.specs.Sound.{IsSound}
 use Rattle.source_pool.specs.Basis.{Basis}
 use Rattle.source_pool.specs.Course.{HasCome, IsEnding, IsLogged, done_tasks}
-use Rattle.source_pool.specs.Laws.{EndsComeToRest, EndsGoOn, FirstMayEnd, MayEnd, TooManyNeverEnd}
+use Rattle.source_pool.specs.Laws.{EndsComeToRest, EndsGoOn, FirstMayEnd, TooManyNeverEnd}
 use Rattle.source_pool.proofs.Jobs.{FirstIsPerformed, effect_is, first_is_performed, job_is_clear, no_job_left}
 use Rattle.source_pool.proofs.Lists.{all_at, in_map}
 use Rattle.source_pool.proofs.Logged.{logged_more}
@@ -47,7 +48,7 @@ module _ {V : Type 0} {app : Application V} (basis : Basis app) where
     first : FirstIsPerformed app ending.jobs done dones
     first = first_is_performed ending.jobs done dones sound.outs_match.own others_differ ending.all_done
 
-    pub may_end : MayEnd app now done
+    pub may_end : IsDone app now done
     may_end = record { jobs = ending.jobs; values = values; job = first.job; others = first.others; sound = sound; performed = first.performed }
 
     clear : IsClear app (whole_state now values) first.job.task

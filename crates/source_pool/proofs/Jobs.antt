@@ -2,6 +2,7 @@
 use Rattle.std.proofs.Common.{◌≡◌, ◌≢◌, inl, inr, true, List, [], ◌∷◌, ◌++◌, refl, sym, ap, subst, ◌∙◌}
 use Rattle.std.specs.Prelude.{Contains}
 use Rattle.std.specs.Ordering.{is_eq}
+use Rattle.std.proofs.lemmas.List.Sorted.{IsPermutation-to_front, list_any-IsPermutation}
 use Rattle.task_order.specs.declared.task.Task.{Task}
 use Rattle.task_order.specs.Key.{key_cmp}
 use Rattle.cell_store.specs.declared.cell.Cell.{Cell}
@@ -18,14 +19,14 @@ use Rattle.graph_update.specs.Sound.{Covers, HasJob, IsOfNode, IsRunningAs, IsSo
 use Rattle.commuting.specs.Clear.{IsClear}
 use Rattle.source_pool.specs.Basis.{Basis}
 use Rattle.source_pool.specs.Course.{AreAllDone, HaveOwnKeys, IsJobDone}
-use Rattle.source_pool.proofs.Lists.{Place, all_at, all_from, all_turned, among_all, any_turned, cases, here, none, other_than, paired_with, pairwise_turned, place_of, there}
+use Rattle.source_pool.proofs.Lists.{Place, all_at, all_from, all_turned, among_all, cases, here, none, other_than, paired_with, pairwise_turned, place_of, there}
 
 module _ {V : Type 0} {app : Application V} where
   match_turned : (nodes : List Node) (job : Job V) (jobs : List (Job V)) → JobsMatch app nodes (job ∷ jobs) → JobsMatch app nodes (jobs ++ job ∷ [])
   match_turned nodes job jobs match = record {
     named = all_turned (IsOfNode app nodes) job jobs match.named.0 match.named.1;
     all = all_from (λ node. node.running ≡ true → HasJob app (jobs ++ job ∷ []) node) nodes
-        (λ node there running. any_turned (λ (j : Job V). is_eq (key_cmp j.task.key node.task.key)) job jobs
+        (λ node there running. list_any-IsPermutation (λ (j : Job V). is_eq (key_cmp j.task.key node.task.key)) (jobs ++ job ∷ []) (job ∷ jobs) (IsPermutation-to_front jobs job)
         ∙ all_at (λ (node : Node). node.running ≡ true → HasJob app (job ∷ jobs) node) nodes node match.all there running);
     own = pairwise_turned (λ (j other : Job V). j.task.key ≢ other.task.key) (λ j other differ same. differ (sym same)) job jobs match.own.0 match.own.1;
   }
@@ -34,7 +35,7 @@ module _ {V : Type 0} {app : Application V} where
   whole_turned cells job jobs values whole = record {
     home = whole.home;
     away = λ loc inside.
-        let same : is_written app (jobs ++ job ∷ []) loc ≡ is_written app (job ∷ jobs) loc = any_turned (λ (j : Job V). writes j.bundle.set loc) job jobs in
+        let same : is_written app (jobs ++ job ∷ []) loc ≡ is_written app (job ∷ jobs) loc = list_any-IsPermutation (λ (j : Job V). writes j.bundle.set loc) (jobs ++ job ∷ []) (job ∷ jobs) (IsPermutation-to_front jobs job) in
         let both = whole.away loc inside in
         ((λ out. same ∙ both.0 out), (λ written. both.1 (sym same ∙ written)));
     bundles = all_turned (λ (j : Job V). j.bundle ≡ part_of (homes values) j.bundle.set) job jobs whole.bundles.0 whole.bundles.1;

@@ -15,8 +15,7 @@ use Rattle.source_pool.specs.Course.{IsAtRest, LeadsByRounds}
 use Rattle.source_pool.specs.Laws.{RestWithoutNodesIsTheEnd, RoundsAdd, RoundsAreTaken, StartsAreAtRest, WholeIsHome}
 use Rattle.source_pool.specs.Legs.{BeginsAtRest, GoesOnFrom}
 use Rattle.source_pool.specs.Runs.{IsRoundsEnd, IsRunFault, state_at_rest}
-use Rattle.source_pool.proofs.EngineAtRest.{state_is}
-use Rattle.source_pool.proofs.Played.{some_pending}
+use Rattle.source_pool.proofs.EngineAtRest.{some_pending, state_is}
 
 module _ {V : Type 0} {app : Application V} where
   -- one more round

@@ -1,14 +1,13 @@
-pub mod Acted
 pub mod Acts
-pub mod AsDrawn
 pub mod Dealing
 pub mod Drained
 pub mod Drawing
-pub mod Drawn
+pub mod DrawnOut
 pub mod EarliestFirst
 pub mod Ending
+pub mod EndsInKeyOrder
 pub mod EngineAtRest
-pub mod Finished
+pub mod Faults
 pub mod HandsPlayed
 pub mod Jobs
 pub mod JoinedTexts
@@ -16,7 +15,5 @@ pub mod LegRounds
 pub mod Legs
 pub mod Lists
 pub mod Logged
-pub mod Played
+pub mod PerformedInOrder
 pub mod RoundNumbers
-pub mod Taken
-pub mod Turns

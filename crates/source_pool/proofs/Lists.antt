@@ -1,17 +1,16 @@
--- Members of lists, and lists in key order.
-use Rattle.std.proofs.Common.{◌≡◌, ◌⊎◌, inl, inr, zero, suc, ◌||◌, Bool, true, false, cond, List, [], ◌∷◌, ◌++◌, map, Some, refl, sym, ◌∙◌, ap, subst, arith}
-use Rattle.std.specs.Prelude.{Contains}
-use Rattle.std.specs.List.{AllByRecursion, filter, list_any}
+-- Members of lists, two lists place by place, and lists in key order.
+use Rattle.std.proofs.Common.{◌≡◌, ◌≢◌, ◌<◌, ◌⊎◌, inl, inr, zero, suc, Bool, true, false, cond, List, [], ◌∷◌, ◌++◌, map, length, get_or, Option, Some, None, refl, sym, ◌∙◌, ap, subst, arith}
+use Rattle.std.specs.Prelude.{Contains, IsSome}
+use Rattle.std.specs.List.{AllByRecursion, AllZip, filter}
 use Rattle.std.specs.declared.cmp.Ordering.TheVariants.{Less}
 use Rattle.std.proofs.lemmas.Bool.{true≢false}
+use Rattle.std.proofs.lemmas.List.Elements.{All-append, All-contains, All-from_recursion, Contains-append_right, Contains-get_or, recursion_from_All}
+use Rattle.std.proofs.lemmas.List.Sorted.{Contains-permutation, IsPermutation-middle, IsPermutation-sym}
 use Rattle.task_order.specs.declared.task.Task.{Task}
 use Rattle.task_order.specs.Key.{key_cmp}
 use Rattle.task_order.specs.Laws.{EarlierIsIrreflexive, EarlierIsTransitive}
 use Rattle.task_order.specs.TaskList.{IsAscending}
 use Rattle.app_laws.specs.Order.{Pairwise}
-
-pub Some-injective : {X : Type 0} (a b : X) → Some a ≡ Some b → a ≡ b
-Some-injective a b same = cc
 
 -- ---- members
 
@@ -29,16 +28,17 @@ cases y x xs (zero, inside, is) = inl is
 cases y x xs (suc k, inside, is) = inr (k, omega (arith, inside), is)
 
 pub all_at : {X : Type 0} (P : X → Type 0) (xs : List X) (x : X) → AllByRecursion P xs → Contains xs x → P x
-all_at P [] x all has = absurd (none x has)
-all_at P (y ∷ xs) x all has = elim (cases y x xs has) [ inl same ↦ subst P same all.0 | inr later ↦ all_at P xs x all.1 later ]
+all_at P xs x all has = All-contains P xs x (All-from_recursion P xs all) has
 
 pub all_from : {X : Type 0} (P : X → Type 0) (xs : List X) → ((x : X) → Contains xs x → P x) → AllByRecursion P xs
-all_from P [] each = tt
-all_from P (x ∷ xs) each = (each x (here x xs), all_from P xs (λ y has. each y (there x y xs has)))
+all_from P xs each = recursion_from_All P xs (λ k d inside. each (get_or xs k d) (Contains-get_or xs k d inside))
 
 pub all_joined : {X : Type 0} (P : X → Type 0) (xs ys : List X) → AllByRecursion P xs → AllByRecursion P ys → AllByRecursion P (xs ++ ys)
-all_joined P [] ys all more = more
-all_joined P (x ∷ xs) ys all more = (all.0, all_joined P xs ys all.1 more)
+all_joined P xs ys all more = recursion_from_All P (xs ++ ys) (All-append P xs ys (All-from_recursion P xs all) (All-from_recursion P ys more))
+
+pub some_in : {X : Type 0} (xs : List X) → xs ≢ [] → 0 < length xs
+some_in [] some = absurd (some refl)
+some_in (x ∷ xs) some = omega arith
 
 pub in_filter : {X : Type 0} (p : X → Bool) (xs : List X) (x : X) → Contains xs x → p x ≡ true → Contains (filter p xs) x
 in_filter p [] x has is = absurd (none x has)
@@ -73,37 +73,41 @@ from_map {X} {Y} f (x ∷ xs) y has = elim (cases (f x) y (map f xs) has) [
   | inr later ↦ let rest : (z : X) × Contains xs z × (f z ≡ y) = from_map f xs y later in (rest.0, there x rest.0 xs rest.1, rest.2)
 ]
 
--- ---- tests
+-- ---- two lists, place by place
 
-pub none_any : {X : Type 0} (p : X → Bool) (xs : List X) → ((x : X) → Contains xs x → p x ≡ false) → list_any p xs ≡ false
-none_any p [] each = refl
-none_any p (x ∷ xs) each = ap (λ test. test || list_any p xs) (each x (here x xs)) ∙ none_any p xs (λ y has. each y (there x y xs has))
+pub AllZip-append : {X Y : Type 0} (R : X → Y → Type 0) (xs others : List X) (ys more : List Y) → AllZip R xs ys → AllZip R others more → AllZip R (xs ++ others) (ys ++ more)
+AllZip-append R [] others [] more each rest = rest
+AllZip-append R [] others (y ∷ ys) more each rest = absurd each
+AllZip-append R (x ∷ xs) others [] more each rest = absurd each
+AllZip-append R (x ∷ xs) others (y ∷ ys) more each rest = (each.0, AllZip-append R xs others ys more each.1 rest)
 
--- one of the list passes
-pub passing : {X : Type 0} (p : X → Bool) (xs : List X) → list_any p xs ≡ true → (x : X) × Contains xs x × (p x ≡ true)
-passing p [] any = absurd (true≢false (sym any))
-passing {X} p (x ∷ xs) any =
-    let by_case : (test : Bool) → p x ≡ test → (test || list_any p xs) ≡ true → (y : X) × Contains (x ∷ xs) y × (p y ≡ true) = elim [
-      | true ↦ λ is _. (x, here x xs, is)
-      | false ↦ λ _ later. let rest : (y : X) × Contains xs y × (p y ≡ true) = passing p xs later in (rest.0, there x rest.0 xs rest.1, rest.2)
-    ] in
-    by_case (p x) refl any
+pub AllZip-turned : {X Y : Type 0} (R : X → Y → Type 0) (xs : List X) (ys : List Y) → AllZip R xs ys → AllZip (λ y x. R x y) ys xs
+AllZip-turned R [] [] each = tt
+AllZip-turned R [] (y ∷ ys) each = absurd each
+AllZip-turned R (x ∷ xs) [] each = absurd each
+AllZip-turned R (x ∷ xs) (y ∷ ys) each = (each.0, AllZip-turned R xs ys each.1)
+
+-- what stands in the other list where a member does
+pub partner_of : {X Y : Type 0} (R : X → Y → Type 0) (xs : List X) (ys : List Y) (x : X) → AllZip R xs ys → Contains xs x → (y : Y) × Contains ys y × R x y
+partner_of R [] ys x each has = absurd (none x has)
+partner_of R (z ∷ xs) [] x each has = absurd each
+partner_of {X} {Y} R (z ∷ xs) (y ∷ ys) x each has = elim (cases z x xs has) [
+  | inl same ↦ (y, here y ys, subst (λ (w : X). R w y) same each.0)
+  | inr later ↦ let rest : (w : Y) × Contains ys w × R x w = partner_of R xs ys x each.1 later in (rest.0, there y rest.0 ys rest.1, rest.2)
+]
+
+-- ---- a loop that empties a list
+
+-- where nothing was taken from it, nothing is left
+pub nothing_left : {X : Type 0} (taken : Option X) (xs : List X) → (0 < length xs → IsSome taken) → ((x : X) → taken ≡ Some x → ⊥) → xs ≡ []
+nothing_left taken [] some never = refl
+nothing_left None (x ∷ xs) some never = absurd (true≢false (sym (some (omega arith))))
+nothing_left (Some y) (x ∷ xs) some never = absurd (never y refl)
 
 -- ---- the first one at the end
 
 pub all_turned : {X : Type 0} (P : X → Type 0) (x : X) (xs : List X) → P x → AllByRecursion P xs → AllByRecursion P (xs ++ x ∷ [])
-all_turned P x [] own all = (own, tt)
-all_turned P x (y ∷ xs) own all = (all.0, all_turned P x xs own all.1)
-
-pub any_turned : {X : Type 0} (p : X → Bool) (x : X) (xs : List X) → list_any p (xs ++ x ∷ []) ≡ (p x || list_any p xs)
-any_turned p x [] = refl
-any_turned p x (y ∷ xs) = ap (λ rest. p y || rest) (any_turned p x xs) ∙ changed (p y) (p x) (list_any p xs)
-  where
-    changed : (a b c : Bool) → (a || (b || c)) ≡ (b || (a || c))
-    changed true true c = refl
-    changed true false c = refl
-    changed false true c = refl
-    changed false false c = refl
+all_turned P x xs own all = all_joined P xs (x ∷ []) all (own, tt)
 
 pub pairwise_turned : {X : Type 0} (R : X → X → Type 0) → ((x y : X) → R x y → R y x) → (x : X) (xs : List X) → AllByRecursion (R x) xs → Pairwise R xs → Pairwise R (xs ++ x ∷ [])
 pairwise_turned R turned x [] own pairs = (tt, tt)
@@ -125,30 +129,20 @@ place_of {X} (y ∷ xs) x has = elim (cases y x xs has) [
 ]
 
 pub other_than : {X : Type 0} (before : List X) (x : X) (after : List X) (y : X) → Contains (before ++ x ∷ after) y → (x ≡ y) ⊎ Contains (before ++ after) y
-other_than [] x after y has = cases x y after has
-other_than (z ∷ before) x after y has = elim (cases z y (before ++ x ∷ after) has) [
-  | inl same ↦ inr (subst (λ first. Contains (first ∷ (before ++ after)) y) (sym same) (here y (before ++ after)))
-  | inr later ↦ elim (other_than before x after y later) [ inl is ↦ inl is | inr rest ↦ inr (there z y (before ++ after) rest) ]
-]
+other_than before x after y has = cases x y (before ++ after) (Contains-permutation (before ++ x ∷ after) (x ∷ (before ++ after)) y (IsPermutation-middle before x after) has)
 
 pub among_all : {X : Type 0} (before : List X) (x : X) (after : List X) (y : X) → Contains (before ++ after) y → Contains (before ++ x ∷ after) y
-among_all [] x after y has = there x y after has
-among_all (z ∷ before) x after y has = elim (cases z y (before ++ after) has) [
-  | inl same ↦ subst (λ first. Contains (first ∷ (before ++ x ∷ after)) y) (sym same) (here y (before ++ x ∷ after))
-  | inr later ↦ there z y (before ++ x ∷ after) (among_all before x after y later)
-]
+among_all before x after y has =
+    let moved = IsPermutation-sym (before ++ x ∷ after) (x ∷ (before ++ after)) (IsPermutation-middle before x after) in
+    Contains-permutation (x ∷ (before ++ after)) (before ++ x ∷ after) y moved (there x y (before ++ after) has)
 
 -- one in the middle is in the relation to each of the others
 pub paired_with : {X : Type 0} (R : X → X → Type 0) → ((x y : X) → R x y → R y x) → (before : List X) (x : X) (after : List X) → Pairwise R (before ++ x ∷ after) → (y : X) → Contains (before ++ after) y → R x y
 paired_with R turned [] x after pairs y has = all_at (R x) after y pairs.0 has
 paired_with R turned (z ∷ before) x after pairs y has = elim (cases z y (before ++ after) has) [
-  | inl same ↦ subst (R x) same (turned z x (all_at (R z) (before ++ x ∷ after) x pairs.0 (middle before)))
+  | inl same ↦ subst (R x) same (turned z x (all_at (R z) (before ++ x ∷ after) x pairs.0 (Contains-append_right before (x ∷ after) x (here x after))))
   | inr later ↦ paired_with R turned before x after pairs.1 y later
 ]
-  where
-    middle : (before : List _) → Contains (before ++ x ∷ after) x
-    middle [] = here x after
-    middle (w ∷ before) = there w x (before ++ x ∷ after) (middle before)
 
 -- ---- lists in key order
 

@@ -1,5 +1,5 @@
 -- How far rounds of claims and ends have come since an execution in which nothing was running.
-use Rattle.std.specs.Prelude.{◌≡◌, ◌≢◌, ℕ, zero, suc, ◌+◌, not, false, List, [], ◌++◌, length, map, None, Contains}
+use Rattle.std.specs.Prelude.{◌≡◌, ◌≢◌, ℕ, zero, suc, ◌+◌, not, List, [], ◌++◌, length, map, None, Contains}
 use Rattle.std.specs.List.{AllByRecursion, filter}
 use Rattle.task_order.specs.declared.task.Task.{Task}
 use Rattle.task_order.specs.TaskList.{IsAscending}
@@ -25,10 +25,6 @@ done_tasks dones = map (λ done. done.task) dones
 -- no two jobs have one key
 abbrev pub HaveOwnKeys : {V : Type 0} → List (Job V) → Type 0
 HaveOwnKeys jobs = Pairwise (λ job other. job.task.key ≢ other.task.key) jobs
-
--- no node is running
-abbrev pub NothingRuns : List Node → Type 0
-NothingRuns nodes = AllByRecursion (λ node. node.running ≡ false) nodes
 
 -- how many nodes are not running
 abbrev pub idle_count : List Node → ℕ

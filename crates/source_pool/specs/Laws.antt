@@ -13,9 +13,8 @@ use Rattle.commuting.specs.States.{State, run_from}
 use Rattle.graph_update.specs.declared.job.Done.{Done}
 use Rattle.graph_update.specs.declared.job.Job.{Job}
 use Rattle.graph_update.specs.Acting.{HasActed, IsTooMany}
-use Rattle.graph_update.specs.Engine.{IsOfClear}
+use Rattle.graph_update.specs.Engine.{IsDone, IsOfClear}
 use Rattle.graph_update.specs.Events.{IsClaimed, IsFinished, IsOverLimit, clear_nodes, drainable, drained}
-use Rattle.graph_update.specs.Laws.{IsPerformed}
 use Rattle.graph_update.specs.Progress.{Progress, whole_state}
 use Rattle.graph_update.specs.Sound.{IsSound}
 use Rattle.source_pool.specs.Course.{AreAllDone, HaveOwnKeys, IsActing, IsAtRest, IsDrawing, IsEnding, LeadsByRounds, done_tasks, idle_count}
@@ -56,17 +55,9 @@ module _ {V : Type 0} (app : Application V) where
   -- ---- ends
 
   -- the first of the performed jobs may end
-  pub record MayEnd (now : Progress V) (done : Done V) : Type 0 where
-    pub jobs : List (Job V)
-    pub values : List V
-    pub job : Job V
-    pub others : List (Job V)
-    pub sound : IsSound app now jobs values
-    pub performed : IsPerformed app jobs done job others
-
   abbrev pub FirstMayEnd : Type 0
   FirstMayEnd = (start now : Progress V) (cells : List V) (target : State V) (text : List ℕ) (done : Done V) (dones : List (Done V)) →
-      IsEnding app start cells target text now (done ∷ dones) → MayEnd now done
+      IsEnding app start cells target text now (done ∷ dones) → IsDone app now done
 
   abbrev pub EndsGoOn : Type 0
   EndsGoOn = (start now next : Progress V) (cells : List V) (target : State V) (text : List ℕ) (done : Done V) (dones : List (Done V)) →

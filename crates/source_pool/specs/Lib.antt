@@ -4,4 +4,3 @@ pub mod Laws
 pub mod Legs
 pub mod Performing
 pub mod Runs
-pub mod Turns

@@ -1,15 +1,13 @@
 -- How the jobs of a round are dealt out among workers, and what these make of them.
 use Rattle.std.specs.Prelude.{◌≡◌, ◌+◌, ◌%◌, ◌==◌, ◌++◌, if◌then◌else◌, ℕ, true, List, [], ◌∷◌, length, slice_get, Option, Some, None, IsPermutation}
-use Rattle.std.specs.List.{All, AllByRecursion, flat_map}
+use Rattle.std.specs.List.{All, AllByRecursion, AllZip, flat_map}
 use Rattle.std.specs.Option.{option_map}
 use Rattle.app_laws.specs.Applications.{Application}
-use Rattle.commuting.specs.States.{State}
 use Rattle.graph_update.specs.declared.job.Done.{Done}
 use Rattle.graph_update.specs.declared.job.Job.{Job}
 use Rattle.graph_update.specs.Engine.{MayRun}
-use Rattle.graph_update.specs.Progress.{Progress}
 use Rattle.source_pool.specs.declared.hands.Hand.{Hand}
-use Rattle.source_pool.specs.Course.{IsDrawing, IsJobDone}
+use Rattle.source_pool.specs.Course.{IsJobDone}
 
 -- of items numbered from a first number on, those whose number leaves the worker's when it is divided by the count of workers
 abbrev pub share : {X : Type 0} → ℕ → ℕ → ℕ → List X → List X
@@ -37,36 +35,17 @@ module _ {V : Type 0} where
     abbrev pub MayPlay : Hand (Job V) (Done V) → Type 0
     MayPlay hand = AllByRecursion (MayRun app) hand.jobs.items
 
-    -- each job is performed, in order, and the slots have what was done
-    abbrev pub AreDoneInTurn : List (Job V) → List (Option (Done V)) → Type 0
-    AreDoneInTurn [] [] = Unit {0}
-    AreDoneInTurn (job ∷ jobs) (Some done ∷ slots) = IsJobDone app job done × AreDoneInTurn jobs slots
-    AreDoneInTurn jobs slots = ⊥
-
     -- where the hand is done, each of its jobs is performed, in order
     abbrev pub IsPlayed : Hand (Job V) (Done V) → Hand (Job V) (Done V) → Type 0
-    IsPlayed old now = now.is_done ≡ true → AreDoneInTurn old.jobs.items now.dones.items
-
-    -- the same of each of the hands
-    abbrev pub ArePlayed : List (Hand (Job V) (Done V)) → List (Hand (Job V) (Done V)) → Type 0
-    ArePlayed [] [] = Unit {0}
-    ArePlayed (old ∷ olds) (now ∷ nows) = IsPlayed old now × ArePlayed olds nows
-    ArePlayed olds nows = ⊥
+    IsPlayed old now = now.is_done ≡ true → AllZip (IsJobDone app) old.jobs.items now.dones.items
 
     -- each job is performed, in some order
-    pub record AreDoneInSomeTurn (jobs : List (Job V)) (slots : List (Option (Done V))) : Type 0 where
+    pub record AreDoneInSomeTurn (jobs : List (Job V)) (dones : List (Done V)) : Type 0 where
       pub turn : List (Job V)
       pub same : IsPermutation jobs turn
-      pub done : AreDoneInTurn turn slots
-
-    -- Jobs are drawn in a round of a run from the start, which began in the state, after the text was drained. Each of them is
-    -- performed, in some order, and the slots have what was done.
-    pub record IsDrawnAndDone (start : Progress V) (cells : List V) (state : State V) (text : List ℕ) (now : Progress V) (slots : List (Option (Done V))) : Type 0 where
-      pub jobs : List (Job V)
-      pub drawing : IsDrawing app start cells state text now jobs
-      pub done : AreDoneInSomeTurn jobs slots
+      pub done : AllZip (IsJobDone app) turn dones
 
 -- what was done in all hands, hand by hand, where each is done
-abbrev pub gathered : {J D : Type 0} → List (Hand J D) → Option (List (Option D))
+abbrev pub gathered : {J D : Type 0} → List (Hand J D) → Option (List D)
 gathered [] = Some []
 gathered (hand ∷ hands) = if hand.is_done then option_map (λ rest. hand.dones.items ++ rest) (gathered hands) else None

@@ -12,7 +12,6 @@ use app_laws::App;
 use graph_update::{Claim, Engine, Job};
 use kdg_text::NoRoom;
 use outer_edge::Gate;
-use std::alloc::Global;
 use std::collections::VecDeque;
 
 /// For how many turns a gate is asked at once.
@@ -28,20 +27,17 @@ pub(crate) struct Picks<'g, G: Gate> {
     /// What it chose last, and how many of these picks are used.
     picks: [u64; AHEAD],
     used: usize,
-    /// The picks since a round began, unless there was no memory for them.
-    of_round: Vec<u64>,
 }
 
 impl<'g, G: Gate> Picks<'g, G> {
     /// The picks from turn 0 on.
-    pub(crate) fn new(alloc: Global, gate: &'g G, seed: u64) -> Picks<'g, G> {
+    pub(crate) fn new(gate: &'g G, seed: u64) -> Picks<'g, G> {
         Picks {
             gate,
             seed,
             turn: 0,
             picks: [0; AHEAD],
             used: AHEAD,
-            of_round: Vec::new(alloc),
         }
     }
 
@@ -50,28 +46,9 @@ impl<'g, G: Gate> Picks<'g, G> {
         self.gate
     }
 
-    /// The picks since the round began. They may lack some, and be too many.
-    pub(crate) fn of_round(&self) -> &[u64] {
-        &self.of_round
-    }
-
-    /// Begins a round.
-    pub(crate) fn begin_round(&mut self) {
-        self.of_round.clear();
-    }
-
     /// The pick of the next turn.
     #[inline(always)]
     pub(crate) fn next(&mut self) -> u64 {
-        let pick = self.take_next();
-        // Where there is no memory for it, the order of the turns is found by the keys.
-        let _ = self.of_round.push(pick);
-        pick
-    }
-
-    /// The next of the picks that the gate chose ahead.
-    #[inline(always)]
-    fn take_next(&mut self) -> u64 {
         if let Some(pick) = self.picks.get(self.used) {
             self.used += 1;
             return *pick;
@@ -106,7 +83,6 @@ pub(crate) fn draw<A: App, G: Gate>(
 {
     drawing_laws::<A>();
     jobs.clear();
-    picks.begin_round();
     while let Claim::Job(job) = engine.claim(picks.next())? {
         jobs.push_back(job)?;
     }

@@ -1,9 +1,9 @@
 //! How the jobs of a round are performed by a thread for each worker.
 
 ghost use Rattle.std.specs.Prelude.{◌≡◌, ◌≤◌, ◌<◌, ◌^◌, [], length, OnOk};
-ghost use Rattle.std.specs.List.{All, AllByRecursion};
+ghost use Rattle.std.specs.List.{All, AllByRecursion, AllZip};
 ghost use Rattle.graph_update.specs.Engine.{MayRun};
-ghost use Rattle.source_pool.specs.Performing.{AreDealt, AreDoneInSomeTurn, AreDoneInTurn, AreEmptyHands, ArePlayed, IsPlayed, MayPlay, gathered};
+ghost use Rattle.source_pool.specs.Performing.{AreDealt, AreDoneInSomeTurn, AreEmptyHands, IsPlayed, MayPlay, gathered};
 
 use crate::performing::perform_in_turn;
 use crate::round_lists::RoundLists;
@@ -22,7 +22,7 @@ pub(crate) struct Hand<J, D> {
     /// What is dealt to the worker and not yet performed, the first one dealt first.
     jobs: VecDeque<J>,
     /// What it has performed, in order.
-    dones: Vec<Option<D>>,
+    dones: VecDeque<D>,
     /// Whether it performed all that it was dealt.
     is_done: bool,
 }
@@ -59,7 +59,7 @@ fn empty_hands<V: Held>(
     while hands.len() < workers as usize {
         hands.push(Hand {
             jobs: VecDeque::new(alloc),
-            dones: Vec::new(alloc),
+            dones: VecDeque::new(alloc),
             is_done: false,
         })?;
     }
@@ -104,7 +104,7 @@ fn play_all<R: Threads + Sync, A: App + Sync, G: Gate + Sync>(
     requires some { 0 < length hands.old }
     requires few { length hands.old < 2 ^ 32 }
     requires may_play { All (MayPlay (A.meaning app.now)) hands.old }
-    ensures { ArePlayed (A.meaning app.now) hands.old hands.new }
+    ensures { AllZip (IsPlayed (A.meaning app.now)) hands.old hands.new }
 {
     let workers = hands.len();
     thread::for_each_mut(
@@ -121,7 +121,7 @@ fn play_all<R: Threads + Sync, A: App + Sync, G: Gate + Sync>(
 /// Moves what was done in all hands into one list, hand by hand. What was in the list is dropped.
 fn gather<V: Held>(
     hands: &mut Vec<Hand<Job<V>, Done<V>>>,
-    dones: &mut Vec<Option<Done<V>>>,
+    dones: &mut VecDeque<Done<V>>,
 ) -> Result<(), NoRoom>
     ensures { OnOk result (gathered hands.old.items ≡ Some dones.new.items) }
 {

@@ -7,7 +7,6 @@ mod draining;
 mod finishing;
 mod hands;
 mod laws;
-mod left_counts;
 mod performing;
 mod round_lists;
 mod rounds;

@@ -1,23 +1,21 @@
 //! How the jobs of a round are performed by some workers.
 
 ghost use Rattle.std.specs.Prelude.{◌≡◌, ◌≢◌, ◌+◌, ◌-◌, ◌<◌, ◌≤◌, ◌^◌, [], min, length, sum_by, OnOk};
-ghost use Rattle.std.specs.List.{AllByRecursion};
+ghost use Rattle.std.specs.List.{AllByRecursion, AllZip};
 ghost use Rattle.cell_store.specs.Values.{values_of};
 ghost use Rattle.commuting.specs.Rounds.{after_round};
 ghost use Rattle.graph_update.specs.Engine.{MayRun};
-ghost use Rattle.graph_update.specs.Events.{clear_nodes};
-ghost use Rattle.source_pool.specs.Course.{IsAtRest, IsEnding, RunPoint};
-ghost use Rattle.source_pool.specs.Performing.{AreDoneInSomeTurn, AreDoneInTurn, IsDrawnAndDone};
-ghost use Rattle.source_pool.specs.Turns.{taken_in_turn};
+ghost use Rattle.source_pool.specs.Course.{IsAtRest, IsEnding, IsJobDone, RunPoint};
+ghost use Rattle.source_pool.specs.Performing.{AreDoneInSomeTurn};
 
 use crate::claiming::{Picks, draw};
-use crate::finishing::order_turns;
+use crate::finishing::order_ends;
 use crate::hands::perform_together;
 use crate::laws::drawing_laws;
 use crate::round_lists::RoundLists;
 use app_laws::App;
 use cell_store::Held;
-use graph_update::{Claim, Done, Engine, Job, perform};
+use graph_update::{Done, Engine, Job, perform};
 use kdg_text::NoRoom;
 use outer_edge::Gate;
 use std::collections::VecDeque;
@@ -32,9 +30,9 @@ use task_order::{ascending_laws, earlier_laws};
 /// twentieth less.
 const MANY_CELLS: usize = 16_384;
 
-/// Draws the jobs of all clear tasks, has them performed, and orders what was done by its keys: job
-/// number `i` is worker `i mod workers`'s, and each worker performs its jobs in order. The lists then
-/// have what was done and its turns; what was in them is dropped.
+/// Draws the jobs of all clear tasks, has them performed, and puts what was done in the order of its
+/// keys: job number `i` is worker `i mod workers`'s, and each worker performs its jobs in order. What
+/// was in the lists is dropped.
 pub(crate) fn perform_round<R: Threads + Sync, A: App + Sync, G: Gate + Sync>(
     rt: &R,
     engine: &mut Engine<'_, A>,
@@ -47,83 +45,31 @@ pub(crate) fn perform_round<R: Threads + Sync, A: App + Sync, G: Gate + Sync>(
     requires rest { IsAtRest (A.meaning engine.old.app) from.start (values_of from.start.cells) from.state from.text engine.old.progress }
     requires some { engine.old.progress.nodes ≢ [] }
     ensures app { engine.new.app ≡ engine.old.app }
-    ensures ending { OnOk result (IsEnding (A.meaning engine.old.app) from.start (values_of from.start.cells) (after_round (A.meaning engine.old.app) from.state) from.text engine.new.progress (taken_in_turn lists.new.dones.items lists.new.turns.items)) }
-    ensures some { OnOk result (0 < length (taken_in_turn lists.new.dones.items lists.new.turns.items)) }
+    ensures ending { OnOk result (IsEnding (A.meaning engine.old.app) from.start (values_of from.start.cells) (after_round (A.meaning engine.old.app) from.state) from.text engine.new.progress lists.new.dones.items) }
+    ensures some { OnOk result (0 < length lists.new.dones.items) }
     ensures ended { OnOk result (engine.new.progress.ended ≡ engine.old.progress.ended) }
 {
     drawing_laws::<A>();
     ascending_laws();
     earlier_laws();
-    perform_each(rt, engine, picks, workers, lists)?;
-    order_turns(&lists.dones, picks.of_round(), &mut lists.turns)
-}
-
-/// Draws the jobs of all clear tasks, and performs each. Where threads are unlikely to be worth their
-/// start, no list of the jobs is made: the rounds so far tell how many cells there may be.
-fn perform_each<R: Threads + Sync, A: App + Sync, G: Gate + Sync>(
-    rt: &R,
-    engine: &mut Engine<'_, A>,
-    picks: &mut Picks<'_, G>,
-    workers: u32,
-    lists: &mut RoundLists<A::Val>,
-) -> Result<(), NoRoom>
-    ghost from: { RunPoint A.Val }
-    requires workers { 1 ≤ workers }
-    requires rest { IsAtRest (A.meaning engine.old.app) from.start (values_of from.start.cells) from.state from.text engine.old.progress }
-    ensures app { engine.new.app ≡ engine.old.app }
-    ensures done { OnOk result (IsDrawnAndDone (A.meaning engine.old.app) from.start (values_of from.start.cells) from.state from.text engine.new.progress lists.new.dones.items) }
-    ensures none_clear { OnOk result (clear_nodes (A.meaning engine.old.app) engine.new.progress.nodes ≡ []) }
-    ensures ended { OnOk result (engine.new.progress.ended ≡ engine.old.progress.ended) }
-{
-    if stays_alone(workers, lists.are_light, lists.most_cells) {
-        let cells = perform_as_drawn(engine, picks, workers, &mut lists.dones)?;
-        lists.most_cells = lists.most_cells.max(Some(cells));
-        Ok(())
-    } else {
-        draw(engine, picks, &mut lists.jobs)?;
-        perform_drawn(rt, engine.app(), picks.gate(), workers, lists)
-    }
+    draw(engine, picks, &mut lists.jobs)?;
+    perform_drawn(rt, engine.app(), picks.gate(), workers, lists)?;
+    order_ends(&mut lists.dones);
+    Ok(())
 }
 
 /// Whether no thread is to start in a round, or is likely to, by the most cells that a round had so far.
 pub(crate) fn stays_alone(workers: u32, are_light: bool, most_cells: Option<usize>) -> bool {
-    workers == 1 || are_light || matches!(most_cells, Some(most) if most < MANY_CELLS)
+    !threads_pay(workers, are_light, most_cells.unwrap_or(usize::MAX))
 }
 
-/// Claims until a claim gives no job, and performs each job before the next claim, as the workers in
-/// turn. The list then has what was done, in that order; what was in it is dropped. The answer is a
-/// hint for later rounds: how many cells the jobs had in all, at most the greatest number.
-fn perform_as_drawn<A: App, G: Gate>(
-    engine: &mut Engine<'_, A>,
-    picks: &mut Picks<'_, G>,
-    workers: u32,
-    dones: &mut Vec<Option<Done<A::Val>>>,
-) -> Result<usize, NoRoom>
-    ghost from: { RunPoint A.Val }
-    requires rest { IsAtRest (A.meaning engine.old.app) from.start (values_of from.start.cells) from.state from.text engine.old.progress }
-    ensures app { engine.new.app ≡ engine.old.app }
-    ensures done { OnOk result (IsDrawnAndDone (A.meaning engine.old.app) from.start (values_of from.start.cells) from.state from.text engine.new.progress dones.new.items) }
-    ensures none_clear { OnOk result (clear_nodes (A.meaning engine.old.app) engine.new.progress.nodes ≡ []) }
-    ensures ended { OnOk result (engine.new.progress.ended ≡ engine.old.progress.ended) }
-{
-    drawing_laws::<A>();
-    dones.clear();
-    picks.begin_round();
-    let mut cells = 0usize;
-    let mut worker = 0;
-    while let Claim::Job(job) = engine.claim(picks.next())? {
-        cells = cells.saturating_add(job.bundle.len());
-        let Ok(done) = perform(engine.app(), job, worker, picks.gate()) else {
-            return Err(NoRoom);
-        };
-        dones.push(Some(done))?;
-        worker = next_worker(worker, 0, workers);
-    }
-    Ok(cells)
+/// Whether it pays to start a thread for each worker in a round whose jobs have so many cells.
+fn threads_pay(workers: u32, are_light: bool, cells: usize) -> bool {
+    workers > 1 && !are_light && cells >= MANY_CELLS
 }
 
-/// Performs the jobs that were drawn, each by its worker. A round with few cells starts no thread:
-/// the caller performs all jobs in order.
+/// Performs the jobs that were drawn, each by its worker. Where threads don't pay, the caller performs
+/// all jobs in order.
 fn perform_drawn<R: Threads + Sync, A: App + Sync, G: Gate + Sync>(
     rt: &R,
     app: &A,
@@ -137,10 +83,10 @@ fn perform_drawn<R: Threads + Sync, A: App + Sync, G: Gate + Sync>(
 {
     let cells = cells_in(&lists.jobs);
     lists.most_cells = lists.most_cells.max(Some(cells));
-    if cells < MANY_CELLS {
-        perform_in_turn(app, gate, 0..workers, &mut lists.jobs, &mut lists.dones)
-    } else {
+    if threads_pay(workers, lists.are_light, cells) {
         perform_together(rt, app, gate, workers, lists)
+    } else {
+        perform_in_turn(app, gate, 0..workers, &mut lists.jobs, &mut lists.dones)
     }
 }
 
@@ -163,10 +109,10 @@ pub(crate) fn perform_in_turn<A: App, G: Gate>(
     gate: &G,
     workers: Range<u32>,
     jobs: &mut VecDeque<Job<A::Val>>,
-    dones: &mut Vec<Option<Done<A::Val>>>,
+    dones: &mut VecDeque<Done<A::Val>>,
 ) -> Result<(), NoRoom>
     requires { AllByRecursion (MayRun (A.meaning app.now)) jobs.old.items }
-    ensures { OnOk result (AreDoneInTurn (A.meaning app.now) jobs.old.items dones.new.items) }
+    ensures { OnOk result (AllZip (IsJobDone (A.meaning app.now)) jobs.old.items dones.new.items) }
 {
     dones.clear();
     let mut worker = workers.start;
@@ -174,7 +120,7 @@ pub(crate) fn perform_in_turn<A: App, G: Gate>(
         let Ok(done) = perform(app, job, worker, gate) else {
             return Err(NoRoom);
         };
-        dones.push(Some(done))?;
+        dones.push_back(done)?;
         worker = next_worker(worker, workers.start, workers.end);
     }
     Ok(())

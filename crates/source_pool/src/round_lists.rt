@@ -14,10 +14,8 @@ use std::collections::VecDeque;
 pub(crate) struct RoundLists<V: Held> {
     /// What is drawn and not yet performed, the first one drawn first.
     pub(crate) jobs: VecDeque<Job<V>>,
-    /// What is performed, with `None` in the place of each that has ended.
-    pub(crate) dones: Vec<Option<Done<V>>>,
-    /// The places of all that is performed, in the order of the keys.
-    pub(crate) turns: Vec<usize>,
+    /// What is performed and has not yet ended.
+    pub(crate) dones: VecDeque<Done<V>>,
     /// The ids of the clear nodes, in key order, where their tasks act one after the other.
     pub(crate) ids: Vec<NodeId>,
     /// What each worker has in hand, where the round is performed by threads.
@@ -36,8 +34,7 @@ impl<V: Held> RoundLists<V> {
     {
         RoundLists {
             jobs: VecDeque::new(alloc),
-            dones: Vec::new(alloc),
-            turns: Vec::new(alloc),
+            dones: VecDeque::new(alloc),
             ids: Vec::new(alloc),
             hands: Vec::new(alloc),
             most_cells: None,

@@ -3,8 +3,9 @@ ghost use Rattle.cell_store.specs.Values.{values_of};
 ghost use Rattle.app_laws.specs.Applications.{PathsAreIgnored};
 ghost use Rattle.commuting.specs.Rounds.{after_round};
 ghost use Rattle.graph_update.specs.Progress.{Progress};
+ghost use Rattle.graph_update.specs.StandingLaws.{NoneRuns};
 ghost use Rattle.output_log.specs.Entries.{with_texts};
-ghost use Rattle.source_pool.specs.Course.{IsAtRest, LeadsByRounds, NothingRuns, RunPoint};
+ghost use Rattle.source_pool.specs.Course.{IsAtRest, LeadsByRounds, RunPoint};
 ghost use Rattle.source_pool.specs.Legs.{BeginsAtRest};
 ghost use Rattle.source_pool.specs.Runs.{IsRoundsEnd, IsRunFault, state_at_rest};
 
@@ -26,8 +27,8 @@ use std::sync::ledger::{Blank, Ledger};
 use std::thread::Threads;
 
 /// Runs an execution to its end in rounds, and counts them: all tasks that are clear are claimed and
-/// performed, each by its worker, and then ended in the order of their keys. A task may be performed
-/// while others of its round are still to be claimed. Only rounds with a task are counted.
+/// performed, each by its worker, and then ended in the order of their keys. Only rounds with a task are
+/// counted.
 ///
 /// Worker 0 claims, and the gate chooses for it at each turn, counted from 0; job number `i` of a
 /// round is worker `i mod workers`'s. But where the gate is open, a round in which no thread is likely
@@ -44,7 +45,7 @@ pub fn run_rounds<'a, R: Threads + Sync, A: App + Sync, G: Gate + Sync>(
     workers: u32,
 ) -> Result<(Finals<A::Val>, u64), RunFault>
     requires workers { (1 ≤ workers) × (workers ≤ 64) }
-    requires at_rest { NothingRuns engine.progress.nodes }
+    requires at_rest { NoneRuns engine.progress.nodes }
     requires not_over { engine.progress.over ≡ None }
     ensures end { IfOk result (λ run. IsRoundsEnd (A.meaning engine.entry.app) engine.entry.progress run.0 run.1) }
     ensures fit { IfOk result (λ run. (A.meaning engine.entry.app).is_fit_cells (values_of run.0.store)) }
@@ -86,7 +87,7 @@ fn counted_rounds<'a, R: Threads + Sync, A: App + Sync, G: Gate + Sync, L: Ledge
     rest_laws::<A>();
     rounds_laws::<A>();
     let mut steps = Steps::<L>::new(blank);
-    let mut picks = Picks::new(alloc, gate, seed);
+    let mut picks = Picks::new(gate, seed);
     let mut lists = RoundLists::new(alloc, engine.app().tasks_are_light());
     let mut text = Text::new(alloc);
     let mut rounds = 0u64;
@@ -212,7 +213,7 @@ fn play_round<R: Threads + Sync, A: App + Sync, G: Gate + Sync, L: Ledger>(
         act_round(engine, lists, steps)?;
     } else {
         perform_round(rt, engine, picks, workers, lists)?;
-        end_all(engine, &mut lists.dones, &lists.turns, steps)?;
+        end_all(engine, &mut lists.dones, steps)?;
     }
     drain(engine, text)?;
     Ok(())

@@ -1,7 +1,7 @@
 ghost use Rattle.std.specs.Prelude.{◌≡◌, ◌<◌, ◌≤◌, ◌^◌, None, length, IfOk};
 ghost use Rattle.app_laws.specs.Applications.{AreFitStarts};
 ghost use Rattle.example_app.specs.Introduction.{AreContacts, introductions};
-ghost use Rattle.source_pool.specs.Course.{NothingRuns};
+ghost use Rattle.graph_update.specs.StandingLaws.{NoneRuns};
 
 use super::*;
 use app_laws::{App, Finals, SerialFault, serial};
@@ -9,7 +9,6 @@ use cell_store::Seen;
 use example_app::Introductions;
 use graph_update::{BeginFault, Engine};
 use kdg_text::{NoRoom, Steps, Text};
-use left_counts::LeftCounts;
 use outer_edge::{Gate, Seeded, Still};
 use std::alloc::Global;
 use std::marker::Brand;
@@ -87,7 +86,7 @@ fn begin<'a, A: App>(
     requires fit_first { AreFitStarts (A.meaning app.now) first }
     requires few { length first < 2 ^ 32 }
     requires budget { budget ≤ 1_000_000_000 }
-    ensures at_rest { IfOk result (λ engine. NothingRuns engine.progress.nodes) }
+    ensures at_rest { IfOk result (λ engine. NoneRuns engine.progress.nodes) }
     ensures not_over { IfOk result (λ engine. engine.progress.over ≡ None) }
 {
     counted_begin::<A, Brand>(alloc, app, cells, first, budget, Blank::new(1))
@@ -109,7 +108,7 @@ fn counted_begin<'a, A: App, L: Ledger>(
     requires fit_first { AreFitStarts (A.meaning app.now) first }
     requires few { length first < 2 ^ 32 }
     requires budget { budget ≤ 1_000_000_000 }
-    ensures at_rest { IfOk result (λ engine. NothingRuns engine.progress.nodes) }
+    ensures at_rest { IfOk result (λ engine. NoneRuns engine.progress.nodes) }
     ensures not_over { IfOk result (λ engine. engine.progress.over ≡ None) }
 {
     let mut steps = Steps::<L>::new(blank);
@@ -244,14 +243,4 @@ fn a_meeting_too_many_ends_the_run(rt: HostRuntime) {
             )
         );
     }
-}
-
-/// Of five items, each time the one is taken that has so many before it that are left.
-#[test]
-fn items_are_taken_among_those_that_are_left(rt: HostRuntime) -> Result<(), Fail> {
-    let mut left = LeftCounts::all(rt.alloc(), 5)?;
-    for (before, item) in [(3, 3), (3, 4), (0, 0), (1, 2), (0, 1), (0, 5)] {
-        assert_eq!(rt; left.take(before), item);
-    }
-    Ok(())
 }

@@ -6,7 +6,7 @@ use Rattle.commuting.specs.Rounds.{after_round}
 use Rattle.graph_update.specs.Events.{clear_nodes}
 use Rattle.graph_update.specs.Progress.{EngineState}
 use Rattle.source_pool.specs.Course.{IsActing}
-use Rattle.source_pool.proofs.Acted.{some_in}
+use Rattle.source_pool.proofs.Lists.{some_in}
 use Rattle.source_pool.proofs.acting.act_round.Goals as goal
 
 pub act_in_turn-requires : goal.act_in_turn-requires

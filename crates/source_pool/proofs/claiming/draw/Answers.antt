@@ -6,7 +6,7 @@ use Rattle.graph_update.specs.Engine.{IsToRun, MayRun}
 use Rattle.graph_update.specs.Events.{IsClaimed, clear_nodes}
 use Rattle.graph_update.specs.Progress.{Progress}
 use Rattle.source_pool.specs.Course.{IsDrawing}
-use Rattle.source_pool.proofs.Drawn.{drawn_out}
+use Rattle.source_pool.proofs.DrawnOut.{drawn_out}
 use Rattle.source_pool.proofs.Lists.{all_turned}
 use Rattle.source_pool.proofs.claiming.draw.Goals as goal
 

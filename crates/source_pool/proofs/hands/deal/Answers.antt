@@ -1,12 +1,11 @@
-use Rattle.std.proofs.Common.{◌≡◌, ◌<◌, ◌%◌, ◌+◌, ◌∷◌, ◌∙◌, ℕ, List, Some, ap, refl, sym, subst, length, arith, rules, slice_set}
-use Rattle.std.specs.Prelude.{MatchOption, Option, slice_get}
-use Rattle.std.specs.VecDeque.{deque_len}
+use Rattle.std.proofs.Common.{◌≡◌, ◌<◌, ◌%◌, ◌∷◌, ◌∙◌, ℕ, List, Some, ap, refl, sym, subst, length, arith, rules, slice_set}
+use Rattle.std.specs.Prelude.{slice_get}
 use Rattle.std.proofs.lemmas.Option.{slice_get_read}
 use Rattle.graph_update.specs.declared.job.Done.{Done}
 use Rattle.graph_update.specs.declared.job.Job.{Job}
 use Rattle.source_pool.specs.declared.hands.Hand.{Hand}
 use Rattle.source_pool.proofs.Dealing.{AreDealtBefore, all_dealt, none_dealt, one_dealt}
-use Rattle.source_pool.proofs.Finished.{none_left, none_where_not}
+use Rattle.source_pool.proofs.Lists.{nothing_left}
 use Rattle.source_pool.proofs.hands.deal.Goals as goal
 
 pub loop-job-init : goal.loop-job-init
@@ -45,7 +44,5 @@ loop-job-preserved g c =
 pub returns : goal.returns
 returns g c =
     let at = c.loop-job in
-    let none = none_where_not c.pop_front.result c.in_default.not-Some in
-    let popped = subst (λ (popped : Option (Job g.row.V.Denot)). MatchOption popped ((deque_len at.jobs ≡ 0) × (deque_len c.pop_front.new.self ≡ 0)) (λ _. deque_len c.pop_front.new.self + 1 ≡ deque_len at.jobs)) none c.pop_front.ensures.cases in
-    let empty : length at.jobs.items ≡ 0 = omega (arith, popped.0) in
-    all_dealt (length c.args.hands.now.items) c.args.jobs.now.items at.number at.jobs.items at.hands.items at.invariant.dealt (none_left at.jobs.items empty)
+    all_dealt (length c.args.hands.now.items) c.args.jobs.now.items at.number at.jobs.items at.hands.items at.invariant.dealt
+    (nothing_left c.pop_front.result at.jobs.items (λ some. c.pop_front.ensures.variant.1 (omega (arith, some))) c.in_default.not-Some)

@@ -1,12 +1,12 @@
 use Rattle.std.proofs.Common.{◌≡◌, ◌++◌, ◌∙◌, List, Some, ap, sym, subst, take, drop, length}
-use Rattle.std.specs.List.{All}
+use Rattle.std.specs.List.{All, AllZip}
 use Rattle.std.proofs.lemmas.Result.{on_ok_weaker}
 use Rattle.app_laws.specs.Applications.{Application}
 use Rattle.graph_update.specs.Engine.{MayRun}
 use Rattle.graph_update.specs.declared.job.Done.{Done}
 use Rattle.graph_update.specs.declared.job.Job.{Job}
 use Rattle.source_pool.specs.declared.hands.Hand.{Hand}
-use Rattle.source_pool.specs.Performing.{ArePlayed, MayPlay, dealt_jobs, gathered}
+use Rattle.source_pool.specs.Performing.{IsPlayed, MayPlay, dealt_jobs, gathered}
 use Rattle.source_pool.proofs.HandsPlayed.{all_played, given_back, in_each_hand}
 use Rattle.source_pool.proofs.hands.perform_together.Goals as goal
 
@@ -22,7 +22,7 @@ returns g c =
     let app : Application g.row.A-Val.Denot = g.A.App.meaning c.args.app.now in
     let hands : List (Hand (Job g.row.A-Val.Denot) (Done g.row.A-Val.Denot)) = c.deal.new.hands.items in
     let nows : List (Hand (Job g.row.A-Val.Denot) (Done g.row.A-Val.Denot)) = c.play_all.new.hands in
-    let each : ArePlayed app hands nows = subst (λ (hs : List (Hand (Job g.row.A-Val.Denot) (Done g.row.A-Val.Denot))). ArePlayed app hs nows) c.deref_mut.ensures.value c.play_all.ensures in
+    let each : AllZip (IsPlayed app) hands nows = subst (λ (hs : List (Hand (Job g.row.A-Val.Denot) (Done g.row.A-Val.Denot))). AllZip (IsPlayed app) hs nows) c.deref_mut.ensures.value c.play_all.ensures in
     let same : take c.deal.new.hands.len (nows ++ drop (length nows) hands) ≡ nows = given_back app c.deal.new.hands.len hands nows each c.deal.new.hands.ok.0 in
     on_ok_weaker c.gather.result (λ (all : gathered (take c.deal.new.hands.len (nows ++ drop (length nows) hands)) ≡ Some c.gather.new.dones.items).
     record {

@@ -1,10 +1,9 @@
 use Rattle.std.proofs.Common.{length}
 use Rattle.std.specs.List.{AllByRecursion}
 use Rattle.graph_update.specs.Engine.{MayRun}
-use Rattle.source_pool.proofs.Turns.{AreDoneBefore}
+use Rattle.source_pool.proofs.PerformedInOrder.{AreDoneBefore}
 use Rattle.source_pool.proofs.performing.perform_in_turn.Given as goal
 
--- whoever performs what is left performs all
 abbrev pub invariant-loop-job : goal.invariant-loop-job
 invariant-loop-job g l = record {
   may : AllByRecursion (MayRun (g.A.App.meaning l.app)) l.jobs.items;

@@ -1,13 +1,11 @@
 use mir.Syntax.{of_param}
-use Rattle.std.proofs.Common.{◌≡◌, ◌<◌, ℕ, List, length, sym, ap, subst, arith}
+use Rattle.std.proofs.Common.{ℕ, List, sym, ap, subst, arith}
 use Rattle.std.proofs.lemmas.Result.{err_from_is_err_and}
 use Rattle.cell_store.specs.Values.{values_of}
 use Rattle.commuting.specs.Rounds.{after_round}
-use Rattle.graph_update.specs.declared.job.Done.{Done}
 use Rattle.graph_update.specs.Progress.{EngineState, Progress}
 use Rattle.source_pool.specs.Course.{IsAtRest, IsEnding}
 use Rattle.source_pool.specs.Runs.{IsRunFault}
-use Rattle.source_pool.specs.Turns.{taken_in_turn}
 use Rattle.source_pool.proofs.rounds.play_round.Goals as goal
 use Rattle.source_pool.proofs.rounds.play_round.Goals.{then-is_open+then-stays_alone+in_ok-act_round, else-is_open+in_ok-perform_round+in_ok-end_all}
 
@@ -63,11 +61,9 @@ perform_round-requires g c κs within =
 
 pub end_all-requires : goal.end_all-requires
 end_all-requires g c κs within =
-    let app = g.A.App.meaning c.args.engine.now.app in
     let now = c.perform_round.new.engine in
-    let taken : List (Done g.row.A-Val.Denot) = taken_in_turn c.perform_round.new.lists.dones.items c.perform_round.new.lists.turns.items in
-    let same : taken ≡ taken_in_turn c.deref_mut.result.now c.deref.result.now = (λ i. taken_in_turn (sym c.deref_mut.ensures.value i) (sym c.deref.ensures.value i)) in
-    let ended = subst (λ (other : g.row.A.Denot). IsEnding (g.A.App.meaning other) g.from.start (values_of g.from.start.cells) (after_round (g.A.App.meaning other) g.from.state) g.from.text now.progress taken) (sym c.perform_round.ensures.app) c.in_ok-perform_round.ensures.ending in
+    let dones = c.perform_round.new.lists.dones.items in
+    let ending = subst (λ (other : g.row.A.Denot). IsEnding (g.A.App.meaning other) g.from.start (values_of g.from.start.cells) (after_round (g.A.App.meaning other) g.from.state) g.from.text now.progress dones) (sym c.perform_round.ensures.app) c.in_ok-perform_round.ensures.ending in
     let sent = c.requires.1.1.1.1.1.1.0 in
     let horizon = c.requires.1.1.1.1.1.1.1.0 in (
       within.0,
@@ -79,10 +75,7 @@ end_all-requires g c κs within =
             within.1.1.1,
             (
               record { owned = sent.owned; leaving = λ k. sent.leaving (λ _. k (of_param 2)) },
-              (
-                record { owned = horizon.owned; leaving = λ k. horizon.leaving (λ _. k (of_param 3)) },
-                subst (IsEnding (g.A.App.meaning now.app) g.from.start (values_of g.from.start.cells) (after_round (g.A.App.meaning now.app) g.from.state) g.from.text now.progress) same ended,
-              ),
+              (record { owned = horizon.owned; leaving = λ k. horizon.leaving (λ _. k (of_param 3)) }, ending),
             ),
           ),
         ),
@@ -126,16 +119,13 @@ returns-clause-ended g c =
     elim c.if-is_open.branch [
       | then-is_open+then-stays_alone+in_ok-act_round w ↦ omega (arith, ap (λ (e : EngineState g.row.A.Denot g.row.A-Val.Denot). e.progress.ended) w.engine-is, w.in_ok-act_round.ensures.ended, drained)
       | else-is_open+in_ok-perform_round+in_ok-end_all w ↦
-          let taken : List (Done g.row.A-Val.Denot) = taken_in_turn w.perform_round.new.lists.dones.items w.perform_round.new.lists.turns.items in
-          let same : taken ≡ taken_in_turn w.deref_mut.result.now w.deref.result.now = (λ i. taken_in_turn (sym w.deref_mut.ensures.value i) (sym w.deref.ensures.value i)) in
-          let some : 0 < length (taken_in_turn w.deref_mut.result.now w.deref.result.now) = subst (λ (l : List (Done g.row.A-Val.Denot)). 0 < length l) same w.in_ok-perform_round.ensures.some in
           omega (
             arith,
             ap (λ (e : EngineState g.row.A.Denot g.row.A-Val.Denot). e.progress.ended) w.engine-is,
             w.in_ok-perform_round.ensures.ended,
             w.in_ok-end_all.ensures.ended,
             drained,
-            some,
+            w.in_ok-perform_round.ensures.some,
           )
     ]
 

@@ -1,0 +1,35 @@
+-- Where a task doesn't act, or the end of a job is refused, the run is at fault.
+use Rattle.std.proofs.Common.{◌∙◌, ℕ, List, ◌∷◌, arith}
+use Rattle.cell_store.specs.Values.{values_of}
+use Rattle.kdg_graph.specs.declared.node_id.NodeId.{NodeId}
+use Rattle.app_laws.specs.Applications.{Application}
+use Rattle.commuting.specs.States.{State}
+use Rattle.graph_update.specs.declared.answers.FinishFault.{FinishFault}
+use Rattle.graph_update.specs.declared.answers.FinishFault.TheVariants as refusal
+use Rattle.graph_update.specs.declared.answers.OverCause.{OverCause}
+use Rattle.graph_update.specs.declared.answers.OverCause.TheVariants as cause
+use Rattle.graph_update.specs.declared.job.Done.{Done}
+use Rattle.graph_update.specs.Acting.{IsActFault}
+use Rattle.graph_update.specs.Answers.{IsFinishRefusal}
+use Rattle.graph_update.specs.Faults.{cause_of}
+use Rattle.graph_update.specs.Progress.{Progress}
+use Rattle.source_pool.specs.Course.{IsActing, IsEnding}
+use Rattle.source_pool.specs.Laws.{TooManyActsNeverEnd, TooManyNeverEnd}
+use Rattle.source_pool.specs.Runs.{IsRunFault}
+
+module _ {V : Type 0} (app : Application V) where
+  pub not_acted : TooManyActsNeverEnd app → (start now next : Progress V) (target : State V) (text : List ℕ) (id : NodeId) (ids : List NodeId)
+      → IsActing app start (values_of start.cells) target text now (id ∷ ids) → (why : OverCause) → IsActFault app now id next why → IsRunFault app start why
+  not_acted never start now next target text id ids acting (cause.Budget created limit) many =
+      let ends = never start now next (values_of start.cells) target text id ids created limit acting many in
+      record { too_long = ends.0; limit_is = ends.1; above = ends.2 }
+  not_acted never start now next target text id ids acting cause.NoRoom is = tt
+
+  pub refused : TooManyNeverEnd app → (start now next : Progress V) (target : State V) (text : List ℕ) (done : Done V) (dones : List (Done V))
+      → IsEnding app start (values_of start.cells) target text now (done ∷ dones) → (fault : FinishFault V) → IsFinishRefusal app now done next fault → IsRunFault app start (cause_of fault)
+  refused never start now next target text done dones ending (refusal.Budget back created limit) is = record {
+    too_long = never start now (values_of start.cells) target text done dones ending is.1;
+    limit_is = is.3 ∙ ending.come.limit;
+    above = omega (arith, is.1, is.2, is.3);
+  }
+  refused never start now next target text done dones ending (refusal.NoRoom back) is = tt
