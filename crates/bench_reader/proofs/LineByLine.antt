@@ -12,7 +12,7 @@ use Rattle.kdg_text.specs.declared.fault.LineFault.{LineFault}
 use Rattle.kdg_text.specs.Faults.{Numbered, first_fault_after}
 use Rattle.bench_reader.specs.declared.deck.Deck.{Deck}
 use Rattle.bench_reader.specs.LineForms.{LineForm}
-use Rattle.bench_reader.specs.Decks.{said, output_by, stimulus_by, signal_by, place_of, firsts, deck_among}
+use Rattle.bench_reader.specs.Decks.{said, signal_names, output_by, stimulus_by, signal_by, signal_delay, place_of, firsts, deck_among}
 use Rattle.bench_reader.specs.Outlines.{with_first, deck_plus}
 use Rattle.bench_reader.specs.declared.statement.NumberedStatement.{NumberedStatement}
 use Rattle.bench_reader.specs.Statements.{line_form, numbered_form}
@@ -49,9 +49,9 @@ outputs-push all names None = rw (append-nil names) refl
 outputs-push all names (Some name) = rw (map-append (place_of all) names (name ∷ [])) (firsts-push (map (place_of all) names) (place_of all name))
 
 -- a deck with a line more
-pub deck_among-push : (all : List (List ℕ)) (lines : List (Numbered LineForm)) (line : Numbered LineForm) → deck_among all (lines ++ line ∷ []) ≡ deck_plus all (deck_among all lines) line.form
+pub deck_among-push : (all lines : List (Numbered LineForm)) (line : Numbered LineForm) → deck_among all (lines ++ line ∷ []) ≡ deck_plus all (deck_among all lines) line.form
 deck_among-push all lines line =
-    rw (said-push (signal_by all) lines line, said-push output_by lines line, said-push stimulus_by lines line, outputs-push all (said output_by lines) (output_by line.form)) refl
+    rw (said-push (signal_by (signal_names all)) lines line, said-push output_by lines line, said-push stimulus_by lines line, said-push (signal_delay all) lines line, outputs-push (signal_names all) (said output_by lines) (output_by line.form)) refl
 
 abbrev Judge : Type 0
 Judge = List (Numbered LineForm) → LineForm → Option LineFault
@@ -65,7 +65,7 @@ first_fault-fits judge before rest line fits = rw fits refl
 lines-more : (items : List NumberedStatement) (k : ℕ) (d : NumberedStatement) → k < length items → map numbered_form (take (k + 1) items) ≡ map numbered_form (take k items) ++ numbered_form (get_or items k d) ∷ []
 lines-more items k d below = ap (map numbered_form) (take_more items k d below) ∙ map-append numbered_form (take k items) (get_or items k d ∷ [])
 
-pub made-step : (all : List (List ℕ)) (items : List NumberedStatement) (k : ℕ) (d : NumberedStatement) (deck next : Deck) → k < length items → deck ≡ deck_among all (map numbered_form (take k items))
+pub made-step : (all : List (Numbered LineForm)) (items : List NumberedStatement) (k : ℕ) (d : NumberedStatement) (deck next : Deck) → k < length items → deck ≡ deck_among all (map numbered_form (take k items))
     → next ≡ deck_plus all deck (line_form (get_or items k d).statement) → next ≡ deck_among all (map numbered_form (take (k + 1) items))
 made-step all items k d deck next below so_far made =
     made ∙ ap (λ front. deck_plus all front (line_form (get_or items k d).statement)) so_far

@@ -1,11 +1,11 @@
 -- Each deck that bytes spell is sound.
-use Rattle.std.proofs.Common.{arith, refl, sym, ap, subst, ◌∙◌, ◌≡◌, ◌≢◌, ◌≤◌, ◌<◌, ◌-◌, ◌==◌, ◌&&◌, ◌||◌, not, true, false, ℕ, zero, suc, [], ◌∷◌, ◌++◌, List, Bool, Option, Some, None, Result, Ok, Err, IfOk, cond, length, map, filter, nat_lt, append-nil, append_assoc, option_to_list}
+use Rattle.std.proofs.Common.{arith, refl, sym, ap, subst, ◌∙◌, ◌≡◌, ◌≢◌, ◌≤◌, ◌<◌, ◌-◌, ◌==◌, ◌&&◌, ◌||◌, not, true, false, ℕ, zero, suc, [], ◌∷◌, ◌++◌, List, Bool, Option, Some, None, Result, Ok, Err, IfOk, cond, length, map, filter, nat_lt, append-nil, append_assoc, option_to_list, unwrap_or, lit≤}
 use Rattle.std.proofs.lemmas.Bool.Decides.{nat_tests}
 use Rattle.std.proofs.lemmas.List.{length-map}
 use Rattle.std.proofs.lemmas.List.Elements.{All-nil, All-cons, All-filter, All-weaker, filter_passes}
 use Rattle.std.proofs.lemmas.List.Folds.{list_any-append}
 use Rattle.std.proofs.lemmas.Slice.Eq.{bytes_eq-Decides}
-use Rattle.std.specs.List.{All, AllByRecursion, AllPairs, list_all, list_any, cons_option}
+use Rattle.std.specs.List.{All, AllByRecursion, AllPairs, AllZip, list_all, list_any, cons_option}
 use Rattle.std.specs.Option.{option_map, option_or}
 use Rattle.std.specs.Str.{bytes_eq}
 use Rattle.kdg_text.specs.Lines.{lines_of}
@@ -14,13 +14,13 @@ use Rattle.kdg_text.specs.declared.fault.LineFault.{LineFault}
 use Rattle.kdg_text.specs.declared.fault.ReadFail.{ReadFail}
 use Rattle.kdg_text.specs.Faults.{Numbered, Answers, fault_on, first_fault, first_fault_after, unless_fault}
 use Rattle.bench_reader.specs.declared.deck.Deck.{Deck}
-use Rattle.bench_reader.specs.declared.deck.Form.TheVariants.{Gate}
+use Rattle.bench_reader.specs.declared.deck.Form.TheVariants.{Gate, Dff}
 use Rattle.bench_reader.specs.declared.deck.GateKind.{GateKind}
 use Rattle.bench_reader.specs.declared.deck.GateKind.TheVariants.{Not, Buff}
 use Rattle.bench_reader.specs.declared.deck.Signal.{Signal}
 use Rattle.bench_reader.specs.declared.outline.Totals.{Totals}
-use Rattle.bench_reader.specs.LineForms.{LineForm, InputLine, OutputLine, GateLine, StimulusLine, FaultyLine, is_arity, is_bit}
-use Rattle.bench_reader.specs.Decks.{said, signal_names, defined_by, input_by, output_by, stimulus_by, signal_by, used_by, names_in, is_among, place_of, firsts, fault_where, is_long, own_limit, early_fault, late_fault, deck_with, IsArity, IsWired, IsNameLength, IsStimFor, IsDeck, inputs_of}
+use Rattle.bench_reader.specs.LineForms.{LineForm, InputLine, OutputLine, GateLine, FlipFlopLine, DelayLine, StimulusLine, is_arity, is_bit}
+use Rattle.bench_reader.specs.Decks.{said, signal_names, defined_by, input_by, output_by, stimulus_by, signal_by, used_by, names_in, is_among, place_of, firsts, fault_where, is_long, own_limit, early_fault, late_fault, delay_in, delay_given, signal_delay, deck_with, IsArity, IsWired, IsDelayOf, IsNameLength, IsStimFor, IsDeck, inputs_of}
 use Rattle.bench_reader.specs.Grammar.{said_lines, deck_of_lines, deck_of}
 use Rattle.bench_reader.specs.Outlines.{IsTotal}
 use Rattle.bench_reader.proofs.FanIns.{place_of-within}
@@ -163,6 +163,12 @@ gate-wired all n name kind fan_in count good within closed = (
   places-within (signal_names all) fan_in n count (used-known all (GateLine name kind fan_in) closed),
 )
 
+flip_flop-wired : (all : List (Numbered LineForm)) (n : ℕ) (name source : List ℕ) → length (signal_names all) ≡ n → late_fault all (FlipFlopLine name source) ≡ None → IsWired n (Dff (place_of (signal_names all) source))
+flip_flop-wired all n name source count closed =
+    let known = both_true (is_among (signal_names all) source) true (used-known all (FlipFlopLine name source) closed) in
+    let below = place_of-within (signal_names all) source known.0 in
+    rw (← count) below
+
 signals-wired : (all : List (Numbered LineForm)) (n : ℕ) (lines : List (Numbered LineForm)) → length (signal_names all) ≡ n → AreGood lines → AreWithin lines → AreClosed all lines
     → All (IsWiredSignal n) (said (signal_by (signal_names all)) lines)
 signals-wired all n [] count good within closed = All-nil (IsWiredSignal n)
@@ -172,9 +178,8 @@ signals-wired all n (line ∷ lines) count good within closed = by_form line.for
         → All (IsWiredSignal n) (cons_option (signal_by (signal_names all) form) (said (signal_by (signal_names all)) lines))
     by_form (InputLine name) good within closed rest = All-cons (IsWiredSignal n) _ _ tt rest
     by_form (GateLine name kind fan_in) good within closed rest = All-cons (IsWiredSignal n) _ _ (gate-wired all n name kind fan_in count good within closed) rest
-    by_form (OutputLine name) good within closed rest = rest
-    by_form (StimulusLine time bits) good within closed rest = rest
-    by_form (FaultyLine fault) good within closed rest = rest
+    by_form (FlipFlopLine name source) good within closed rest = All-cons (IsWiredSignal n) _ _ (flip_flop-wired all n name source count closed) rest
+    by_form _ good within closed rest = rest
 
 names-fit : (all : List (List ℕ)) (lines : List (Numbered LineForm)) → AreGood lines → AreWithin lines → All IsNamed (said (signal_by all) lines)
 names-fit all [] good within = All-nil IsNamed
@@ -183,9 +188,8 @@ names-fit all (line ∷ lines) good within = by_form line.form good.0 within.0 (
     by_form : (form : LineForm) → IsGood form → own_limit form ≡ None → All IsNamed (said (signal_by all) lines) → All IsNamed (cons_option (signal_by all form) (said (signal_by all) lines))
     by_form (InputLine name) good within rest = All-cons IsNamed _ _ (good, name-short (InputLine name) name [] refl within) rest
     by_form (GateLine name kind fan_in) good within rest = All-cons IsNamed _ _ (good.0, name-short (GateLine name kind fan_in) name fan_in refl within) rest
-    by_form (OutputLine name) good within rest = rest
-    by_form (StimulusLine time bits) good within rest = rest
-    by_form (FaultyLine fault) good within rest = rest
+    by_form (FlipFlopLine name source) good within rest = All-cons IsNamed _ _ (good, name-short (FlipFlopLine name source) name (source ∷ []) refl within) rest
+    by_form _ good within rest = rest
 
 -- each element and each later one
 abbrev Pairs : {X : Type 0} → (X → X → Type 0) → List X → Type 0
@@ -224,9 +228,10 @@ name-differs all name (line ∷ lines) new = by_form line.form (name-differs all
     by_form (GateLine other kind fan_in) rest new =
         let tests = either_false (bytes_eq name other) (is_among (signal_names lines) name) new in
         All-cons (Differs name) _ _ (new-name name other tests.0) (rest tests.1)
-    by_form (OutputLine other) rest new = rest new
-    by_form (StimulusLine time bits) rest new = rest new
-    by_form (FaultyLine fault) rest new = rest new
+    by_form (FlipFlopLine other source) rest new =
+        let tests = either_false (bytes_eq name other) (is_among (signal_names lines) name) new in
+        All-cons (Differs name) _ _ (new-name name other tests.0) (rest tests.1)
+    by_form _ rest new = rest new
 
 not_true : (b : Bool) → not b ≡ true → b ≡ false
 not_true true h = cc
@@ -244,9 +249,10 @@ names-differ all (line ∷ lines) distinct = by_form line.form (names-differ all
     by_form (GateLine name kind fan_in) rest distinct =
         let tests = both_true (not (is_among (signal_names lines) name)) (are_distinct (signal_names lines)) distinct in
         (name-differs all name lines (not_true _ tests.0), rest tests.1)
-    by_form (OutputLine name) rest distinct = rest distinct
-    by_form (StimulusLine time bits) rest distinct = rest distinct
-    by_form (FaultyLine fault) rest distinct = rest distinct
+    by_form (FlipFlopLine name source) rest distinct =
+        let tests = both_true (not (is_among (signal_names lines) name)) (are_distinct (signal_names lines)) distinct in
+        (name-differs all name lines (not_true _ tests.0), rest tests.1)
+    by_form _ rest distinct = rest distinct
 
 firsts-within : (n : ℕ) (numbers : List ℕ) → All (λ number. number < n) numbers → All (λ number. number < n) (firsts numbers)
 firsts-within n [] within = within
@@ -273,10 +279,7 @@ outputs-known all (line ∷ lines) closed = by_form line.form closed.0 (outputs-
     by_form (OutputLine name) closed rest =
         let known = both_true (is_among (signal_names all) name) true (used-known all (OutputLine name) closed) in
         rw (known.0, rest) refl
-    by_form (InputLine name) closed rest = rest
-    by_form (GateLine name kind fan_in) closed rest = rest
-    by_form (StimulusLine time bits) closed rest = rest
-    by_form (FaultyLine fault) closed rest = rest
+    by_form _ closed rest = rest
 
 bit-small : (byte : ℕ) → is_bit byte ≡ true → byte - 48 ≤ 1
 bit-small byte h = grind (arith, nat_tests)
@@ -306,10 +309,39 @@ stimuli-fit all n (line ∷ lines) count good closed = by_form line.form good.0 
   where
     by_form : (form : LineForm) → IsGood form → late_fault all form ≡ None → All (IsStimFor n) (said stimulus_by lines) → All (IsStimFor n) (cons_option (stimulus_by form) (said stimulus_by lines))
     by_form (StimulusLine time bits) good closed rest = All-cons (IsStimFor n) _ _ (stimulus-fits all n time bits count good closed) rest
-    by_form (OutputLine name) good closed rest = rest
-    by_form (InputLine name) good closed rest = rest
-    by_form (GateLine name kind fan_in) good closed rest = rest
-    by_form (FaultyLine fault) good closed rest = rest
+    by_form _ good closed rest = rest
+
+-- the delay that good lines give a name
+delay-good : (lines : List (Numbered LineForm)) (name : List ℕ) (delay : ℕ) → AreGood lines → delay_given lines name ≡ Some delay → (1 ≤ delay) × (delay ≤ 1000000)
+delay-good [] name delay good given = cc
+delay-good (line ∷ lines) name delay good given = by_form line.form good.0 (delay-good lines name delay good.1) given
+  where
+    by_form : (form : LineForm) → IsGood form → (delay_given lines name ≡ Some delay → (1 ≤ delay) × (delay ≤ 1000000)) → option_or (delay_in form name) (delay_given lines name) ≡ Some delay
+        → (1 ≤ delay) × (delay ≤ 1000000)
+    by_form (DelayLine other its_delay) good rest given = by_test (bytes_eq name other) given
+      where
+        by_test : (b : Bool) → option_or (cond b (Some its_delay) None) (delay_given lines name) ≡ Some delay → (1 ≤ delay) × (delay ≤ 1000000)
+        by_test true given = let same : its_delay ≡ delay = cc in subst (λ (d : ℕ). (1 ≤ d) × (d ≤ 1000000)) same good
+        by_test false given = rest given
+    by_form _ good rest given = rest given
+
+gate_delay-good : (lines : List (Numbered LineForm)) (name : List ℕ) → AreGood lines → (1 ≤ unwrap_or (delay_given lines name) 1) × (unwrap_or (delay_given lines name) 1 ≤ 1000000)
+gate_delay-good lines name good = by_delay (delay_given lines name) refl
+  where
+    by_delay : (o : Option ℕ) → delay_given lines name ≡ o → (1 ≤ unwrap_or o 1) × (unwrap_or o 1 ≤ 1000000)
+    by_delay None given = (lit≤ tt, lit≤ tt)
+    by_delay (Some delay) given = delay-good lines name delay good given
+
+delays-fit : (all lines : List (Numbered LineForm)) → AreGood all → AllZip (λ (signal : Signal) (delay : ℕ). IsDelayOf signal.form delay) (said (signal_by (signal_names all)) lines) (said (signal_delay all) lines)
+delays-fit all [] good = tt
+delays-fit all (line ∷ lines) good = by_form line.form (delays-fit all lines good)
+  where
+    by_form : (form : LineForm) → AllZip (λ (signal : Signal) (delay : ℕ). IsDelayOf signal.form delay) (said (signal_by (signal_names all)) lines) (said (signal_delay all) lines)
+        → AllZip (λ (signal : Signal) (delay : ℕ). IsDelayOf signal.form delay) (cons_option (signal_by (signal_names all) form) (said (signal_by (signal_names all)) lines)) (cons_option (signal_delay all form) (said (signal_delay all) lines))
+    by_form (InputLine name) rest = (refl, rest)
+    by_form (GateLine name kind fan_in) rest = (gate_delay-good all name good, rest)
+    by_form (FlipFlopLine name source) rest = (gate_delay-good all name good, rest)
+    by_form _ rest = rest
 
 -- each name that is defined is a signal's
 signal-count : (all : List (List ℕ)) (lines : List (Numbered LineForm)) → length (said (signal_by all) lines) ≡ length (signal_names lines)
@@ -319,9 +351,8 @@ signal-count all (line ∷ lines) = by_form line.form (signal-count all lines)
     by_form : (form : LineForm) → length (said (signal_by all) lines) ≡ length (signal_names lines) → length (cons_option (signal_by all form) (said (signal_by all) lines)) ≡ length (cons_option (defined_by form) (signal_names lines))
     by_form (InputLine name) rest = ap suc rest
     by_form (GateLine name kind fan_in) rest = ap suc rest
-    by_form (OutputLine name) rest = rest
-    by_form (StimulusLine time bits) rest = rest
-    by_form (FaultyLine fault) rest = rest
+    by_form (FlipFlopLine name source) rest = ap suc rest
+    by_form _ rest = rest
 
 input-count : (all : List (List ℕ)) (lines : List (Numbered LineForm)) → length (said input_by lines) ≡ length (inputs_of (said (signal_by all) lines))
 input-count all [] = refl
@@ -329,10 +360,7 @@ input-count all (line ∷ lines) = by_form line.form (input-count all lines)
   where
     by_form : (form : LineForm) → length (said input_by lines) ≡ length (inputs_of (said (signal_by all) lines)) → length (cons_option (input_by form) (said input_by lines)) ≡ length (inputs_of (cons_option (signal_by all form) (said (signal_by all) lines)))
     by_form (InputLine name) rest = ap suc rest
-    by_form (GateLine name kind fan_in) rest = rest
-    by_form (OutputLine name) rest = rest
-    by_form (StimulusLine time bits) rest = rest
-    by_form (FaultyLine fault) rest = rest
+    by_form _ rest = rest
 
 lines-sound : (lines : List (Numbered LineForm)) → AreGood lines → AreWithin lines → AreClosed lines lines → IsApart lines → IsDeck (deck_with lines)
 lines-sound lines good within closed apart =
@@ -347,6 +375,7 @@ lines-sound lines good within closed apart =
         outputs_in_range = firsts-within (length signals) _ (places-within all (said output_by lines) (length signals) (sym count) (outputs-known lines lines closed));
         outputs_differ = AllPairs-from_pairs (λ (number later : ℕ). number ≢ later) _ (firsts-differ (map (place_of all) (said output_by lines)));
         stimuli_fit = stimuli-fit lines (length (inputs_of signals)) lines (input-count all lines) good closed;
+        delays_fit = delays-fit lines lines good;
       };
       name_lengths = names-fit all lines good within;
       names_differ = AllPairs-from_pairs (λ (signal later : Signal). signal.name ≢ later.name) _ (names-differ all lines apart.distinct);

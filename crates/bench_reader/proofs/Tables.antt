@@ -1,7 +1,8 @@
--- The numbers of names.
-use Rattle.std.proofs.Common.{arith, refl, sym, ap, ◌∙◌, ◌≡◌, ◌<◌, ◌||◌, not, true, false, [], ◌∷◌, ◌++◌, ℕ, suc, List, Bool, Option, Some, None, length, cond, nat_lt, length-append, append-nil, option_to_list}
+-- What lines say of names, and what an index has of them.
+use Rattle.std.proofs.Common.{arith, refl, sym, ap, ◌∙◌, ◌≡◌, ◌<◌, ◌||◌, not, true, false, [], ◌∷◌, ◌++◌, ℕ, suc, List, Bool, Option, Some, None, length, cond, nat_lt, length-append, append-nil, option_to_list, is_some, subst}
 use Rattle.std.proofs.lemmas.Bool.Decides.{nat_tests}
 use Rattle.std.proofs.lemmas.List.Elements.{filter_map-append}
+use Rattle.std.proofs.lemmas.List.Folds.{list_any-append}
 use Rattle.std.proofs.lemmas.Map.Text.{btree_map_updates_str}
 use Rattle.std.proofs.lemmas.Slice.Eq.{bytes_eq-Decides}
 use Rattle.std.specs.Borrow.{Bor}
@@ -9,15 +10,17 @@ use Rattle.std.specs.BTreeMap as tree
 use Rattle.std.specs.BTreeMap.{BTreeMap}
 use Rattle.std.specs.Cmp.Lexicographic.{slice_cmp}
 use Rattle.std.specs.List.{cons_option}
-use Rattle.std.specs.Option.{option_map, option_or}
+use Rattle.std.specs.Option.{option_map, option_map_or, option_or}
 use Rattle.std.specs.Ordering.{nat_cmp}
 use Rattle.std.specs.Str.{bytes_eq}
 use Rattle.kdg_text.specs.declared.fault.LineFault.{LineFault}
 use Rattle.kdg_text.specs.Faults.{Numbered}
+use Rattle.bench_reader.specs.declared.index.Definition.{Definition}
+use Rattle.bench_reader.specs.declared.index.Index.{Index}
 use Rattle.bench_reader.specs.declared.outline.Totals.{Totals}
-use Rattle.bench_reader.specs.LineForms.{LineForm, InputLine, OutputLine, GateLine, StimulusLine, FaultyLine}
-use Rattle.bench_reader.specs.Decks.{said, signal_names, defined_by, input_by, stimulus_by, is_among, place_of, fault_where, own_fault, own_limit, double_fault, count_limit, early_fault}
-use Rattle.bench_reader.specs.Outlines.{some_if, number_of, IsTable, IsTotal, IsIndexed, Defines, totals_with}
+use Rattle.bench_reader.specs.LineForms.{LineForm, InputLine, GateLine, FlipFlopLine, DelayLine, StimulusLine}
+use Rattle.bench_reader.specs.Decks.{said, signal_names, gate_names, defined_by, gate_defined_by, delay_in, delay_given, input_by, stimulus_by, is_among, place_of, fault_where, own_fault, own_limit, double_name, double_delay, double_fault, count_limit, early_fault}
+use Rattle.bench_reader.specs.Outlines.{some_if, number_of, found, number_in, is_gate_in, Puts, IsTotal, IsIndexed, Indexes, totals_with}
 
 same_tests : (x y : Bool) → (x ≡ true → y ≡ true) → (y ≡ true → x ≡ true) → x ≡ y
 same_tests true true to from = refl
@@ -76,34 +79,137 @@ pub said-push : {X : Type 0} (by : LineForm → Option X) (lines : List (Numbere
 said-push by lines line =
     filter_map-append (λ (each : Numbered LineForm). by each.form) lines (line ∷ []) ∙ ap (λ last. said by lines ++ last) (one_option (by line.form))
 
-IsTable-push : (table after : BTreeMap (Bor (List ℕ)) ℕ) (names : List (List ℕ)) (name : List ℕ) → IsTable table names → is_among names name ≡ false
-    → tree.UpdatesBy (λ x y. slice_cmp nat_cmp x.now y.now) (λ k. slice_cmp nat_cmp name k.now) table after (Some (length names)) → IsTable after (names ++ name ∷ [])
-IsTable-push table after names name is_table new updates = λ q.
-    btree_map_updates_str name table after _ updates q
-    ∙ ap (cond (bytes_eq name q) (Some (length names))) (is_table q)
-    ∙ sym (number_of-push names name new q)
-
-pub Defines-name : (table after : BTreeMap (Bor (List ℕ)) ℕ) (number : ℕ) (form : LineForm) (name : List ℕ) → Some name ≡ defined_by form
-    → tree.UpdatesBy (λ x y. slice_cmp nat_cmp x.now y.now) (λ k. slice_cmp nat_cmp name k.now) table after (Some number) → Defines table number form after
-Defines-name table after number form name defines updates lines n is_table next single =
-    let new : is_among (signal_names lines) name ≡ false = not_where _ _ (ap (double_fault lines) defines ∙ single) in
-    let longer : signal_names (lines ++ record { number = n; form = form } ∷ []) ≡ signal_names lines ++ name ∷ [] =
-    said-push defined_by lines (record { number = n; form = form }) ∙ ap (λ o. signal_names lines ++ option_to_list o) (sym defines) in
-    rw longer (IsTable-push table after (signal_names lines) name is_table new (rw (← next) updates))
-
-pub Defines-none : (table : BTreeMap (Bor (List ℕ)) ℕ) (number : ℕ) (form : LineForm) → None ≡ defined_by form → Defines table number form table
-Defines-none table number form defines lines n is_table next single =
-    let same : signal_names (lines ++ record { number = n; form = form } ∷ []) ≡ signal_names lines =
-    said-push defined_by lines (record { number = n; form = form }) ∙ ap (λ o. signal_names lines ++ option_to_list o) (sym defines) ∙ append-nil (signal_names lines) in
-    rw same is_table
-
 pub or_none : (a b : Option LineFault) → option_or a b ≡ None → (a ≡ None) × (b ≡ None)
 or_none None b none = (refl, none)
 or_none (Some fault) b none = cc
 
+or_nothing : {X : Type 0} (o : Option X) → option_or o None ≡ o
+or_nothing None = refl
+or_nothing (Some x) = refl
+
+-- what a line more gives a name
+delay_given-push : (lines : List (Numbered LineForm)) (line : Numbered LineForm) (name : List ℕ) → delay_given (lines ++ line ∷ []) name ≡ option_or (delay_given lines name) (delay_in line.form name)
+delay_given-push [] line name = or_nothing (delay_in line.form name)
+delay_given-push (first ∷ lines) line name = ap (option_or (delay_in first.form name)) (delay_given-push lines line name) ∙ in_turn (delay_in first.form name) (delay_given lines name)
+  where
+    in_turn : (a b : Option ℕ) → option_or a (option_or b (delay_in line.form name)) ≡ option_or (option_or a b) (delay_in line.form name)
+    in_turn None b = refl
+    in_turn (Some n) b = refl
+
+-- what the lines define, as what an index has that goes on with a line
+pub record Extends (index after : Index) (form : LineForm) (name : List ℕ) (number : ℕ) (is_gate : Bool) : Type 0 where
+  pub defines : defined_by form ≡ Some name
+  pub as_gate : gate_defined_by form ≡ some_if is_gate name
+  pub no_delay : (other : List ℕ) → delay_in form other ≡ None
+  pub definitions : Puts index.definitions name (record { number = number; is_gate = is_gate }) after.definitions
+  pub delays : after.delays ≡ index.delays
+
+numbers-push : (index after : Index) (form : LineForm) (name : List ℕ) (number : ℕ) (is_gate : Bool) (names : List (List ℕ)) → Extends index after form name number is_gate → number ≡ length names
+    → ((other : List ℕ) → number_in index.definitions other ≡ number_of names other) → is_among names name ≡ false → (other : List ℕ) → number_in after.definitions other ≡ number_of (names ++ name ∷ []) other
+numbers-push index after form name number is_gate names extends next known new other =
+    ap (option_map (λ (definition : Definition). definition.number)) (extends.definitions other) ∙ by_test (bytes_eq name other) (found index.definitions other)
+    ∙ rw next refl ∙ ap (cond (bytes_eq name other) (Some (length names))) (known other) ∙ sym (number_of-push names name new other)
+  where
+    by_test : (b : Bool) (o : Option Definition) → option_map (λ (definition : Definition). definition.number) (cond b (Some (record { number = number; is_gate = is_gate })) o)
+        ≡ cond b (Some number) (option_map (λ (definition : Definition). definition.number) o)
+    by_test true o = refl
+    by_test false o = refl
+
+-- a name that has no number isn't a gate's
+no_gate : (table : BTreeMap (Bor (List ℕ)) Definition) (name : List ℕ) → number_in table name ≡ None → is_gate_in table name ≡ false
+no_gate table name none = by_entry (found table name) none
+  where
+    by_entry : (o : Option Definition) → option_map (λ (definition : Definition). definition.number) o ≡ None → option_map_or (λ (definition : Definition). definition.is_gate) o false ≡ false
+    by_entry None none = refl
+    by_entry (Some definition) none = cc
+
+gates-push : (index after : Index) (form : LineForm) (name : List ℕ) (number : ℕ) (is_gate : Bool) (names gates : List (List ℕ)) → Extends index after form name number is_gate
+    → ((other : List ℕ) → number_in index.definitions other ≡ number_of names other) → ((other : List ℕ) → is_gate_in index.definitions other ≡ is_among gates other)
+    → is_among names name ≡ false → (other : List ℕ) → is_gate_in after.definitions other ≡ is_among (gates ++ option_to_list (some_if is_gate name)) other
+gates-push index after form name number is_gate names gates extends numbers known new other =
+    ap (λ (o : Option Definition). option_map_or (λ (definition : Definition). definition.is_gate) o false) (extends.definitions other)
+    ∙ by_test (bytes_eq name other) (found index.definitions other) ∙ ap (cond (bytes_eq name other) is_gate) (known other) ∙ by_gate is_gate (bytes_eq name other) refl
+  where
+    by_test : (b : Bool) (o : Option Definition) → option_map_or (λ (definition : Definition). definition.is_gate) (cond b (Some (record { number = number; is_gate = is_gate })) o) false
+        ≡ cond b is_gate (option_map_or (λ (definition : Definition). definition.is_gate) o false)
+    by_test true o = refl
+    by_test false o = refl
+
+    not_among : bytes_eq name other ≡ true → is_among gates other ≡ false
+    not_among same =
+        let is_other : name ≡ other = (bytes_eq-Decides name other).0 same in
+        let unnumbered : number_in index.definitions name ≡ None = numbers name ∙ ap (λ b. some_if b (place_of names name)) new in
+        sym (known other) ∙ subst (λ (n : List ℕ). is_gate_in index.definitions n ≡ false) is_other (no_gate index.definitions name unnumbered)
+
+    here_or : (b among : Bool) → cond b true among ≡ (among || (b || false))
+    here_or true true = refl
+    here_or true false = refl
+    here_or false true = refl
+    here_or false false = refl
+
+    by_gate : (g b : Bool) → bytes_eq name other ≡ b → cond b g (is_among gates other) ≡ is_among (gates ++ option_to_list (some_if g name)) other
+    by_gate true b same = rw (list_any-append (bytes_eq other) gates (name ∷ []), bytes_eq-sym other name, same) (here_or b (is_among gates other))
+    by_gate false true same = rw append-nil (sym (not_among same))
+    by_gate false false same = rw append-nil refl
+
+-- a line that defines a name
+pub Indexes-name : (index after : Index) (number : ℕ) (form : LineForm) (name : List ℕ) (is_gate : Bool) → Extends index after form name number is_gate → Indexes index number form after
+Indexes-name index after number form name is_gate extends lines n indexed next single =
+    let line : Numbered LineForm = record { number = n; form = form } in
+    let new : is_among (signal_names lines) name ≡ false = not_where _ _ (ap (double_name lines) (sym extends.defines) ∙ (or_none _ _ single).0) in
+    let longer : signal_names (lines ++ line ∷ []) ≡ signal_names lines ++ name ∷ [] = said-push defined_by lines line ∙ ap (λ o. signal_names lines ++ option_to_list o) extends.defines in
+    let gates : gate_names (lines ++ line ∷ []) ≡ gate_names lines ++ option_to_list (some_if is_gate name) =
+    said-push gate_defined_by lines line ∙ ap (λ o. gate_names lines ++ option_to_list o) extends.as_gate in
+    record {
+      numbers = λ other. numbers-push index after form name number is_gate (signal_names lines) extends next indexed.numbers new other ∙ ap (λ names. number_of names other) (sym longer);
+      gates = λ other. gates-push index after form name number is_gate (signal_names lines) (gate_names lines) extends indexed.numbers indexed.gates new other ∙ ap (λ names. is_among names other) (sym gates);
+      delays = λ other. ap (λ table. found table other) extends.delays ∙ indexed.delays other
+          ∙ sym (delay_given-push lines line other ∙ ap (option_or (delay_given lines other)) (extends.no_delay other) ∙ or_nothing (delay_given lines other));
+    }
+
+-- a line that defines no name, where the table of delays goes on with it
+Indexes-undefined : (index after : Index) (number : ℕ) (form : LineForm) → defined_by form ≡ None → gate_defined_by form ≡ None → after.definitions ≡ index.definitions
+    → ((lines : List (Numbered LineForm)) (other : List ℕ) → double_delay lines form ≡ None → found index.delays other ≡ delay_given lines other → found after.delays other ≡ option_or (delay_given lines other) (delay_in form other))
+    → Indexes index number form after
+Indexes-undefined index after number form defines as_gate same delays lines n indexed next single =
+    let line : Numbered LineForm = record { number = n; form = form } in
+    let signals : signal_names (lines ++ line ∷ []) ≡ signal_names lines = said-push defined_by lines line ∙ ap (λ o. signal_names lines ++ option_to_list o) defines ∙ append-nil (signal_names lines) in
+    let gates : gate_names (lines ++ line ∷ []) ≡ gate_names lines = said-push gate_defined_by lines line ∙ ap (λ o. gate_names lines ++ option_to_list o) as_gate ∙ append-nil (gate_names lines) in
+    record {
+      numbers = λ other. ap (λ table. number_in table other) same ∙ indexed.numbers other ∙ ap (λ names. number_of names other) (sym signals);
+      gates = λ other. ap (λ table. is_gate_in table other) same ∙ indexed.gates other ∙ ap (λ names. is_among names other) (sym gates);
+      delays = λ other. delays lines other (or_none _ _ single).1 (indexed.delays other) ∙ sym (delay_given-push lines line other);
+    }
+
+pub Indexes-none : (index : Index) (number : ℕ) (form : LineForm) → defined_by form ≡ None → gate_defined_by form ≡ None → ((other : List ℕ) → delay_in form other ≡ None) → Indexes index number form index
+Indexes-none index number form defines as_gate no_delay =
+    Indexes-undefined index index number form defines as_gate refl (λ lines other single known. known ∙ sym (ap (option_or (delay_given lines other)) (no_delay other) ∙ or_nothing (delay_given lines other)))
+
+pub Indexes-delay : (index after : Index) (number : ℕ) (name : List ℕ) (delay : ℕ) → after.definitions ≡ index.definitions → Puts index.delays name delay after.delays → Indexes index number (DelayLine name delay) after
+Indexes-delay index after number name delay same puts =
+    Indexes-undefined index after number (DelayLine name delay) refl refl same (λ lines other single known.
+    puts other ∙ ap (cond (bytes_eq name other) (Some delay)) known ∙ by_test lines other single (bytes_eq name other) refl)
+  where
+    first_given : (o : Option ℕ) → is_some o ≡ false → Some delay ≡ option_or o (Some delay)
+    first_given None h = refl
+    first_given (Some n) h = cc
+
+    by_test : (lines : List (Numbered LineForm)) (other : List ℕ) → double_delay lines (DelayLine name delay) ≡ None → (b : Bool) → bytes_eq name other ≡ b
+        → cond b (Some delay) (delay_given lines other) ≡ option_or (delay_given lines other) (cond (bytes_eq other name) (Some delay) None)
+    by_test lines other single true same =
+        let is_other : name ≡ other = (bytes_eq-Decides name other).0 same in
+        let none : is_some (delay_given lines other) ≡ false = subst (λ (n : List ℕ). is_some (delay_given lines n) ≡ false) is_other (not_where _ _ single) in
+        rw (bytes_eq-sym other name, same) (first_given (delay_given lines other) none)
+    by_test lines other single false same = rw (bytes_eq-sym other name, same) (sym (or_nothing (delay_given lines other)))
+
+-- the table that is written to
+pub Puts-from_updates : {X : Type 0} (table after : BTreeMap (Bor (List ℕ)) X) (name : List ℕ) (value : X)
+    → tree.UpdatesBy (λ x y. slice_cmp nat_cmp x.now y.now) (λ k. slice_cmp nat_cmp name k.now) table after (Some value) → Puts table name value after
+Puts-from_updates table after name value updates = λ other. btree_map_updates_str name table after _ updates other
+
 -- a line that has no early fault has none of its parts
 pub early_fault-parts : (before : List (Numbered LineForm)) (form : LineForm) → early_fault before form ≡ None
-    → (own_fault form ≡ None) × (double_fault before (defined_by form) ≡ None) × (own_limit form ≡ None) × (count_limit before form ≡ None)
+    → (own_fault form ≡ None) × (double_fault before form ≡ None) × (own_limit form ≡ None) × (count_limit before form ≡ None)
 early_fault-parts before form none =
     let own = or_none _ _ none in
     let twice = or_none _ _ own.1 in
@@ -112,7 +218,7 @@ early_fault-parts before form none =
 
 -- the name that a right line defines isn't defined before
 pub is_new : (before : List (Numbered LineForm)) (form : LineForm) (name : List ℕ) → defined_by form ≡ Some name → early_fault before form ≡ None → is_among (signal_names before) name ≡ false
-is_new before form name defines fits = not_where _ _ (ap (double_fault before) (sym defines) ∙ (early_fault-parts before form fits).1)
+is_new before form name defines fits = not_where _ _ (ap (double_name before) (sym defines) ∙ (or_none _ _ (early_fault-parts before form fits).1).0)
 
 few_before : (n limit : ℕ) → not (nat_lt n limit) ≡ false → n < limit
 few_before n limit test = grind (arith, nat_tests)
@@ -139,15 +245,17 @@ IsTotal-push totals lines n form so_far fits =
           few_inputs = omega (arith, so_far.few_inputs);
           few_stimuli = so_far.few_stimuli;
         }
-    rw_total (OutputLine name) signals inputs stimuli fits = record {
-      signals = rw (signals, append-nil (signal_names lines)) so_far.signals;
-      inputs = rw (inputs, append-nil (said input_by lines)) so_far.inputs;
-      stimuli = rw (stimuli, append-nil (said stimulus_by lines)) so_far.stimuli;
-      few_signals = so_far.few_signals;
-      few_inputs = so_far.few_inputs;
-      few_stimuli = so_far.few_stimuli;
-    }
     rw_total (GateLine name kind fan_in) signals inputs stimuli fits =
+        let few = few_before (length (signal_names lines)) 4096 (not_where _ _ fits) in
+        record {
+          signals = rw (signals, length-append (signal_names lines) (name ∷ [])) (omega (arith, so_far.signals));
+          inputs = rw (inputs, append-nil (said input_by lines)) so_far.inputs;
+          stimuli = rw (stimuli, append-nil (said stimulus_by lines)) so_far.stimuli;
+          few_signals = omega (arith, so_far.signals);
+          few_inputs = omega (arith, so_far.few_inputs);
+          few_stimuli = so_far.few_stimuli;
+        }
+    rw_total (FlipFlopLine name source) signals inputs stimuli fits =
         let few = few_before (length (signal_names lines)) 4096 (not_where _ _ fits) in
         record {
           signals = rw (signals, length-append (signal_names lines) (name ∷ [])) (omega (arith, so_far.signals));
@@ -167,7 +275,7 @@ IsTotal-push totals lines n form so_far fits =
           few_inputs = so_far.few_inputs;
           few_stimuli = omega (arith, so_far.stimuli);
         }
-    rw_total (FaultyLine fault) signals inputs stimuli fits = record {
+    rw_total _ signals inputs stimuli fits = record {
       signals = rw (signals, append-nil (signal_names lines)) so_far.signals;
       inputs = rw (inputs, append-nil (said input_by lines)) so_far.inputs;
       stimuli = rw (stimuli, append-nil (said stimulus_by lines)) so_far.stimuli;
@@ -176,11 +284,11 @@ IsTotal-push totals lines n form so_far fits =
       few_stimuli = so_far.few_stimuli;
     }
 
-pub IsIndexed-push : (table after : BTreeMap (Bor (List ℕ)) ℕ) (totals : Totals) (lines : List (Numbered LineForm)) (n : ℕ) (form : LineForm) → IsIndexed table totals lines
-    → early_fault lines form ≡ None → Defines table totals.signals form after → IsIndexed after (totals_with totals form) (lines ++ record { number = n; form = form } ∷ [])
-IsIndexed-push table after totals lines n form so_far fits defines =
+pub IsIndexed-push : (index after : Index) (totals : Totals) (lines : List (Numbered LineForm)) (n : ℕ) (form : LineForm) → IsIndexed index totals lines
+    → early_fault lines form ≡ None → Indexes index totals.signals form after → IsIndexed after (totals_with totals form) (lines ++ record { number = n; form = form } ∷ [])
+IsIndexed-push index after totals lines n form so_far fits indexes =
     let parts = early_fault-parts lines form fits in
     record {
-      numbers = defines lines n so_far.numbers so_far.totals_right.signals parts.1;
+      indexed = indexes lines n so_far.indexed so_far.totals_right.signals parts.1;
       totals_right = IsTotal-push totals lines n form so_far.totals_right parts.3;
     }

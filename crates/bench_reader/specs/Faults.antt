@@ -22,11 +22,11 @@ unsupported = fault_of_kind 3
 abbrev pub arity : LineFault
 arity = fault_of_kind 4
 
--- the name is defined by an earlier line
+-- an earlier line defines the name, or gives it a delay
 abbrev pub double : LineFault
 double = fault_of_kind 5
 
--- no line defines the name
+-- no line defines the name, or none as a gate that can have a delay
 abbrev pub undefined : LineFault
 undefined = fault_of_kind 6
 
@@ -34,9 +34,9 @@ undefined = fault_of_kind 6
 abbrev pub bit_count : LineFault
 bit_count = fault_of_kind 7
 
--- the time of a stimulus is no number, or too great
-abbrev pub bad_time : LineFault
-bad_time = fault_of_kind 8
+-- a time or a delay is no number, or none that it may be
+abbrev pub bad_number : LineFault
+bad_number = fault_of_kind 8
 
 -- the line goes beyond this limit
 abbrev pub beyond : ℕ → LineFault

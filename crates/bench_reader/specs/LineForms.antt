@@ -9,13 +9,16 @@ use Rattle.kdg_text.specs.Numbers.{u64_of}
 use Rattle.kdg_text.specs.Tokens.{is_blank, is_mark, tokens_of}
 use Rattle.bench_reader.specs.declared.deck.GateKind.{GateKind}
 use Rattle.bench_reader.specs.declared.deck.GateKind.TheVariants.{And, Nand, Or, Nor, Xor, Xnor, Not, Buff}
-use Rattle.bench_reader.specs.Faults.{syntax, unknown_kind, unsupported, arity, bad_time}
+use Rattle.bench_reader.specs.Faults.{syntax, unknown_kind, unsupported, arity, bad_number}
 
--- A line defines a primary input or a gate, declares an output, is a stimulus, or has a fault of its own.
+-- A line defines a primary input, a gate or a flip-flop, declares an output, gives a delay, is a stimulus, or has a fault of
+-- its own.
 pub data LineForm : Type 0 where
   InputLine : (name : List ℕ) → LineForm
   OutputLine : (name : List ℕ) → LineForm
   GateLine : (name : List ℕ) (kind : GateKind) (fan_in : List (List ℕ)) → LineForm
+  FlipFlopLine : (name source : List ℕ) → LineForm
+  DelayLine : (name : List ℕ) (delay : ℕ) → LineForm
   StimulusLine : (time : ℕ) (bits : List ℕ) → LineForm
   FaultyLine : (fault : LineFault) → LineForm
 
@@ -58,9 +61,13 @@ kind_of word =
     else if spells word (codes "buff") || spells word (codes "buf") then Some Buff
     else None
 
+-- whether the word is the kind of a flip-flop
+abbrev pub is_flip_flop : List ℕ → Bool
+is_flip_flop word = spells word (codes "dff")
+
 -- whether the word is the kind of a gate that is known and not taken
 abbrev pub is_unsupported : List ℕ → Bool
-is_unsupported word = spells word (codes "dff") || spells word (codes "mux") || spells word (codes "lut")
+is_unsupported word = spells word (codes "mux") || spells word (codes "lut")
 
 -- whether the word is the name of a constant, which isn't taken
 abbrev pub is_constant : List ℕ → Bool
@@ -96,10 +103,22 @@ abbrev pub declared_by : List ℕ → List (List ℕ) → LineForm
 declared_by word (name ∷ mark ∷ []) = if is_name name && bytes_eq mark (codes ")") then declaration_of word name else FaultyLine syntax
 declared_by word _ = FaultyLine syntax
 
+-- a flip-flop, which has one input
+abbrev pub flip_flop_of : List ℕ → List (List ℕ) → LineForm
+flip_flop_of name (source ∷ []) = FlipFlopLine name source
+flip_flop_of name _ = FaultyLine arity
+
+-- what the word makes of a name that names no kind of gate
+abbrev pub other_kind : List ℕ → List ℕ → List (List ℕ) → LineForm
+other_kind name word fan_in =
+    if is_flip_flop word then flip_flop_of name fan_in
+    else if is_unsupported word then FaultyLine unsupported
+    else FaultyLine unknown_kind
+
 -- a gate whose kind this word names
 abbrev pub gate_of : List ℕ → List ℕ → List (List ℕ) → Option GateKind → LineForm
 gate_of name word fan_in (Some kind) = if is_arity kind (length fan_in) then GateLine name kind fan_in else FaultyLine arity
-gate_of name word fan_in None = if is_unsupported word then FaultyLine unsupported else FaultyLine unknown_kind
+gate_of name word fan_in None = other_kind name word fan_in
 
 -- NAME = WORD ( NAMES, or NAME = CONSTANT, where the name and the first mark are taken off
 abbrev pub gate_by : List ℕ → List (List ℕ) → LineForm
@@ -118,19 +137,34 @@ is_bit byte = byte == 48 || byte == 49
 
 -- a stimulus at the time that a word says
 abbrev pub stimulus_at : Result ℕ NumFault → List ℕ → LineForm
-stimulus_at (Ok time) bits = if nat_le time latest_stimulus then StimulusLine time bits else FaultyLine bad_time
-stimulus_at (Err fault) bits = FaultyLine bad_time
+stimulus_at (Ok time) bits = if nat_le time latest_stimulus then StimulusLine time bits else FaultyLine bad_number
+stimulus_at (Err fault) bits = FaultyLine bad_number
 
 -- @ TIME BITS, where the '@' and the time are taken off
 abbrev pub stimulus_by : List ℕ → List (List ℕ) → LineForm
 stimulus_by time (bits ∷ []) = if list_all is_bit bits then stimulus_at (u64_of time) bits else FaultyLine syntax
 stimulus_by time _ = FaultyLine syntax
 
+-- the longest delay that a signal may have
+abbrev pub longest_delay : ℕ
+longest_delay = 1_000_000
+
+-- the delay that a word says, for the signal of this name
+abbrev pub delay_at : List ℕ → Result ℕ NumFault → LineForm
+delay_at name (Ok delay) = if nat_le 1 delay && nat_le delay longest_delay then DelayLine name delay else FaultyLine bad_number
+delay_at name (Err fault) = FaultyLine bad_number
+
+-- @delay NAME N, where the '@delay' and the name are taken off
+abbrev pub delay_by : List ℕ → List (List ℕ) → LineForm
+delay_by name (number ∷ []) = if is_name name then delay_at name (u64_of number) else FaultyLine syntax
+delay_by name _ = FaultyLine syntax
+
 -- what a line of these tokens says, of which the first is taken off
 abbrev pub form_by : List ℕ → List (List ℕ) → LineForm
 form_by first [] = FaultyLine syntax
 form_by first (second ∷ tokens) =
     if bytes_eq first (codes "@") then stimulus_by second tokens
+    else if spells first (codes "@delay") then delay_by second tokens
     else if bytes_eq second (codes "(") then declared_by first tokens
     else if bytes_eq second (codes "=") then gate_by first tokens
     else FaultyLine syntax

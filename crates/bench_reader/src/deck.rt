@@ -32,6 +32,8 @@ pub enum Form {
     Input,
     /// A gate, with the numbers of the signals that it reads, in the order of its line.
     Gate { kind: GateKind, fan_in: NumList },
+    /// A flip-flop, with the number of the signal whose value it takes at each tick of the clock.
+    Dff { source: u32 },
 }
 
 /// A signal: its name as the deck spells it, and what drives it.
@@ -143,4 +145,6 @@ pub struct Deck {
     pub outputs: NumList,
     /// The stimuli, in the order of their lines.
     pub stimuli: StimList,
+    /// For each signal its delay in units of time, from 1 to 1,000,000, or 0 for an input.
+    pub delays: NumList,
 }

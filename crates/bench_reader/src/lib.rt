@@ -1,8 +1,10 @@
-//! Reads circuits in the `.bench` format, in which the ISCAS'85 benchmark circuits are handed round.
+//! Reads circuits in the `.bench` format, in which the ISCAS'85 and ISCAS'89 benchmark circuits are
+//! handed round.
 #![tactic(auto)]
 
 mod deck;
 mod faults;
+mod index;
 mod making;
 mod names;
 mod outline;

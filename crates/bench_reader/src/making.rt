@@ -1,7 +1,7 @@
-ghost use Rattle.std.specs.Prelude.{◌≡◌, ◌<◌, ◌-◌, ◌++◌, [], ◌∷◌, None, length, map, drop, IfOk, IfErr, OnOk};
+ghost use Rattle.std.specs.Prelude.{◌≡◌, ◌<◌, ◌-◌, ◌++◌, [], ◌∷◌, None, length, map, drop, unwrap_or, IfOk, IfErr, OnOk};
 ghost use Rattle.kdg_text.specs.Faults.{Answers, StopsAt};
 ghost use Rattle.kdg_text.specs.Tokens.{tokens_of};
-ghost use Rattle.bench_reader.specs.Decks.{late_fault, signal_names};
+ghost use Rattle.bench_reader.specs.Decks.{delay_given, late_fault, signal_names, usual_delay};
 ghost use Rattle.bench_reader.specs.Grammar.{deck_of_lines};
 ghost use Rattle.bench_reader.specs.LineForms.{marks};
 ghost use Rattle.bench_reader.specs.Outlines.{IsMarked, deck_plus, numbers_of, with_first};
@@ -9,11 +9,14 @@ ghost use Rattle.bench_reader.specs.Statements.{fan_in_of, line_form};
 
 use crate::faults::{BIT_COUNT, UNDEFINED};
 use crate::outline::Outline;
-use crate::statement::{GateDraft, NumberedStatement, Statement, StimDraft};
+use crate::statement::{FlipFlopDraft, GateDraft, NumberedStatement, Statement, StimDraft};
 use crate::words::MARKS;
 use crate::{Deck, Form, Signal, SignalList, Stim, StimList};
 use kdg_text::{LineFault, NoRoom, NumList, ReadFail, Text, Tokens};
 use std::alloc::Global;
+
+/// The delay of a gate to which no line gives one.
+const USUAL_DELAY: u32 = 1;
 
 /// A deck that is being made, line by line.
 #[derive(Drop)]
@@ -44,27 +47,33 @@ impl<'a> Outline<'a> {
     ) -> Result<(), ReadFail>
         requires marked { IsMarked (length (signal_names self.now)) making.old }
         ensures fits { OnOk result (late_fault self.now (line_form line.now.statement) ≡ None) }
-        ensures made { OnOk result (making.new.deck ≡ deck_plus (signal_names self.now) making.old.deck (line_form line.now.statement)) }
+        ensures made { OnOk result (making.new.deck ≡ deck_plus self.now making.old.deck (line_form line.now.statement)) }
         ensures marked { OnOk result (IsMarked (length (signal_names self.now)) making.new) }
         ensures refused { IfErr result (StopsAt line.now.number (late_fault self.now (line_form line.now.statement))) }
     {
+        let undefined = ReadFail::Bad(UNDEFINED.on_line(line.number));
         match &line.statement {
-            Statement::Input(name) => making.add_signal(alloc, name, Form::Input)?,
-            Statement::Gate(gate) => match self.fan_in_of(alloc, gate)? {
-                Some(fan_in) => making.add_signal(
-                    alloc,
-                    gate.name,
-                    Form::Gate {
-                        kind: gate.kind,
-                        fan_in,
-                    },
-                )?,
-                None => return Err(ReadFail::Bad(UNDEFINED.on_line(line.number))),
-            },
-            Statement::Output(name) => match self.number_of(name) {
-                Some(number) => making.declare(number)?,
-                None => return Err(ReadFail::Bad(UNDEFINED.on_line(line.number))),
-            },
+            Statement::Input(name) => making.add_signal(alloc, name, Form::Input, 0)?,
+            Statement::Gate(gate) => {
+                let fan_in = self.fan_in_of(alloc, gate)?.ok_or(undefined)?;
+                let kind = gate.kind;
+                let delay = self.gate_delay(gate.name);
+                making.add_signal(alloc, gate.name, Form::Gate { kind, fan_in }, delay)?;
+            }
+            Statement::FlipFlop(FlipFlopDraft { name, source }) => {
+                let source = self.number_of(source).ok_or(undefined)?;
+                let delay = self.gate_delay(name);
+                making.add_signal(alloc, name, Form::Dff { source }, delay)?;
+            }
+            Statement::Output(name) => {
+                let number = self.number_of(name).ok_or(undefined)?;
+                making.declare(number)?;
+            }
+            Statement::Delay(delay) => {
+                if !self.is_gate(delay.name) {
+                    return Err(undefined);
+                }
+            }
             Statement::Stimulus(stimulus) => {
                 if stimulus.bits.len() != self.totals().inputs as usize {
                     return Err(ReadFail::Bad(BIT_COUNT.on_line(line.number)));
@@ -73,6 +82,13 @@ impl<'a> Outline<'a> {
             }
         }
         Ok(())
+    }
+
+    /// The delay of a gate or a flip-flop.
+    fn gate_delay(&self, name: &[u8]) -> u32
+        ensures { result ≡ unwrap_or (delay_given self.now name.now) usual_delay }
+    {
+        self.delay_of(name).unwrap_or(USUAL_DELAY)
     }
 
     /// The numbers of a gate's fan-ins, where each is a signal.
@@ -106,7 +122,7 @@ fn names_behind(line: &[u8]) -> Tokens
 impl Making {
     /// An empty deck of so many signals.
     fn new(alloc: Global, signals: u32) -> Result<Making, NoRoom>
-        ensures deck { IfOk result (λ making. making.deck ≡ record { signals = []; outputs = []; stimuli = [] }) }
+        ensures deck { IfOk result (λ making. making.deck ≡ record { signals = []; outputs = []; stimuli = []; delays = [] }) }
         ensures marked { IfOk result (IsMarked signals) }
     {
         Ok(Making {
@@ -114,16 +130,24 @@ impl Making {
                 signals: SignalList::new(alloc),
                 outputs: NumList::new(alloc),
                 stimuli: StimList::new(alloc),
+                delays: NumList::new(alloc),
             },
             declared: vec![in alloc; false; signals as usize]?,
         })
     }
 
-    fn add_signal(&mut self, alloc: Global, name: &[u8], form: Form) -> Result<(), NoRoom>
-        ensures { OnOk result (self.new ≡ record self.old { deck = record self.old.deck { signals = self.old.deck.signals ++ record { name = name.now; form = form } ∷ [] } }) }
+    fn add_signal(
+        &mut self,
+        alloc: Global,
+        name: &[u8],
+        form: Form,
+        delay: u32,
+    ) -> Result<(), NoRoom>
+        ensures { OnOk result (self.new ≡ record self.old { deck = record self.old.deck { signals = self.old.deck.signals ++ record { name = name.now; form = form } ∷ []; delays = self.old.deck.delays ++ delay ∷ [] } }) }
     {
         let mut text = Text::new(alloc);
         text.push_all(name)?;
+        self.deck.delays.push(delay)?;
         self.deck.signals.push(Signal { name: text, form })
     }
 

@@ -18,11 +18,13 @@ const COMMA: &[u8] = b",";
 
 /// What is known of the names of a gate's fan-ins.
 #[derive(Clone, Copy)]
-pub(crate) struct Names {
+pub(crate) struct Names<'a> {
     /// How many there are, or 256 where there are more.
     pub(crate) count: usize,
     /// Whether one of them is longer than a name may be.
     pub(crate) has_long: bool,
+    /// The last of them.
+    pub(crate) last: &'a [u8],
 }
 
 /// The next token of a line that has to have one.
@@ -41,7 +43,7 @@ pub(crate) fn is_long(name: &[u8]) -> bool
 }
 
 /// Goes over names with a comma between each two, up to the closing mark that ends the line.
-pub(crate) fn count_names(tokens: &mut Tokens) -> Result<Names, LineFault>
+pub(crate) fn count_names<'a>(tokens: &mut Tokens<'a>) -> Result<Names<'a>, LineFault>
     ensures { CountsNames result tokens.old }
 {
     let mut count = 0;
@@ -57,7 +59,11 @@ pub(crate) fn count_names(tokens: &mut Tokens) -> Result<Names, LineFault>
         if mark != COMMA {
             let at_end = mark == CLOSING && tokens.next_token().is_none();
             return if at_end {
-                Ok(Names { count, has_long })
+                Ok(Names {
+                    count,
+                    has_long,
+                    last: name,
+                })
             } else {
                 Err(SYNTAX)
             };

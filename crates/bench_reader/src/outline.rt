@@ -1,16 +1,14 @@
 ghost use Rattle.std.specs.Prelude.{◌≡◌, ◌≤◌, ◌∷◌, ◌++◌, [], None, map, IfErr, OnOk, OnErr};
-ghost use Rattle.std.specs.BTreeMap.{IsUnchanged};
-ghost use Rattle.std.specs.Option.{option_map};
 ghost use Rattle.kdg_text.specs.Faults.{StopsAt};
-ghost use Rattle.bench_reader.specs.Decks.{signal_names, defined_by, double_fault, own_limit, count_limit, early_fault};
-ghost use Rattle.bench_reader.specs.Outlines.{Defines, IsTotal, number_of, totals_with};
+ghost use Rattle.bench_reader.specs.Decks.{signal_names, gate_names, is_among, delay_given, double_fault, own_limit, count_limit, early_fault};
+ghost use Rattle.bench_reader.specs.Outlines.{IsTotal, number_of, totals_with};
 ghost use Rattle.bench_reader.specs.Statements.{line_form, numbered_form};
 
 use crate::faults::{DOUBLE, beyond};
+use crate::index::Index;
 use crate::statement::{NumberedStatement, Said, Statement};
 use kdg_text::{LineFault, NoRoom, ReadFail};
 use std::alloc::Global;
-use std::collections::BTreeMap;
 use std::marker::Model;
 
 const MOST_SIGNALS: u32 = 4096;
@@ -29,8 +27,7 @@ pub(crate) struct Totals {
 #[derive(Drop)]
 pub(crate) struct Outline<'a> {
     lines: Vec<NumberedStatement<'a>>,
-    /// The number of each signal by its name.
-    numbers: BTreeMap<&'a [u8], u32>,
+    index: Index<'a>,
     totals: Totals,
 }
 
@@ -45,7 +42,7 @@ impl<'a> Model for Outline<'a> {
 
     ghost view = { λ o. map numbered_form o.lines.items };
 
-    ghost invariant = { λ o. IsIndexed o.numbers o.totals (map numbered_form o.lines.items) };
+    ghost invariant = { λ o. IsIndexed o.index o.totals (map numbered_form o.lines.items) };
 }
 
 impl<'a> Outline<'a> {
@@ -54,7 +51,7 @@ impl<'a> Outline<'a> {
     {
         Outline {
             lines: Vec::new(alloc),
-            numbers: BTreeMap::new(alloc),
+            index: Index::new(alloc),
             totals: Totals {
                 signals: 0,
                 inputs: 0,
@@ -89,23 +86,24 @@ impl<'a> Outline<'a> {
     }
 
     fn double_fault(&self, statement: &Statement<'a>) -> Option<LineFault>
-        ensures { result ≡ double_fault self.now (defined_by (line_form statement.now)) }
+        ensures { result ≡ double_fault self.now (line_form statement.now) }
     {
-        let name = defined_name(statement)?;
-        if self.numbers.contains_key(name) {
-            Some(DOUBLE)
-        } else {
-            None
-        }
+        let is_double = match statement {
+            Statement::Input(name) => self.number_of(name).is_some(),
+            Statement::Gate(gate) => self.number_of(gate.name).is_some(),
+            Statement::FlipFlop(flip_flop) => self.number_of(flip_flop.name).is_some(),
+            Statement::Delay(delay) => self.delay_of(delay.name).is_some(),
+            Statement::Output(_) | Statement::Stimulus(_) => false,
+        };
+        if is_double { Some(DOUBLE) } else { None }
     }
 
     fn count_limit(&self, statement: &Statement<'a>) -> Option<LineFault>
         ensures { result ≡ count_limit self.now (line_form statement.now) }
     {
         match statement {
-            Statement::Input(_) | Statement::Gate(_) if self.totals.signals >= MOST_SIGNALS => {
-                Some(beyond(u64::from(MOST_SIGNALS)))
-            }
+            Statement::Input(_) | Statement::Gate(_) | Statement::FlipFlop(_)
+                if self.totals.signals >= MOST_SIGNALS => { Some(beyond(u64::from(MOST_SIGNALS))) }
             Statement::Stimulus(_) if self.totals.stimuli >= MOST_STIMULI => {
                 Some(beyond(u64::from(MOST_STIMULI)))
             }
@@ -120,7 +118,7 @@ impl<'a> Outline<'a> {
         ensures err { OnErr result (self.new ≡ self.old) }
     {
         self.lines.reserve(1)?;
-        define(&mut self.numbers, &line.statement, self.totals.signals)?;
+        self.index.add(&line.statement, self.totals.signals)?;
         self.totals = self.totals.with(&line.statement);
         self.lines.push_reserved(line);
         Ok(())
@@ -144,7 +142,21 @@ impl<'a> Outline<'a> {
     pub(crate) fn number_of(&self, name: &[u8]) -> Option<u32>
         ensures { result ≡ number_of (signal_names self.now) name.now }
     {
-        self.numbers.get(name).copied()
+        self.index.number_of(name)
+    }
+
+    /// Whether a name is that of a gate or a flip-flop.
+    pub(crate) fn is_gate(&self, name: &[u8]) -> bool
+        ensures { result ≡ is_among (gate_names self.now) name.now }
+    {
+        self.index.is_gate(name)
+    }
+
+    /// The delay that a line gives a name.
+    pub(crate) fn delay_of(&self, name: &[u8]) -> Option<u32>
+        ensures { result ≡ delay_given self.now name.now }
+    {
+        self.index.delay_of(name)
     }
 }
 
@@ -162,7 +174,7 @@ impl Totals {
                 inputs: self.inputs + 1,
                 stimuli: self.stimuli,
             },
-            Statement::Gate(_) => Totals {
+            Statement::Gate(_) | Statement::FlipFlop(_) => Totals {
                 signals: self.signals + 1,
                 inputs: self.inputs,
                 stimuli: self.stimuli,
@@ -172,33 +184,7 @@ impl Totals {
                 inputs: self.inputs,
                 stimuli: self.stimuli + 1,
             },
-            Statement::Output(_) => self,
+            Statement::Output(_) | Statement::Delay(_) => self,
         }
-    }
-}
-
-/// Gives the name that a line defines the next number.
-fn define<'a>(
-    numbers: &mut BTreeMap<&'a [u8], u32>,
-    statement: &Statement<'a>,
-    number: u32,
-) -> Result<(), NoRoom>
-    ensures ok { OnOk result (Defines numbers.old number (line_form statement.now) numbers.new) }
-    ensures err { OnErr result (IsUnchanged numbers.old numbers.new) }
-{
-    if let Some(name) = defined_name(statement) {
-        numbers.insert(name, number)?;
-    }
-    Ok(())
-}
-
-/// The name that a line defines.
-fn defined_name<'a>(statement: &Statement<'a>) -> Option<&'a [u8]>
-    ensures { option_map (λ name. name.now) result ≡ defined_by (line_form statement.now) }
-{
-    match statement {
-        Statement::Input(name) => Some(name),
-        Statement::Gate(gate) => Some(gate.name),
-        _ => None,
     }
 }

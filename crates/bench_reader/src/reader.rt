@@ -10,9 +10,10 @@ use kdg_text::{Lines, ReadFail};
 use std::alloc::Global;
 
 /// Reads a deck in the ISCAS `.bench` format. What begins with `#` is a comment. A line is
-/// `INPUT(name)`, `OUTPUT(name)`, `name = KIND(name, ..)` or `@ TIME BITS`, with spaces and tabs
-/// between as one likes and with words in letters of any case. The first fault is answered with its
-/// line; one that a line has by itself or beside earlier lines comes before any by later lines.
+/// `INPUT(name)`, `OUTPUT(name)`, `name = KIND(name, ..)`, `@delay NAME N` or `@ TIME BITS`, with
+/// spaces and tabs between as one likes and with words in letters of any case. The first fault is
+/// answered with its line; one that a line has by itself or beside earlier lines comes before any by
+/// later lines.
 pub fn read_deck(alloc: Global, input: &[u8]) -> Result<Deck, ReadFail>
     ensures found { IfOk result (λ deck. deck_of input.now ≡ Ok deck) }
     ensures deck { IfOk result IsDeck }

@@ -1,20 +1,20 @@
-ghost use Rattle.std.specs.Prelude.{◌≡◌, ◌∷◌, [], nat_lt, if◌then◌else◌};
+ghost use Rattle.std.specs.Prelude.{◌≡◌, ◌∷◌, [], ℕ, List, drop, nat_lt, if◌then◌else◌};
 ghost use Rattle.std.specs.Option.{option_or};
 ghost use Rattle.kdg_text.specs.Numbers.{u64_of};
 ghost use Rattle.kdg_text.specs.Tokens.{tokens_of};
 ghost use Rattle.bench_reader.specs.Decks.{fault_where};
 ghost use Rattle.bench_reader.specs.Faults.{beyond, unsupported, unknown_kind};
-ghost use Rattle.bench_reader.specs.LineForms.{FaultyLine, marks, form_of, form_by, declared_by, gate_by, is_unsupported, stimulus_at, stimulus_by};
-ghost use Rattle.bench_reader.specs.Statements.{Says, SaysForm};
+ghost use Rattle.bench_reader.specs.LineForms.{FaultyLine, marks, form_of, form_by, declared_by, delay_at, delay_by, gate_by, gate_of, is_unsupported, kind_of, names_among, other_kind, stimulus_at, stimulus_by};
+ghost use Rattle.bench_reader.specs.Statements.{Counts, Says, SaysForm, fan_in_of};
 
 use crate::GateKind;
-use crate::faults::{ARITY, BAD_TIME, SYNTAX, UNKNOWN_KIND, UNSUPPORTED, beyond};
+use crate::faults::{ARITY, BAD_NUMBER, SYNTAX, UNKNOWN_KIND, UNSUPPORTED, beyond};
 use crate::names::{
     CLOSING, MOST_FAN_INS, MOST_NAME_BYTES, Names, OPENING, count_names, is_long, token,
 };
 use crate::words::{
-    MARKS, is_arity, is_bits, is_constant, is_name, is_text, is_unsupported, is_word, kind_of,
-    spells,
+    MARKS, is_arity, is_bits, is_constant, is_flip_flop, is_name, is_text, is_unsupported, is_word,
+    kind_of, spells,
 };
 use kdg_text::{LineFault, Tokens, read_u64, without_comment};
 
@@ -26,6 +26,8 @@ const EQUALS: &[u8] = b"=";
 
 const LATEST_STIMULUS: u64 = 1_000_000_000;
 
+const LONGEST_DELAY: u64 = 1_000_000;
+
 /// A gate as its line defines it.
 #[derive(Clone, Copy)]
 pub(crate) struct GateDraft<'a> {
@@ -33,6 +35,20 @@ pub(crate) struct GateDraft<'a> {
     pub(crate) kind: GateKind,
     /// The whole line, which has the names of the fan-ins.
     pub(crate) line: &'a [u8],
+}
+
+/// A flip-flop as its line defines it.
+#[derive(Clone, Copy)]
+pub(crate) struct FlipFlopDraft<'a> {
+    pub(crate) name: &'a [u8],
+    pub(crate) source: &'a [u8],
+}
+
+/// The delay that a line gives a name.
+#[derive(Clone, Copy)]
+pub(crate) struct DelayDraft<'a> {
+    pub(crate) name: &'a [u8],
+    pub(crate) delay: u32,
 }
 
 /// A stimulus as its line gives it.
@@ -48,6 +64,8 @@ pub(crate) enum Statement<'a> {
     Input(&'a [u8]),
     Output(&'a [u8]),
     Gate(GateDraft<'a>),
+    FlipFlop(FlipFlopDraft<'a>),
+    Delay(DelayDraft<'a>),
     Stimulus(StimDraft<'a>),
 }
 
@@ -92,6 +110,8 @@ fn statement_by<'a>(
     let second = token(tokens)?;
     if first == AT {
         stimulus(second, tokens)
+    } else if spells(first, b"@delay") {
+        delay(second, tokens)
     } else if second == OPENING {
         declaration(first, tokens)
     } else if second == EQUALS {
@@ -147,8 +167,24 @@ fn gate<'a>(line: &'a [u8], name: &'a [u8], tokens: &mut Tokens<'a>) -> Result<S
             if !is_name(name) || !is_word(word) || mark != OPENING {
                 return Err(SYNTAX);
             }
-            let names = count_names(tokens)?;
-            let kind = kind_of(word).ok_or(kind_fault(word))?;
+            driven(line, name, word, count_names(tokens)?)
+        }
+    }
+}
+
+/// A gate or a flip-flop whose kind a word names, behind which these names stand.
+fn driven<'a>(
+    line: &'a [u8],
+    name: &'a [u8],
+    word: &[u8],
+    names: Names<'a>,
+) -> Result<Said<'a>, LineFault>
+    requires { Counts names (drop 4 (tokens_of marks line.now)) }
+    ensures { SaysForm result (gate_of name.now word.now (fan_in_of line.now) (kind_of word.now)) }
+{
+    match kind_of(word) {
+        None => flip_flop(name, word, names),
+        Some(kind) => {
             if !is_arity(kind, names.count) {
                 return Err(ARITY);
             }
@@ -158,6 +194,23 @@ fn gate<'a>(line: &'a [u8], name: &'a [u8], tokens: &mut Tokens<'a>) -> Result<S
             })
         }
     }
+}
+
+/// A flip-flop, where a word that names no kind of gate names its kind.
+fn flip_flop<'a>(name: &'a [u8], word: &[u8], names: Names<'a>) -> Result<Said<'a>, LineFault>
+    ensures { (tokens : List (List ℕ)) → Counts names.entry tokens → SaysForm result (other_kind name.now word.now (names_among tokens)) }
+{
+    if !is_flip_flop(word) {
+        return Err(kind_fault(word));
+    }
+    if names.count != 1 {
+        return Err(ARITY);
+    }
+    let source = names.last;
+    Ok(Said {
+        statement: Statement::FlipFlop(FlipFlopDraft { name, source }),
+        limit: limit_of(is_long(name) || names.has_long, 1),
+    })
 }
 
 /// What is wrong with `NAME = WORD`.
@@ -202,6 +255,33 @@ fn stimulus_at<'a>(time: &'a [u8], bits: &'a [u8]) -> Result<Said<'a>, LineFault
             statement: Statement::Stimulus(StimDraft { time, bits }),
             limit: None,
         }),
-        _ => Err(BAD_TIME),
+        _ => Err(BAD_NUMBER),
+    }
+}
+
+/// `@delay NAME N` behind the name.
+fn delay<'a>(name: &'a [u8], tokens: &mut Tokens<'a>) -> Result<Said<'a>, LineFault>
+    ensures { SaysForm result (delay_by name.now tokens.old) }
+{
+    let number = token(tokens)?;
+    if tokens.next_token().is_some() || !is_name(name) {
+        return Err(SYNTAX);
+    }
+    delay_at(name, number)
+}
+
+/// The delay that a word says, for the signal of this name.
+fn delay_at<'a>(name: &'a [u8], number: &[u8]) -> Result<Said<'a>, LineFault>
+    ensures { SaysForm result (delay_at name.now (u64_of number.now)) }
+{
+    match read_u64(number) {
+        Ok(delay) if 1 <= delay && delay <= LONGEST_DELAY => {
+            let delay = delay as u32;
+            Ok(Said {
+                statement: Statement::Delay(DelayDraft { name, delay }),
+                limit: limit_of(is_long(name), 0),
+            })
+        }
+        _ => Err(BAD_NUMBER),
     }
 }

@@ -33,15 +33,15 @@ fn word_of(kind: GateKind) -> &'static [u8] {
 }
 
 /// The deck as text: a piece for each signal with the numbers of its fan-ins, one for the outputs,
-/// and one for each stimulus.
+/// and one for each stimulus. A delay is shown where it isn't 0 of an input or 1 of another signal.
 fn shown(alloc: Global, deck: &Deck) -> Result<Text, Fail> {
     let mut text = Text::new(alloc);
-    for signal in deck.signals.items() {
+    for (signal, delay) in deck.signals.items().iter().zip(deck.delays.items()) {
         text.push_all(signal.name.bytes())?;
-        if let Form::Gate { kind, fan_in } = &signal.form {
-            text.push_byte(b' ')?;
-            text.push_all(word_of(*kind))?;
-            push_numbers(&mut text, fan_in.items())?;
+        let usual = push_form(&mut text, &signal.form)?;
+        if *delay != usual {
+            text.push_all(b" delay")?;
+            push_numbers(&mut text, &[*delay])?;
         }
         text.push_byte(b'|')?;
     }
@@ -53,6 +53,24 @@ fn shown(alloc: Global, deck: &Deck) -> Result<Text, Fail> {
         push_numbers(&mut text, stimulus.bits.items())?;
     }
     Ok(text)
+}
+
+/// What drives a signal; the answer is its usual delay.
+fn push_form(text: &mut Text, form: &Form) -> Result<u32, Fail> {
+    match form {
+        Form::Input => Ok(0),
+        Form::Gate { kind, fan_in } => {
+            text.push_byte(b' ')?;
+            text.push_all(word_of(*kind))?;
+            push_numbers(text, fan_in.items())?;
+            Ok(1)
+        }
+        Form::Dff { source } => {
+            text.push_all(b" dff")?;
+            push_numbers(text, &[*source])?;
+            Ok(1)
+        }
+    }
 }
 
 fn push_numbers(text: &mut Text, numbers: &[u32]) -> Result<(), Fail> {
@@ -117,6 +135,20 @@ fn decks(rt: HostRuntime) -> Result<(), Fail> {
             "x|X|INPUT not 0|DFF nand 2|outputs 2",
         ),
         ("INPUT(~!@$)\n", "~!@$|outputs"),
+        // flip-flops: of an input, of a gate that reads it, and of itself
+        (
+            "INPUT(d)\nq = DFF(d)\nOUTPUT(q)\np = dff(n)\nn = NOT(p)\ns = Dff(s)",
+            "d|q dff 0|p dff 3|n not 2|s dff 4|outputs 1",
+        ),
+        // delays, before and behind the lines of their gates
+        (
+            "INPUT(a)\n@delay q 1000000\nx = NOT(a)\n@DELAY x 03\nq = DFF(x)\n@ 5 1",
+            "a|x not 0 delay 3|q dff 1 delay 1000000|outputs|@ 5 1",
+        ),
+        (
+            "INPUT(a)\nDELAY = AND(a)\n@Delay\tDELAY 1 # one\nb = OR(a)",
+            "a|DELAY and 0|b or 0|outputs",
+        ),
         // an input that is an output
         ("OUTPUT(a)\nINPUT(a)", "a|outputs 0"),
         // stimuli before and behind the inputs
@@ -160,19 +192,32 @@ fn faults(rt: HostRuntime) {
         ("@1 1", 1, 1),
         ("@ 1 2", 1, 1),
         ("@ 1 1 1", 1, 1),
+        ("x = DFF()", 1, 1),
+        ("x = DFF(a", 1, 1),
+        ("@delay", 1, 1),
+        ("@delay x", 1, 1),
+        ("@delay x 3 4", 1, 1),
+        ("@delay = 3", 1, 1),
+        ("@delay ( 0", 1, 1),
+        ("@delay ( x )", 1, 1),
+        ("@delay @x 3", 1, 1),
+        ("@delays x 3", 1, 1),
+        ("@ delay x 3", 1, 1),
+        ("@delay = NOT(a)", 1, 1),
         // the word of a gate names no kind
         ("x = NANDS(a)", 1, 2),
         ("x = @(a)", 1, 2),
         ("x = vdd(a)", 1, 2),
         ("x = NANDS(a", 1, 1),
         // what is known and not taken
-        ("# c\nx = DFF(a)", 2, 3),
+        ("# c\nx = MUX(a)", 2, 3),
         ("x = mux(a, b)", 1, 3),
         ("x = Lut(a)", 1, 3),
         ("x = vDD", 1, 3),
         ("x = gnd", 1, 3),
-        ("x = DFF(a", 1, 1),
         // one fan-in
+        ("x = DFF(a, b)", 1, 4),
+        ("x = dff(x, x, x)", 1, 4),
         ("x = NOT(a, b)", 1, 4),
         ("x = BUF(a, a)", 1, 4),
         ("x = BUFF(a, b)", 1, 4),
@@ -183,6 +228,13 @@ fn faults(rt: HostRuntime) {
         ("@ ( 1", 1, 8),
         ("@ 18446744073709551616 1", 1, 8),
         ("@ x 2", 1, 1),
+        // the number of a delay
+        ("@delay x 0", 1, 8),
+        ("@delay x 1000001", 1, 8),
+        ("@delay x y", 1, 8),
+        ("@delay x -1", 1, 8),
+        ("@delay x )", 1, 8),
+        ("@delay x 18446744073709551617", 1, 8),
         // a name twice
         ("INPUT(a)\nINPUT(a)", 2, 5),
         ("INPUT(a)\na = AND(a)", 2, 5),
@@ -191,10 +243,27 @@ fn faults(rt: HostRuntime) {
         ("INPUT(a)\na = NANDS(a)", 2, 2),
         ("INPUT(a)\na = MUX(a, a)", 2, 3),
         ("INPUT(a)\na = NOT(a, a)", 2, 4),
+        ("INPUT(a)\na = DFF(a)", 2, 5),
+        ("a = DFF(a)\nINPUT(a)", 2, 5),
+        ("INPUT(a)\na = DFF(a, a)", 2, 4),
+        // a delay twice, of a gate or of nothing
+        ("x = AND(x)\n@delay x 2\n@delay x 2", 3, 5),
+        ("@delay x 2\nx = AND(x)\n@delay x 3", 3, 5),
+        ("@delay y 2\n@delay y 3", 2, 5),
+        ("@delay y 2\n@delay y 0", 2, 8),
         // a name that no line defines
         ("INPUT(1)\nOUTPUT(x)\nx = NAND(1, y)", 3, 6),
         ("OUTPUT(x)", 1, 6),
         ("x = AND(X)", 1, 6),
+        ("q = DFF(d)", 1, 6),
+        // a delay of an input, or of nothing
+        ("INPUT(a)\n@delay a 3", 2, 6),
+        ("@delay a 3\nINPUT(a)", 1, 6),
+        ("@delay x 2\nOUTPUT(y)", 1, 6),
+        ("OUTPUT(y)\n@delay x 0", 2, 8),
+        ("@delay x 3\n@delay z 4\nx", 3, 1),
+        ("@ 0 1\n@delay x 3", 1, 7),
+        ("@delay x 3\n@ 0 1", 1, 6),
         ("OUTPUT(y)\nx", 2, 1),
         ("OUTPUT(y)\nx = NANDS(a)", 2, 2),
         ("OUTPUT(y)\nx = vdd", 2, 3),
@@ -336,7 +405,8 @@ fn limits_of_one_line(rt: HostRuntime) -> Result<(), Fail> {
     for (front, kind) in [
         ("b = AND(", 5),
         ("b = NOT(a, ", 4),
-        ("b = DFF(", 3),
+        ("b = DFF(", 5),
+        ("b = MUX(", 3),
         ("b = x(", 2),
         ("b = (", 1),
     ] {
@@ -346,6 +416,18 @@ fn limits_of_one_line(rt: HostRuntime) -> Result<(), Fail> {
         text.push_all(TOO_LONG.as_bytes())?;
         text.push_all(b")")?;
         refused(&rt, alloc, text.bytes(), 2, kind, 0);
+    }
+    for (front, end, kind, bound) in [
+        ("q = DFF(", ")", 9, 64),
+        ("@delay ", " 1", 9, 64),
+        ("@delay ", " 0", 8, 0),
+        ("@delay ", " 1 1", 1, 0),
+    ] {
+        let mut text = Text::new(alloc);
+        text.push_all(front.as_bytes())?;
+        text.push_all(TOO_LONG.as_bytes())?;
+        text.push_all(end.as_bytes())?;
+        refused(&rt, alloc, text.bytes(), 1, kind, bound);
     }
     Ok(())
 }

@@ -1,6 +1,6 @@
 ghost use Rattle.std.specs.Prelude.{◌≡◌, true};
 ghost use Rattle.std.specs.List.{list_all};
-ghost use Rattle.bench_reader.specs.LineForms.{is_text_byte, is_word, is_name, spells, kind_of, is_unsupported, is_constant, is_arity, is_bit};
+ghost use Rattle.bench_reader.specs.LineForms.{is_text_byte, is_word, is_name, spells, kind_of, is_flip_flop, is_unsupported, is_constant, is_arity, is_bit};
 
 use crate::GateKind;
 
@@ -73,11 +73,18 @@ pub(crate) fn kind_of(word: &[u8]) -> Option<GateKind>
     }
 }
 
+/// Whether a word is the kind of a flip-flop.
+pub(crate) fn is_flip_flop(word: &[u8]) -> bool
+    ensures { result ≡ is_flip_flop word.now }
+{
+    spells(word, b"dff")
+}
+
 /// Whether a word is the kind of a gate that is known and not taken.
 pub(crate) fn is_unsupported(word: &[u8]) -> bool
     ensures { result ≡ is_unsupported word.now }
 {
-    spells(word, b"dff") || spells(word, b"mux") || spells(word, b"lut")
+    spells(word, b"mux") || spells(word, b"lut")
 }
 
 /// Whether a word is the name of a constant, which isn't taken.

@@ -1,5 +1,5 @@
 use Rattle.std.proofs.Common.{[]}
-use Rattle.bench_reader.specs.Decks.{signal_names, late_fault}
+use Rattle.bench_reader.specs.Decks.{late_fault}
 use Rattle.bench_reader.specs.declared.statement.NumberedStatement.{NumberedStatement}
 use Rattle.bench_reader.specs.declared.statement.Statement.TheVariants.{Input}
 use Rattle.bench_reader.proofs.LineByLine.{made-step, faultless-step}
@@ -15,7 +15,7 @@ loop-line-preserved c =
     let k = c.loop-line.line-index in
     record {
       whole = c.loop-line.invariant.whole;
-      made = made-step (signal_names c.args.self.now) items k any_line _ _ c.loop-line-test.true c.loop-line.invariant.made c.in_ok-make.ensures.made;
+      made = made-step c.args.self.now items k any_line _ _ c.loop-line-test.true c.loop-line.invariant.made c.in_ok-make.ensures.made;
       marked = c.in_ok-make.ensures.marked;
       faultless = faultless-step (λ _. late_fault c.args.self.now) items k any_line _ c.loop-line-test.true c.in_ok-make.ensures.fits c.loop-line.invariant.faultless;
     }

@@ -11,7 +11,7 @@ invariant-loop-line l =
     let before = map numbered_form (take l.line-index l.line-items) in
     record {
       whole : map numbered_form l.line-items ≡ lines;
-      made : l.making.deck ≡ deck_among (signal_names lines) before;
+      made : l.making.deck ≡ deck_among lines before;
       marked : IsMarked (length (signal_names lines)) l.making;
       faultless : first_fault_after (λ _. late_fault lines) before (map numbered_form (drop l.line-index l.line-items)) ≡ first_fault (λ _. late_fault lines) lines;
     }

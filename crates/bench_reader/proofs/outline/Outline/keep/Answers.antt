@@ -11,4 +11,4 @@ invariant_of-self-2 c =
     ap (map numbered_form) (c.push_reserved.ensures.items ∙ ap (λ items. items ++ c.args.line ∷ []) c.reserve.ensures.items)
     ∙ map-append numbered_form lines (c.args.line ∷ []) in
     rw (longer, c.with-self-inside.ensures)
-    (IsIndexed-push _ _ _ (map numbered_form lines) c.args.line.number _ c.self.invariant (rw c.self.view_is c.requires) c.in_ok-define.ensures.ok)
+    (IsIndexed-push _ _ _ (map numbered_form lines) c.args.line.number _ c.self.invariant (rw c.self.view_is c.requires) c.in_ok-add.ensures.ok)
