@@ -21,7 +21,7 @@ use task_order::{Body, Path};
 
 /// The circuit of a deck, in which nothing happens after the time 1000.
 pub fn circuit_of(alloc: Global, deck: &str) -> Result<Circuit, Fail> {
-    Ok(Circuit::new(alloc, read_deck(alloc, deck.as_bytes())?, 1000)?)
+    Ok(Circuit::new(alloc, read_deck(alloc, deck.as_bytes())?, 1000, 10)?)
 }
 
 /// An engine at a circuit's first tasks.

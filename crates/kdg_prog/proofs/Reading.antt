@@ -1,7 +1,7 @@
 use Rattle.std.proofs.Common.{◌≡◌, ℕ, ◌+◌, ◌*◌, ◌<◌, ◌≤◌, List, [], ◌∷◌, Bool, true, false, cond, Option, Some, None, Ok, Err, is_some, is_none, not, length, length-take, take, drop, get_or, refl, ap, sym, ◌∙◌, arith, unwrap_or, inl, inr, ◌-◌}
 use Rattle.std.specs.Option.{option_and_then, option_or}
 use Rattle.std.specs.Str.{bytes_eq}
-use Rattle.kdg_prog.specs.Words.{Word, IsHeading, is_big, heading_len, big_of, number_of, pairs_of, settings_before, settings_of, given_value, name_of, is_bad, is_value, workers_value, mode_value, seed_value, until_value, budget_value, switch_value, options_of, options_given, option_for, command_named, command_of, command_in, most_for, number_within}
+use Rattle.kdg_prog.specs.Words.{Word, IsHeading, is_big, heading_len, big_of, number_of, pairs_of, settings_before, settings_of, given_value, name_of, is_bad, is_value, workers_value, mode_value, seed_value, until_value, clock_value, budget_value, switch_value, options_of, options_given, option_for, command_named, command_of, command_in, most_for, number_within}
 use Rattle.kdg_prog.specs.Draft.{is_given, with_value, options_of_draft}
 use Rattle.kdg_prog.specs.declared.words.Command.{Command}
 use Rattle.kdg_prog.specs.declared.words.Draft.{Draft}
@@ -26,12 +26,13 @@ draft_of given = record {
   mode = option_and_then mode_value (given name.Mode);
   seed = option_and_then seed_value (given name.Seed);
   until = option_and_then until_value (given name.Until);
+  clock = option_and_then clock_value (given name.Clock);
   budget = option_and_then budget_value (given name.Budget);
   stats = option_and_then switch_value (given name.Stats);
 }
 
 draft_of-along : (f g : OptionName → Option Word) → ((name : OptionName) → f name ≡ g name) → draft_of f ≡ draft_of g
-draft_of-along f g same = rw (same name.Workers, same name.Mode, same name.Seed, same name.Until, same name.Budget, same name.Stats) refl
+draft_of-along f g same = rw (same name.Workers, same name.Mode, same name.Seed, same name.Until, same name.Clock, same name.Budget, same name.Stats) refl
 
 -- one more option has this value
 abbrev one_more : (OptionName → Option Word) → OptionName → Word → OptionName → Option Word
@@ -42,6 +43,7 @@ with_value-draft_of given name.Workers value = refl
 with_value-draft_of given name.Mode value = refl
 with_value-draft_of given name.Seed value = refl
 with_value-draft_of given name.Until value = refl
+with_value-draft_of given name.Clock value = refl
 with_value-draft_of given name.Budget value = refl
 with_value-draft_of given name.Stats value = refl
 
@@ -50,6 +52,7 @@ is_given-with_value draft name.Workers value name.Workers = refl
 is_given-with_value draft name.Mode value name.Mode = refl
 is_given-with_value draft name.Seed value name.Seed = refl
 is_given-with_value draft name.Until value name.Until = refl
+is_given-with_value draft name.Clock value name.Clock = refl
 is_given-with_value draft name.Budget value name.Budget = refl
 is_given-with_value draft name.Stats value name.Stats = refl
 is_given-with_value draft _ value _ = refl
@@ -61,13 +64,13 @@ one_if given = cond given 1 0
 abbrev pub given_count : Draft → ℕ
 given_count draft =
     one_if (is_given draft name.Workers) + one_if (is_given draft name.Mode) + one_if (is_given draft name.Seed)
-    + one_if (is_given draft name.Until) + one_if (is_given draft name.Budget) + one_if (is_given draft name.Stats)
+    + one_if (is_given draft name.Until) + one_if (is_given draft name.Clock) + one_if (is_given draft name.Budget) + one_if (is_given draft name.Stats)
 
 one_if_le : (given : Bool) → one_if given ≤ 1
 one_if_le true = omega arith
 one_if_le false = omega arith
 
-pub given_count_le : (draft : Draft) → given_count draft ≤ 6
+pub given_count_le : (draft : Draft) → given_count draft ≤ 7
 given_count_le draft =
     omega (
       arith,
@@ -75,6 +78,7 @@ given_count_le draft =
       one_if_le (is_given draft name.Mode),
       one_if_le (is_given draft name.Seed),
       one_if_le (is_given draft name.Until),
+      one_if_le (is_given draft name.Clock),
       one_if_le (is_given draft name.Budget),
       one_if_le (is_given draft name.Stats),
     )
@@ -84,6 +88,7 @@ given_count_more draft name.Workers value none valid = rw (none, valid) (omega a
 given_count_more draft name.Mode value none valid = rw (none, valid) (omega arith)
 given_count_more draft name.Seed value none valid = rw (none, valid) (omega arith)
 given_count_more draft name.Until value none valid = rw (none, valid) (omega arith)
+given_count_more draft name.Clock value none valid = rw (none, valid) (omega arith)
 given_count_more draft name.Budget value none valid = rw (none, valid) (omega arith)
 given_count_more draft name.Stats value none valid = rw (none, valid) (omega arith)
 
@@ -291,7 +296,7 @@ pub big_command : (words : List Word) → is_big words ≡ true → command_of w
 big_command words big = ap (λ b. option_and_then command_named (slice_get words (cond b 1 0))) big
 
 -- there are few options, each given once
-pub index_small : (words : List Word) (draft : Draft) (index : ℕ) → IsRead words draft index → index ≤ 15
+pub index_small : (words : List Word) (draft : Draft) (index : ℕ) → IsRead words draft index → index ≤ 17
 index_small words draft index read =
     elim (heading_odd words) [
       | inl one ↦ omega (arith, read.turn, given_count_le draft, one)

@@ -20,9 +20,9 @@ pub use Rattle.kdg_prog.specs.Problem.{Answer, input_fault, over_budget, whole_p
 
 -- ---- the command sim
 
--- the circuit of a deck, up to the last time of the options
+-- the circuit of a deck, up to the last time of the options and with their clock
 abbrev pub simulation_of : Options → Deck → Simulation
-simulation_of options deck = record { deck = deck; until = options.until }
+simulation_of options deck = record { deck = deck; until = options.until; clock = options.clock }
 
 -- every signal is 0 at first, and the outputs are told at the end
 abbrev pub circuit_setting : Simulation → Setting ℕ

@@ -9,6 +9,10 @@ input_bound = 16_777_216
 abbrev pub latest_time : ℕ
 latest_time = 1_000_000_000
 
+-- the longest time between two ticks of a circuit's clock
+abbrev pub longest_clock : ℕ
+longest_clock = 1_000_000_000
+
 -- the greatest budget
 abbrev pub most_tasks : ℕ
 most_tasks = 1_000_000_000

@@ -7,7 +7,7 @@ use Rattle.kdg_text.specs.Numbers.{u64_of}
 use Rattle.logic_sim.specs.Chain.{most_inverters}
 use Rattle.gf2_eliminate.specs.Blocks.{most_blocks}
 use Rattle.spring_mesh.specs.Pairs.{most_pairs}
-use Rattle.kdg_prog.specs.Bounds.{latest_time, most_tasks, most_workers}
+use Rattle.kdg_prog.specs.Bounds.{latest_time, longest_clock, most_tasks, most_workers}
 use Rattle.kdg_prog.specs.declared.words.Command.{Command}
 use Rattle.kdg_prog.specs.declared.words.Command.TheVariants.{Sim, Rank, Mesh}
 use Rattle.kdg_prog.specs.declared.words.Heading.{Heading}
@@ -45,23 +45,26 @@ name_of name.Workers = codes "--workers"
 name_of name.Mode = codes "--mode"
 name_of name.Seed = codes "--seed"
 name_of name.Until = codes "--until"
+name_of name.Clock = codes "--clock"
 name_of name.Budget = codes "--budget"
 name_of name.Stats = codes "--stats"
 
 abbrev pub option_names : List OptionName
 option_names =
-    name.Workers ∷ name.Mode ∷ name.Seed ∷ name.Until ∷ name.Budget ∷ name.Stats ∷ []
+    name.Workers ∷ name.Mode ∷ name.Seed ∷ name.Until ∷ name.Clock ∷ name.Budget ∷ name.Stats ∷ []
 
 -- the option that a word names
 abbrev pub option_named : Word → Option OptionName
 option_named word = find (λ name. bytes_eq word (name_of name)) option_names
 
--- whether a command has an option: circuits alone are simulated up to a time
+-- whether a command has an option: circuits alone are simulated up to a time and have a clock
 abbrev pub takes : Command → OptionName → Bool
 takes Sim name = true
 takes Rank name.Until = false
+takes Rank name.Clock = false
 takes Rank name = true
 takes Mesh name.Until = false
+takes Mesh name.Clock = false
 takes Mesh name = true
 
 -- the option of a command that a word names
@@ -87,6 +90,9 @@ seed_value = number_within 0 (2 ^ 64 - 1)
 abbrev pub until_value : Word → Option ℕ
 until_value = number_within 0 latest_time
 
+abbrev pub clock_value : Word → Option ℕ
+clock_value = number_within 1 longest_clock
+
 abbrev pub budget_value : Word → Option ℕ
 budget_value = number_within 0 most_tasks
 
@@ -100,6 +106,7 @@ is_value name.Workers word = is_some (workers_value word)
 is_value name.Mode word = is_some (mode_value word)
 is_value name.Seed word = is_some (seed_value word)
 is_value name.Until word = is_some (until_value word)
+is_value name.Clock word = is_some (clock_value word)
 is_value name.Budget word = is_some (budget_value word)
 is_value name.Stats word = is_some (switch_value word)
 
@@ -189,6 +196,7 @@ options_given command big settings = record {
   mode = unwrap_or (option_and_then mode_value (given_value name.Mode settings)) Rounds;
   seed = unwrap_or (option_and_then seed_value (given_value name.Seed settings)) 0;
   until = unwrap_or (option_and_then until_value (given_value name.Until settings)) 1000;
+  clock = unwrap_or (option_and_then clock_value (given_value name.Clock settings)) 10;
   budget = unwrap_or (option_and_then budget_value (given_value name.Budget settings)) 1000000;
   stats = unwrap_or (option_and_then switch_value (given_value name.Stats settings)) false;
 }
@@ -209,6 +217,7 @@ pub record IsAllowed (options : Options) : Type 0 where
   pub workers : (1 ≤ options.workers) × (options.workers ≤ most_workers)
   pub mode : options.mode ≢ Free
   pub until : options.until ≤ latest_time
+  pub clock : (1 ≤ options.clock) × (options.clock ≤ longest_clock)
   pub budget : options.budget ≤ most_tasks
 
 -- what stands before the options was read, and none of it is bad

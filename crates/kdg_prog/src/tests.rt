@@ -18,6 +18,7 @@ fn defaults() -> Options {
         mode: Mode::Rounds,
         seed: 0,
         until: 1000,
+        clock: 10,
         budget: 1_000_000,
         stats: false,
     }
@@ -30,7 +31,7 @@ fn reads_words(rt: HostRuntime) -> Result<(), Fail> {
         mode: Mode::Serial,
         ..sim
     };
-    let rows: [(&[&str], Options); 24] = [
+    let rows: [(&[&str], Options); 25] = [
         (&["sim"], sim),
         (
             &["mesh"],
@@ -68,6 +69,7 @@ fn reads_words(rt: HostRuntime) -> Result<(), Fail> {
             },
         ),
         (&["sim", "--until", "0"], Options { until: 0, ..sim }),
+        (&["sim", "--clock", "1"], Options { clock: 1, ..sim }),
         (
             &["sim", "--until", "1000000000"],
             Options {
@@ -154,11 +156,15 @@ fn reads_words(rt: HostRuntime) -> Result<(), Fail> {
 
 #[test]
 fn names_the_first_bad_word(rt: HostRuntime) -> Result<(), Fail> {
-    let rows: [(&[&str], u32); 40] = [
+    let rows: [(&[&str], u32); 44] = [
         (&[], 1),
         (&[""], 1),
         (&["Sim"], 1),
         (&["rank", "--until", "5"], 2),
+        (&["rank", "--clock", "5"], 2),
+        (&["big", "mesh", "1", "--clock", "5"], 4),
+        (&["sim", "--clock", "0"], 3),
+        (&["sim", "--clock", "1000000001"], 3),
         (&["mesh", "--until", "5"], 2),
         (&["mesh", "--seed", "1", "--until", "5"], 4),
         (&["mesh", "mesh"], 2),

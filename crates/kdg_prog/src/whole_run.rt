@@ -142,7 +142,7 @@ fn circuit_print<R: Threads + Sync, G: Gate + Sync>(
 {
     let deck = deck_for(alloc, options.big, input.bytes())?;
     drop(input);
-    let circuit = Circuit::new(alloc, deck, options.until)?;
+    let circuit = Circuit::new(alloc, deck, options.until, options.clock)?;
     print_of_run(rt, alloc, options, &circuit, gate)
 }
 

@@ -11,6 +11,9 @@ const MOST_WORKERS: u64 = 64;
 /// The last time that may be simulated.
 const LATEST_TIME: u64 = 1_000_000_000;
 
+/// The longest time between two ticks of a circuit's clock.
+const LONGEST_CLOCK: u64 = 1_000_000_000;
+
 /// The greatest budget.
 const MOST_TASKS: u64 = 1_000_000_000;
 
@@ -48,6 +51,8 @@ pub struct Options {
     pub seed: u64,
     /// The last time that is simulated, 0 to 1,000,000,000.
     pub until: u64,
+    /// The time between two ticks of the flip-flops, 1 to 1,000,000,000.
+    pub clock: u64,
     /// How many tasks may be created, 0 to 1,000,000,000.
     pub budget: u64,
     /// Whether figures of the run are printed behind its results.
@@ -68,6 +73,7 @@ pub struct Options {
 /// | `--mode` | `serial` or `rounds` | `rounds` |
 /// | `--seed` | 0 to 2^64 - 1 | 0 |
 /// | `--until`, only of `sim` | 0 to 1,000,000,000 | 1000 |
+/// | `--clock`, only of `sim` | 1 to 1,000,000,000 | 10 |
 /// | `--budget` | 0 to 1,000,000,000 | 1,000,000 |
 /// | `--stats` | `on` or `off` | `off` |
 ///
@@ -165,6 +171,7 @@ enum OptionName {
     Mode,
     Seed,
     Until,
+    Clock,
     Budget,
     Stats,
 }
@@ -210,7 +217,7 @@ impl Command {
         ensures { result ≡ takes self name }
     {
         match (self, name) {
-            (Command::Rank | Command::Mesh, OptionName::Until) => false,
+            (Command::Rank | Command::Mesh, OptionName::Until | OptionName::Clock) => false,
             _ => true,
         }
     }
@@ -237,6 +244,7 @@ fn option_named(word: &str) -> Option<OptionName>
         "--mode" => Some(OptionName::Mode),
         "--seed" => Some(OptionName::Seed),
         "--until" => Some(OptionName::Until),
+        "--clock" => Some(OptionName::Clock),
         "--budget" => Some(OptionName::Budget),
         "--stats" => Some(OptionName::Stats),
         _ => None,
@@ -285,6 +293,7 @@ struct Draft {
     mode: Option<Mode>,
     seed: Option<u64>,
     until: Option<u64>,
+    clock: Option<u64>,
     budget: Option<u64>,
     stats: Option<bool>,
 }
@@ -299,6 +308,7 @@ impl Draft {
             OptionName::Mode => self.mode.is_some(),
             OptionName::Seed => self.seed.is_some(),
             OptionName::Until => self.until.is_some(),
+            OptionName::Clock => self.clock.is_some(),
             OptionName::Budget => self.budget.is_some(),
             OptionName::Stats => self.stats.is_some(),
         }
@@ -314,6 +324,7 @@ impl Draft {
             OptionName::Mode => self.mode = Some(read_mode(value)?),
             OptionName::Seed => self.seed = Some(read_within(value, 0, u64::MAX)?),
             OptionName::Until => self.until = Some(read_within(value, 0, LATEST_TIME)?),
+            OptionName::Clock => self.clock = Some(read_within(value, 1, LONGEST_CLOCK)?),
             OptionName::Budget => self.budget = Some(read_within(value, 0, MOST_TASKS)?),
             OptionName::Stats => self.stats = Some(read_switch(value)?),
         }
@@ -331,6 +342,7 @@ impl Draft {
             mode: self.mode.unwrap_or(Mode::Rounds),
             seed: self.seed.unwrap_or(0),
             until: self.until.unwrap_or(1000),
+            clock: self.clock.unwrap_or(10),
             budget: self.budget.unwrap_or(1_000_000),
             stats: self.stats.unwrap_or(false),
         }

@@ -47,6 +47,18 @@ fn answers_and_prints(rt: HostRuntime) -> Result<(), Fail> {
             "INPUT(a)\nINPUT(b)\nOUTPUT(s)\ns = xor(a, b)\n@ 1 11\n@ 4 01\n",
             "5 s 1\nfinal s 1\ntasks 9\n",
         ),
+        // flip-flops, and a delay
+        ("sim", "INPUT(d)\nq = DFF(d)\n", "tasks 100\n"),
+        (
+            "sim --clock 3 --until 7",
+            "OUTPUT(q)\nn = NOT(q)\nq = DFF(n)\n",
+            "4 q 1\n7 q 0\nfinal q 0\ntasks 9\n",
+        ),
+        (
+            "sim",
+            "INPUT(a)\nOUTPUT(x)\nx = NOT(a)\n@delay x 3\n@ 5 1\n",
+            "3 x 1\n8 x 0\nfinal x 0\ntasks 5\n",
+        ),
     ] {
         for mode in MODES {
             for step in [1usize, 3, 4096] {
@@ -148,7 +160,14 @@ fn bad_decks_are_told_by_line_and_fault(rt: HostRuntime) -> Result<(), Fail> {
         ("INPUT(1)\nOUTPUT(x)\nx = NAND(1, y)\n", 3, 6),
         ("INPUT(1)\nINPUT(1)\n", 2, 5),
         (C17_SHORT_STIMULUS, 14, 7),
-        ("INPUT(a)\nx = DFF(a)\n", 2, 3),
+        ("INPUT(a)\nx = MUX(a)\n", 2, 3),
+        ("INPUT(a)\nOUTPUT(x)\nx = NOT(a)\n@delay a 3\n@ 5 1\n", 4, 6),
+        ("INPUT(a)\nOUTPUT(x)\nx = NOT(a)\n@delay x 0\n@ 5 1\n", 4, 8),
+        (
+            "INPUT(a)\nOUTPUT(x)\nx = NOT(a)\n@delay x 3\n@delay x 3\n@ 5 1\n",
+            5,
+            5,
+        ),
     ] {
         for step in [1usize, 3, 4096] {
             let (answered, sink) = answer(&rt, rt.alloc(), "sim", input, step)?;
@@ -187,7 +206,7 @@ fn bad_words_are_told_by_their_place(rt: HostRuntime) -> Result<(), Fail> {
         ("sim --seed 1 --seed 2", 4),
         ("sim --budget", 3),
         ("sim --mode free", 3),
-        ("sim --clock 2", 2),
+        ("rank --clock 2", 2),
         ("sim --until 1000000001", 3),
     ] {
         let (answered, sink) = answer(&rt, rt.alloc(), words, C17, 5)?;

@@ -18,6 +18,7 @@ fn plain_options() -> Options
         mode: Mode::Rounds,
         seed: 0,
         until: 1000,
+        clock: 10,
         budget: 1_000_000,
         stats: false,
     }

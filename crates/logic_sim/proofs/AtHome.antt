@@ -1,5 +1,5 @@
 -- What events make of cells that are home is what they make of the bundle that a set takes of these.
-use Rattle.std.proofs.Common.{◌≡◌, ◌≢◌, ◌∙◌, ℕ, ◌<◌, inl, inr, Bool, true, false, List, [], ◌∷◌, length, map, ap, sym, refl, subst, arith}
+use Rattle.std.proofs.Common.{◌≡◌, ◌≢◌, ◌∙◌, ℕ, ◌<◌, inl, inr, Bool, true, false, List, [], ◌∷◌, ◌++◌, length, map, ap, sym, refl, subst, arith}
 use Rattle.std.specs.Prelude.{◌==◌, if◌then◌else◌, Result, Ok, Err, IfOk, OnOk, IsSome, IsTrue, slice_set}
 use Rattle.std.specs.List.{AllByRecursion}
 use Rattle.task_order.specs.declared.task.Task.{Task}
@@ -14,15 +14,15 @@ use Rattle.cell_store.specs.Laws.{GivesBackWhatWasTaken, PartsByLocation, Writes
 use Rattle.app_laws.specs.declared.child.Child.{Child}
 use Rattle.app_laws.specs.Applications.{IsDoneAtHome, IsReady}
 use Rattle.logic_sim.specs.Bundles.{child_of, computed_from, held_at_home, held_in, value_of, values_held}
-use Rattle.logic_sim.specs.Circuit.{IsFitChange, IsFitEval, IsFitTask}
-use Rattle.logic_sim.specs.Event.{Simulation, change_text, eval_at, next_changes, plan_place, time_of, value_place}
+use Rattle.logic_sim.specs.Circuit.{IsFitChange, IsFitTask}
+use Rattle.logic_sim.specs.Event.{Simulation, change_text, eval_at, next_changes, next_ticks, plan_place, time_of, value_place}
 use Rattle.logic_sim.specs.Gate.{gate_value}
 use Rattle.logic_sim.specs.Lawful.{change_set-ascending, change_set-named, change_set-written, eval_set-ascending, eval_set-written}
 use Rattle.logic_sim.specs.Meaning.{change_set, eval_set, set_for, simulation}
 use Rattle.logic_sim.specs.Wiring.{fan_in_of, readers_of, signal_at}
 use Rattle.bench_reader.specs.declared.deck.Form.{Form}
-use Rattle.bench_reader.specs.declared.deck.Form.TheVariants.{Input, Gate}
-use Rattle.logic_sim.proofs.Effects.{HeldLaws, change_is_effect, change_made, evaluation_is_effect, evaluation_made}
+use Rattle.bench_reader.specs.declared.deck.Form.TheVariants.{Input, Gate, Dff}
+use Rattle.logic_sim.proofs.Effects.{HeldLaws, change_is_effect, change_made, evaluation_is_effect, evaluation_made, tick_is_effect, tick_made}
 use Rattle.logic_sim.proofs.Sets.{fan_in_named, plan_named}
 
 -- the laws of bundles and of cells that are home
@@ -38,11 +38,25 @@ if_ok_all (Err error) together one two three = tt
 
 pub change_fit : (c : Simulation) (prio : ℕ) (body : Body) → IsFitTask c prio body → body.kind ≡ 0 → IsFitChange c prio body
 change_fit c prio body (inl fit) kind = fit
-change_fit c prio body (inr fit) kind = absurd (omega (arith, fit.kind, kind))
+change_fit c prio body (inr (inl fit)) kind = absurd (omega (arith, fit.kind, kind))
+change_fit c prio body (inr (inr fit)) kind = absurd (omega (arith, fit.kind, kind))
 
-pub evaluation_fit : (c : Simulation) (prio : ℕ) (body : Body) → IsFitTask c prio body → body.kind ≢ 0 → IsFitEval c prio body
-evaluation_fit c prio body (inl fit) kind = absurd (kind fit.kind)
-evaluation_fit c prio body (inr fit) kind = fit
+-- an evaluation or a tick
+pub planning_in_range : (c : Simulation) (prio : ℕ) (body : Body) → IsFitTask c prio body → body.kind ≢ 0 → body.at < length c.deck.signals
+planning_in_range c prio body (inl fit) kind = absurd (kind fit.kind)
+planning_in_range c prio body (inr (inl fit)) kind = fit.in_range
+planning_in_range c prio body (inr (inr fit)) kind = fit.in_range
+
+-- what is neither a change nor an evaluation is a tick
+pub tick_kind_is : (c : Simulation) (prio : ℕ) (body : Body) → IsFitTask c prio body → body.kind ≢ 0 → body.kind ≢ 1 → body.kind ≡ 2
+tick_kind_is c prio body (inl fit) kind other = absurd (kind fit.kind)
+tick_kind_is c prio body (inr (inl fit)) kind other = absurd (other fit.kind)
+tick_kind_is c prio body (inr (inr fit)) kind other = fit.kind
+
+pub planning_set : (c : Simulation) (prio : ℕ) (body : Body) → IsFitTask c prio body → body.kind ≢ 0 → set_for c.deck body.kind body.at ≡ eval_set c.deck body.at
+planning_set c prio body (inl fit) kind = absurd (kind fit.kind)
+planning_set c prio body (inr (inl fit)) kind = ap (λ (k : ℕ). set_for c.deck k body.at) fit.kind
+planning_set c prio body (inr (inr fit)) kind = ap (λ (k : ℕ). set_for c.deck k body.at) fit.kind
 
 -- the part of the cells as an event leaves it that puts a value at a location, unless it is idle
 abbrev left_part : List (Cell ℕ) → Accesses → ℕ → ℕ → Bool → Part ℕ
@@ -61,6 +75,7 @@ module _ (laws : HomeLaws) (set : Accesses) (old : List (Cell ℕ)) where
   computed_both : (form : Form) → AllByRecursion (λ signal. IsSome (access_at set (value_place signal))) (fan_in_of form) → computed_from (held_at_home old) form ≡ computed_from (held_in (part_of old set)) form
   computed_both Input named = refl
   computed_both (Gate kind fan_in) named = ap (gate_value kind) (values_both fan_in named)
+  computed_both (Dff source) named = sym (held_both (value_place source) named.0)
 
   given_back : (loc value : ℕ) (idle : Bool) → AreHome old set → IsAscending set → IsTrue (writes set loc) → (if idle then old else slice_set old loc (Home value)) ≡ cells_given (cells_taken old set) (left_part old set loc value idle)
   given_back loc value true home ascending written = sym (laws.gives_back old set home)
@@ -120,18 +135,41 @@ module _ (c : Simulation) (laws : HomeLaws) (task : Task) where
             ∙ ap (λ (idle : Bool). cells_given (cells_taken old set) (left_part old set place value idle)) test;
       }
 
+  tick_done_on : (set : Accesses) (old new : List (Cell ℕ)) (children : List Child) (text : List ℕ) (value : ℕ) → AreHome old set → set ≡ eval_set c.deck task.body.at → task.body.kind ≡ 2
+      → task.body.at < length c.deck.signals → value ≡ computed_from (held_at_home old) (signal_at c.deck.signals task.body.at).form
+      → new ≡ (if held_at_home old (plan_place task.body.at) == value then old else slice_set old (plan_place task.body.at) (Home value))
+      → children ≡ (if held_at_home old (plan_place task.body.at) == value then [] else map (child_of c) (next_changes c (time_of task.key.prio) task.body.at value)) ++ map (child_of c) (next_ticks c (time_of task.key.prio) task.body.at)
+      → text ≡ [] → IsDoneAtHome (simulation c) task set old children text new
+  tick_done_on set old new children text value home set-is kind inside value-is new-is children-are text-is =
+      let place : ℕ = plan_place task.body.at in
+      let time : ℕ = time_of task.key.prio in
+      let named : IsSome (access_at set place) = subst (λ (s : Accesses). IsSome (access_at s place)) (sym set-is) (plan_named c task.body.at) in
+      let written : IsTrue (writes set place) = subst (λ (s : Accesses). IsTrue (writes s place)) (sym set-is) (eval_set-written c task.body.at) in
+      let ascending : IsAscending set = subst IsAscending (sym set-is) (eval_set-ascending c task.body.at) in
+      let form : Form = (signal_at c.deck.signals task.body.at).form in
+      let read : AllByRecursion (λ signal. IsSome (access_at set (value_place signal))) (fan_in_of form) =
+      subst (λ (s : Accesses). AllByRecursion (λ signal. IsSome (access_at s (value_place signal))) (fan_in_of form)) (sym set-is) (fan_in_named c task.body.at) in
+      let test = same_test laws set old place value named in
+      let next : List Child = map (child_of c) (next_ticks c time task.body.at) in
+      let left : Part ℕ = left_part old set place value (held_in (part_of old set) place == value) in
+      record {
+        bundle = left;
+        effect = tick_is_effect c task (part_of old set) (record { bundle = left; children = children; text = text }) kind
+            (tick_made c laws.held time task.body.at value (part_of old set) left children text inside (value-is ∙ computed_both laws set old form read) refl
+            (children-are ∙ ap (λ (idle : Bool). (if idle then [] else map (child_of c) (next_changes c time task.body.at value)) ++ next) test) text-is);
+        given = new-is ∙ given_back laws set old place value (held_at_home old place == value) home ascending written
+            ∙ ap (λ (idle : Bool). cells_given (cells_taken old set) (left_part old set place value idle)) test;
+      }
+
 module _ (c : Simulation) {task : Task} {set : Accesses} {old : List (Cell ℕ)} (fit : IsFitTask c task.key.prio task.body) (ready : IsReady (simulation c) task old set) where
   -- whatever set it is ready on, it is the one that it declares
   ready_set : (kind : ℕ) → task.body.kind ≡ kind → set ≡ set_for c.deck kind task.body.at
   ready_set kind is = ap (λ (part : Part ℕ). part.set) ready.taken.is ∙ ap (λ (k : ℕ). set_for c.deck k task.body.at) is
 
-  evaluation_kind : task.body.kind ≢ 0 → task.body.kind ≡ 1
-  evaluation_kind kind = (evaluation_fit c task.key.prio task.body fit kind).kind
-
   evaluation_set : task.body.kind ≢ 0 → set ≡ eval_set c.deck task.body.at
-  evaluation_set kind = ready_set 1 (evaluation_kind kind)
+  evaluation_set kind = ready_set task.body.kind refl ∙ planning_set c task.key.prio task.body fit kind
 
-  -- what an evaluation reads and writes is home
+  -- what an evaluation or a tick reads and writes is home
   pub fan_in_home : task.body.kind ≢ 0 → AllByRecursion (λ signal. IsHome (cell_at old (value_place signal))) (fan_in_of (signal_at c.deck.signals task.body.at).form)
   fan_in_home kind = each (fan_in_of (signal_at c.deck.signals task.body.at).form)
       (subst (λ (s : Accesses). AllByRecursion (λ signal. IsSome (access_at s (value_place signal))) (fan_in_of (signal_at c.deck.signals task.body.at).form)) (sym (evaluation_set kind))
@@ -159,12 +197,23 @@ module _ (c : Simulation) {task : Task} {set : Accesses} {old : List (Cell ℕ)}
     change_done kind new children text =
         change_done_on c laws task set old new children text ready.home (ready_set 0 kind) kind (change_fit c task.key.prio task.body fit kind).at_signal
 
-    pub evaluation_done : task.body.kind ≢ 0 → (new : List (Cell ℕ)) (children : List Child) (text : List ℕ)
+    pub evaluation_done : task.body.kind ≡ 1 → (new : List (Cell ℕ)) (children : List Child) (text : List ℕ)
         → (let value = computed_from (held_at_home old) (signal_at c.deck.signals task.body.at).form in
         new ≡ (if held_at_home old (plan_place task.body.at) == value then old else slice_set old (plan_place task.body.at) (Home value)))
         → (let value = computed_from (held_at_home old) (signal_at c.deck.signals task.body.at).form in
         children ≡ (if held_at_home old (plan_place task.body.at) == value then [] else map (child_of c) (next_changes c (time_of task.key.prio) task.body.at value)))
         → text ≡ [] → IsDoneAtHome (simulation c) task set old children text new
     evaluation_done kind new children text =
-        evaluation_done_on c laws task set old new children text _ ready.home (evaluation_set kind) (evaluation_kind kind)
-        (evaluation_fit c task.key.prio task.body fit kind).in_range refl
+        let no_change : task.body.kind ≢ 0 = λ change. absurd (omega (arith, kind, change)) in
+        evaluation_done_on c laws task set old new children text _ ready.home (evaluation_set no_change) kind
+        (planning_in_range c task.key.prio task.body fit no_change) refl
+
+    pub tick_done : task.body.kind ≢ 0 → task.body.kind ≢ 1 → (new : List (Cell ℕ)) (children : List Child) (text : List ℕ)
+        → (let value = computed_from (held_at_home old) (signal_at c.deck.signals task.body.at).form in
+        new ≡ (if held_at_home old (plan_place task.body.at) == value then old else slice_set old (plan_place task.body.at) (Home value)))
+        → (let value = computed_from (held_at_home old) (signal_at c.deck.signals task.body.at).form in
+        children ≡ (if held_at_home old (plan_place task.body.at) == value then [] else map (child_of c) (next_changes c (time_of task.key.prio) task.body.at value)) ++ map (child_of c) (next_ticks c (time_of task.key.prio) task.body.at))
+        → text ≡ [] → IsDoneAtHome (simulation c) task set old children text new
+    tick_done kind other new children text =
+        tick_done_on c laws task set old new children text _ ready.home (evaluation_set kind) (tick_kind_is c task.key.prio task.body fit kind other)
+        (planning_in_range c task.key.prio task.body fit kind) refl

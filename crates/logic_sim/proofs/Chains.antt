@@ -1,12 +1,12 @@
 -- Inverters in a row make a deck that is wired soundly.
-use Rattle.std.proofs.Common.{◌≡◌, ◌∙◌, ℕ, suc, ◌+◌, ◌<◌, ◌≤◌, List, [], ◌∷◌, ◌++◌, length, arith, ap, sym, refl, subst, zero-add}
-use Rattle.std.specs.List.{All, range_with_len}
+use Rattle.std.proofs.Common.{◌≡◌, ◌∙◌, ℕ, zero, suc, replicate, lit≤, ◌+◌, ◌<◌, ◌≤◌, List, [], ◌∷◌, ◌++◌, length, map, arith, ap, sym, refl, subst, zero-add}
+use Rattle.std.specs.List.{All, AllZip, range_with_len}
 use Rattle.std.proofs.lemmas.List.Elements.{All-nil, All-cons, All-map, All-from_get_or, All-weaker}
 use Rattle.std.proofs.lemmas.List.FromFn.{length-map-range_with_len, length-range_with_len, get_or-range_with_len, map-range_with_len_more}
 use Rattle.bench_reader.specs.declared.deck.Signal.{Signal}
 use Rattle.bench_reader.specs.declared.deck.Stim.{Stim}
-use Rattle.bench_reader.specs.Decks.{IsSoundlyWired, IsStimFor, IsWired, inputs_of}
-use Rattle.logic_sim.specs.Chain.{chain_input, chain_signals, generated_input, inverter_of, most_inverters}
+use Rattle.bench_reader.specs.Decks.{IsDelayOf, IsSoundlyWired, IsStimFor, IsWired, inputs_of}
+use Rattle.logic_sim.specs.Chain.{chain_delays, chain_input, chain_signals, generated_input, inverter_of, most_inverters}
 
 -- one gate more
 pub gate_added : (n : ℕ) (before after : List Signal) (gate : Signal) → before ≡ chain_signals n → gate ≡ inverter_of n → after ≡ before ++ gate ∷ [] → after ≡ chain_signals (n + 1)
@@ -27,6 +27,10 @@ length-chain n = ap suc (length-map-range_with_len inverter_of 0 n)
 one-below : (count i : ℕ) → i < count → All (λ number. number < count) (i ∷ [])
 one-below count i below = All-cons (λ number. number < count) i [] below (All-nil (λ number. number < count))
 
+inverters-delayed : (a n : ℕ) → AllZip (λ (signal : Signal) (delay : ℕ). IsDelayOf signal.form delay) (map inverter_of (range_with_len a n)) (replicate n 1)
+inverters-delayed a zero = tt
+inverters-delayed a (suc n) = ((lit≤ tt, lit≤ tt), inverters-delayed (a + 1) n)
+
 pub chain-sound : (n : ℕ) → n ≤ most_inverters → IsSoundlyWired (generated_input n)
 chain-sound n few =
     let count = length (chain_signals n) in
@@ -38,11 +42,12 @@ chain-sound n few =
       outputs_in_range = one-below count n (omega (arith, length-chain n));
       outputs_differ = λ i j d before below. absurd (omega arith);
       stimuli_fit = All-nil (IsStimFor (length (inputs_of (chain_signals n))));
+      delays_fit = (refl, inverters-delayed 0 n);
     }
 
 -- a deck of these parts is sound
-pub parts-sound : (n : ℕ) (signals : List Signal) (outputs : List ℕ) (stimuli : List Stim) → n ≤ most_inverters → signals ≡ chain_signals n → outputs ≡ n ∷ [] → stimuli ≡ []
-    → IsSoundlyWired (record { signals = signals; outputs = outputs; stimuli = stimuli })
-parts-sound n signals outputs stimuli few are_signals are_outputs no_stimuli =
-    let made : record { signals = signals; outputs = outputs; stimuli = stimuli } ≡ generated_input n = cc in
+pub parts-sound : (n : ℕ) (signals : List Signal) (outputs : List ℕ) (stimuli : List Stim) (delays : List ℕ) → n ≤ most_inverters → signals ≡ chain_signals n → outputs ≡ n ∷ [] → stimuli ≡ [] → delays ≡ chain_delays n
+    → IsSoundlyWired (record { signals = signals; outputs = outputs; stimuli = stimuli; delays = delays })
+parts-sound n signals outputs stimuli delays few are_signals are_outputs no_stimuli are_delays =
+    let made : record { signals = signals; outputs = outputs; stimuli = stimuli; delays = delays } ≡ generated_input n = cc in
     subst IsSoundlyWired (sym made) (chain-sound n few)

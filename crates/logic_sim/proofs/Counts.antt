@@ -1,19 +1,21 @@
 -- How many first tasks there are.
-use Rattle.std.proofs.Common.{◌≡◌, ◌∙◌, ℕ, ◌+◌, ◌<◌, ◌≤◌, List, [], ◌∷◌, length, take, get_or, ap, refl, sym, arith}
-use Rattle.std.specs.Prelude.{not, min, nat_le, map}
+use Rattle.std.proofs.Common.{◌≡◌, ◌∙◌, ℕ, ◌+◌, ◌<◌, ◌≤◌, suc, List, [], ◌∷◌, ◌++◌, length, take, get_or, ap, refl, sym, arith}
+use Rattle.std.specs.Prelude.{filter, if◌then◌else◌, min, nat_le, map}
 use Rattle.std.specs.List.{range_with_len}
 use Rattle.std.proofs.lemmas.Bool.{cond-true, cond-false, le-leb, lt-leb}
 use Rattle.std.proofs.lemmas.List.{length-append, length-map, length-take, take_more}
 use Rattle.std.proofs.lemmas.List.Concat.{flat_map-append}
-use Rattle.std.proofs.lemmas.List.Filters.{length-filter_both}
 use Rattle.std.proofs.lemmas.List.FromFn.{length-range_with_len}
 use Rattle.std.proofs.Math.Nat.{mul-le-mul_left, mul-le-mul_right}
+use Rattle.bench_reader.specs.declared.deck.Form.{Form}
+use Rattle.bench_reader.specs.declared.deck.Form.TheVariants.{Input, Gate, Dff}
 use Rattle.bench_reader.specs.declared.deck.Stim.{Stim}
 use Rattle.bench_reader.specs.declared.deck.Signal.{Signal}
-use Rattle.logic_sim.specs.Circuit.{changes_at, changes_for, changes_of, start_tasks}
-use Rattle.logic_sim.specs.Event.{Simulation, eval_at}
+use Rattle.bench_reader.specs.Decks.{is_input}
+use Rattle.logic_sim.specs.Circuit.{changes_at, changes_for, changes_of, first_ticks, start_tasks}
+use Rattle.logic_sim.specs.Event.{Simulation, eval_at, tick_at}
 use Rattle.logic_sim.specs.Laws.{length-changes_of}
-use Rattle.logic_sim.specs.Wiring.{gates_of, inputs_of, is_gate, signal_at}
+use Rattle.logic_sim.specs.Wiring.{flip_flops_of, gates_of, inputs_of, is_flip_flop, is_gate, signal_at}
 
 length-changes_at : (time : ℕ) (inputs values : List ℕ) → length (changes_at time inputs values) ≡ min (length inputs) (length values)
 length-changes_at time [] values = omega arith
@@ -57,17 +59,39 @@ changes_few until inputs stimuli i few short =
     let high = mul-le-mul_left {m = length inputs} {n = 4096} 65536 few in
     omega (arith, all, low, high)
 
--- each signal is a gate or an input
-pub gates_and_inputs : (signals : List Signal) → length (gates_of signals) + length (inputs_of signals) ≡ length signals
-gates_and_inputs signals =
-    length-filter_both (λ (number : ℕ). is_gate (signal_at signals number).form) (λ (number : ℕ). not (is_gate (signal_at signals number).form)) (λ number. refl) (range_with_len 0 (length signals))
-    ∙ length-range_with_len 0 (length signals)
+-- each number of a signal is that of a gate, a flip-flop or an input
+sorts_among : (signals : List Signal) (numbers : List ℕ) → length (filter (λ number. is_gate (signal_at signals number).form) numbers)
+    + (length (filter (λ number. is_flip_flop (signal_at signals number).form) numbers) + length (filter (λ number. is_input (signal_at signals number).form) numbers)) ≡ length numbers
+sorts_among signals [] = refl
+sorts_among signals (number ∷ numbers) =
+    by_form (signal_at signals number).form (filter (λ number. is_gate (signal_at signals number).form) numbers) (filter (λ number. is_flip_flop (signal_at signals number).form) numbers)
+    (filter (λ number. is_input (signal_at signals number).form) numbers) (sorts_among signals numbers)
+  where
+    by_form : (form : Form) (gates flip_flops inputs : List ℕ) → length gates + (length flip_flops + length inputs) ≡ length numbers
+        → length (if is_gate form then number ∷ gates else gates) + (length (if is_flip_flop form then number ∷ flip_flops else flip_flops) + length (if is_input form then number ∷ inputs else inputs)) ≡ suc (length numbers)
+    by_form Input gates flip_flops inputs rest = omega (arith, rest)
+    by_form (Gate kind fan_in) gates flip_flops inputs rest = omega (arith, rest)
+    by_form (Dff source) gates flip_flops inputs rest = omega (arith, rest)
 
--- the evaluations, and the changes
-pub length-start_tasks : (c : Simulation) (gates changes : ℕ) → gates + length (inputs_of c.deck.signals) ≡ length c.deck.signals → changes ≡ length (changes_of c.until (inputs_of c.deck.signals) c.deck.stimuli)
-    → gates + changes ≡ length (start_tasks c)
+pub sorts_counted : (signals : List Signal) → length (gates_of signals) + (length (flip_flops_of signals) + length (inputs_of signals)) ≡ length signals
+sorts_counted signals = sorts_among signals (range_with_len 0 (length signals)) ∙ length-range_with_len 0 (length signals)
+
+-- the first ticks come in time
+pub timely_ticks : (c : Simulation) → c.clock ≤ c.until → length (first_ticks c) ≡ length (flip_flops_of c.deck.signals)
+timely_ticks c timely =
+    ap length (cond-true (nat_le c.clock c.until) (map (tick_at c.clock) (flip_flops_of c.deck.signals)) [] (le-leb c.clock c.until timely))
+    ∙ length-map (flip_flops_of c.deck.signals) (tick_at c.clock)
+
+-- they come too late
+pub late_ticks : (c : Simulation) → c.until < c.clock → length (first_ticks c) ≡ 0
+late_ticks c late = ap length (cond-false (nat_le c.clock c.until) (map (tick_at c.clock) (flip_flops_of c.deck.signals)) [] (lt-leb c.clock c.until late))
+
+-- the evaluations, the ticks and the changes
+pub length-start_tasks : (c : Simulation) (gates changes : ℕ) → gates + (length (flip_flops_of c.deck.signals) + length (inputs_of c.deck.signals)) ≡ length c.deck.signals
+    → changes ≡ length (changes_of c.until (inputs_of c.deck.signals) c.deck.stimuli) → gates + (length (first_ticks c) + changes) ≡ length (start_tasks c)
 length-start_tasks c gates changes rest stimuli =
-    let both = length-append (map (eval_at 0) (gates_of c.deck.signals)) (changes_of c.until (inputs_of c.deck.signals) c.deck.stimuli) in
+    let both = length-append (map (eval_at 0) (gates_of c.deck.signals) ++ first_ticks c) (changes_of c.until (inputs_of c.deck.signals) c.deck.stimuli) in
+    let more = length-append (map (eval_at 0) (gates_of c.deck.signals)) (first_ticks c) in
     let evals = length-map (gates_of c.deck.signals) (eval_at 0) in
-    let all = gates_and_inputs c.deck.signals in
-    omega (arith, both, evals, all, rest, stimuli)
+    let all = sorts_counted c.deck.signals in
+    omega (arith, both, more, evals, all, rest, stimuli)

@@ -1,9 +1,10 @@
 -- What events make of their bundles is what the operator makes of all cells.
-use Rattle.std.proofs.Common.{◌≡◌, ◌∙◌, ℕ, ◌<◌, Bool, true, false, List, [], ◌∷◌, length, map, ap, sym, refl, subst, arith}
+use Rattle.std.proofs.Common.{◌≡◌, ◌∙◌, ℕ, ◌<◌, Bool, true, false, List, [], ◌∷◌, ◌++◌, length, map, ap, sym, refl, subst, arith}
 use Rattle.std.specs.Prelude.{◌==◌, if◌then◌else◌, IsSome, slice_index, slice_set}
 use Rattle.std.specs.List.{AllByRecursion}
+use Rattle.std.proofs.lemmas.List.{map-append}
 use Rattle.bench_reader.specs.declared.deck.Form.{Form}
-use Rattle.bench_reader.specs.declared.deck.Form.TheVariants.{Input, Gate}
+use Rattle.bench_reader.specs.declared.deck.Form.TheVariants.{Input, Gate, Dff}
 use Rattle.task_order.specs.declared.start.Start.{Start}
 use Rattle.task_order.specs.declared.task.Task.{Task}
 use Rattle.rw_sets.specs.Accesses.{Accesses, IsAscending, access_at}
@@ -17,7 +18,7 @@ use Rattle.app_laws.specs.declared.child.Child.{Child}
 use Rattle.app_laws.specs.Applications.{IsEffect}
 use Rattle.logic_sim.specs.Bundles.{child_of, computed_from, effect_on, held_in, value_of, values_held, IsEffectOn}
 use Rattle.logic_sim.specs.Circuit.{IsFitCells}
-use Rattle.logic_sim.specs.Event.{Simulation, change_of, change_text, computed_by, eval_at, eval_of, event_of, next_changes, nothing_done, plan_of, plan_place, time_of, value_in, value_place}
+use Rattle.logic_sim.specs.Event.{Simulation, change_of, change_text, computed_by, eval_at, eval_of, event_of, next_changes, next_ticks, nothing_done, plan_of, plan_place, tick_of, time_of, value_in, value_place}
 use Rattle.logic_sim.specs.Gate.{gate_value}
 use Rattle.logic_sim.specs.Lawful.{change_set-ascending, change_set-named, changed_is, eval_set-ascending, eval_set-below}
 use Rattle.logic_sim.specs.Meaning.{change_set, eval_set, set_for, simulation}
@@ -81,6 +82,7 @@ module _ {set : Accesses} {bundle : Part ℕ} {cells : List ℕ} (taken : IsTake
   computed_found : (form : Form) → AllByRecursion (λ signal. IsSome (access_at set (value_place signal))) (fan_in_of form) → computed_from (held_in bundle) form ≡ computed_by form cells
   computed_found Input named = refl
   computed_found (Gate kind fan_in) named = ap (gate_value kind) (values_found fan_in named)
+  computed_found (Dff source) named = held_found (value_place source) named.0
 
 nothing_either_way : (idle : Bool) (text : List ℕ) → text ≡ [] → text ≡ (if idle then [] else [])
 nothing_either_way true text is = is
@@ -126,6 +128,19 @@ module _ (c : Simulation) (laws : HeldLaws) where
       (put_effect (evaluating gate bundle cells fit inside is) c (plan_place gate) value (next_changes c time gate value) [] left children text (plan_named c gate) left-is children-are
       (nothing_either_way (held_in bundle (plan_place gate) == value) text text-is))
 
+  pub tick_made : (time flip_flop value : ℕ) (bundle left : Part ℕ) (children : List Child) (text : List ℕ) → flip_flop < length c.deck.signals
+      → value ≡ computed_from (held_in bundle) (signal_at c.deck.signals flip_flop).form
+      → left ≡ (if held_in bundle (plan_place flip_flop) == value then bundle else with_value bundle (plan_place flip_flop) value)
+      → children ≡ (if held_in bundle (plan_place flip_flop) == value then [] else map (child_of c) (next_changes c time flip_flop value)) ++ map (child_of c) (next_ticks c time flip_flop) → text ≡ []
+      → IsEffectOn c (eval_set c.deck flip_flop) (tick_of c time flip_flop) bundle (record { bundle = left; children = children; text = text })
+  tick_made time flip_flop value bundle left children text inside value-is left-is children-are text-is cells fit is =
+      let own : List Child = if held_in bundle (plan_place flip_flop) == value then [] else map (child_of c) (next_changes c time flip_flop value) in
+      let planned = evaluation_made time flip_flop value bundle left own text inside value-is left-is refl text-is cells fit is in
+      let next : List Child = map (child_of c) (next_ticks c time flip_flop) in
+      same_effects (ap (λ (effect : Effect ℕ). effect.bundle) planned)
+      (children-are ∙ ap (λ (effect : Effect ℕ). effect.children ++ next) planned ∙ sym (map-append (child_of c) (eval_of c time flip_flop cells).children (next_ticks c time flip_flop)))
+      (ap (λ (effect : Effect ℕ). effect.text) planned)
+
 -- what is made of a bundle is the effect of a task that is a change
 pub change_is_effect : (c : Simulation) (task : Task) (bundle : Part ℕ) (effect : Effect ℕ) → task.body.kind ≡ 0
     → IsEffectOn c (change_set task.body.at) (change_of c (time_of task.key.prio) task.body.at task.body.arg) bundle effect → IsEffect (simulation c) task bundle effect
@@ -139,6 +154,15 @@ change_is_effect c task bundle effect kind made =
 pub evaluation_is_effect : (c : Simulation) (task : Task) (bundle : Part ℕ) (effect : Effect ℕ) → task.body.kind ≡ 1
     → IsEffectOn c (eval_set c.deck task.body.at) (eval_of c (time_of task.key.prio) task.body.at) bundle effect → IsEffect (simulation c) task bundle effect
 evaluation_is_effect c task bundle effect kind made =
+    subst
+    (λ (k : ℕ). (cells : List ℕ) → IsFitCells c cells → bundle ≡ part_of (homes cells) (set_for c.deck k task.body.at) →
+    effect ≡ effect_on c (set_for c.deck k task.body.at) (event_of c k (time_of task.key.prio) task.body.at task.body.arg cells))
+    (sym kind) made
+
+-- and of one that is a tick
+pub tick_is_effect : (c : Simulation) (task : Task) (bundle : Part ℕ) (effect : Effect ℕ) → task.body.kind ≡ 2
+    → IsEffectOn c (eval_set c.deck task.body.at) (tick_of c (time_of task.key.prio) task.body.at) bundle effect → IsEffect (simulation c) task bundle effect
+tick_is_effect c task bundle effect kind made =
     subst
     (λ (k : ℕ). (cells : List ℕ) → IsFitCells c cells → bundle ≡ part_of (homes cells) (set_for c.deck k task.body.at) →
     effect ≡ effect_on c (set_for c.deck k task.body.at) (event_of c k (time_of task.key.prio) task.body.at task.body.arg cells))

@@ -1,5 +1,5 @@
 -- Lists of the signals below a number that pass a test, one signal further.
-use Rattle.std.proofs.Common.{◌≡◌, ◌∙◌, ℕ, ◌+◌, ◌<◌, Bool, true, false, not, List, [], ◌∷◌, ◌++◌, length, get_or, ap, sym, zero-add}
+use Rattle.std.proofs.Common.{◌≡◌, ◌∙◌, ℕ, ◌+◌, ◌<◌, Bool, true, false, List, [], ◌∷◌, ◌++◌, length, get_or, ap, sym, zero-add}
 use Rattle.std.specs.Prelude.{filter, map, if◌then◌else◌}
 use Rattle.std.specs.List.{range_with_len}
 use Rattle.std.proofs.lemmas.List.{append-nil, get_or_read, map-append, map-id}
@@ -8,7 +8,8 @@ use Rattle.std.proofs.lemmas.List.FromFn.{map-range_with_len_more}
 use Rattle.bench_reader.specs.declared.deck.Signal.{Signal}
 use Rattle.task_order.specs.declared.start.Start.{Start}
 use Rattle.logic_sim.specs.Event.{eval_at}
-use Rattle.logic_sim.specs.Wiring.{fan_in_of, gates_among, inputs_among, is_among, is_gate, no_signal, readers_among, signal_at}
+use Rattle.bench_reader.specs.Decks.{is_input}
+use Rattle.logic_sim.specs.Wiring.{flip_flops_among, gates_among, inputs_among, is_among, is_flip_flop, is_gate, no_signal, readers_among, signal_at, watched_by}
 
 range_more : (n : ℕ) → range_with_len 0 (n + 1) ≡ range_with_len 0 n ++ n ∷ []
 range_more n =
@@ -38,28 +39,48 @@ first_evals_gate signals n signal starts below is gate so_far =
     ∙ sym (map-append (eval_at 0) (gates_among signals n) (n ∷ []))
     ∙ ap (map (eval_at 0)) (sym (gates_among-more signals n signal true below is gate))
 
--- a further input isn't
+-- a further signal that is none isn't
 pub first_evals_input : (signals : List Signal) (n : ℕ) (signal : Signal) (starts : List Start) → n < length signals → signal ≡ get_or signals n signal → is_gate signal.form ≡ false →
     starts ≡ map (eval_at 0) (gates_among signals n) → starts ≡ map (eval_at 0) (gates_among signals (n + 1))
 first_evals_input signals n signal starts below is gate so_far =
     so_far ∙ ap (map (eval_at 0)) (sym (gates_among-more signals n signal false below is gate ∙ append-nil (gates_among signals n)))
 
-inputs_among-more : (signals : List Signal) (n : ℕ) (signal : Signal) (b : Bool) → n < length signals → signal ≡ get_or signals n signal → is_gate signal.form ≡ b →
-    inputs_among signals (n + 1) ≡ inputs_among signals n ++ (if not b then n ∷ [] else [])
-inputs_among-more signals n signal b below is e =
-    filter_more (λ number. not (is_gate (signal_at signals number).form)) n (not b) (ap (λ (s : Signal). not (is_gate s.form)) (sym (read_signal signals n signal below is)) ∙ ap not e)
+-- the signals of a sort, one signal further
+sort_among-more : (sort : Signal → Bool) (signals : List Signal) (n : ℕ) (signal : Signal) (b : Bool) → n < length signals → signal ≡ get_or signals n signal → sort signal ≡ b →
+    filter (λ number. sort (signal_at signals number)) (range_with_len 0 (n + 1)) ≡ filter (λ number. sort (signal_at signals number)) (range_with_len 0 n) ++ (if b then n ∷ [] else [])
+sort_among-more sort signals n signal b below is e =
+    filter_more (λ number. sort (signal_at signals number)) n b (ap sort (sym (read_signal signals n signal below is)) ∙ e)
+
+sort_one : (sort : Signal → Bool) (signals : List Signal) (n : ℕ) (signal : Signal) (numbers : List ℕ) → n < length signals → signal ≡ get_or signals n signal → sort signal ≡ true →
+    numbers ≡ filter (λ number. sort (signal_at signals number)) (range_with_len 0 n) → numbers ++ n ∷ [] ≡ filter (λ number. sort (signal_at signals number)) (range_with_len 0 (n + 1))
+sort_one sort signals n signal numbers below is one so_far = ap (λ (z : List ℕ). z ++ n ∷ []) so_far ∙ sym (sort_among-more sort signals n signal true below is one)
+
+sort_other : (sort : Signal → Bool) (signals : List Signal) (n : ℕ) (signal : Signal) (numbers : List ℕ) → n < length signals → signal ≡ get_or signals n signal → sort signal ≡ false →
+    numbers ≡ filter (λ number. sort (signal_at signals number)) (range_with_len 0 n) → numbers ≡ filter (λ number. sort (signal_at signals number)) (range_with_len 0 (n + 1))
+sort_other sort signals n signal numbers below is other so_far =
+    so_far ∙ sym (sort_among-more sort signals n signal false below is other ∙ append-nil (filter (λ number. sort (signal_at signals number)) (range_with_len 0 n)))
 
 -- a further input is listed
-pub inputs_input : (signals : List Signal) (n : ℕ) (signal : Signal) (numbers : List ℕ) → n < length signals → signal ≡ get_or signals n signal → is_gate signal.form ≡ false →
+pub inputs_input : (signals : List Signal) (n : ℕ) (signal : Signal) (numbers : List ℕ) → n < length signals → signal ≡ get_or signals n signal → is_input signal.form ≡ true →
     numbers ≡ inputs_among signals n → numbers ++ n ∷ [] ≡ inputs_among signals (n + 1)
-inputs_input signals n signal numbers below is input so_far = ap (λ (z : List ℕ). z ++ n ∷ []) so_far ∙ sym (inputs_among-more signals n signal false below is input)
+inputs_input signals n signal numbers below is input so_far = sort_one (λ signal. is_input signal.form) signals n signal numbers below is input so_far
 
--- a further gate isn't
-pub inputs_gate : (signals : List Signal) (n : ℕ) (signal : Signal) (numbers : List ℕ) → n < length signals → signal ≡ get_or signals n signal → is_gate signal.form ≡ true →
+-- another signal isn't
+pub inputs_other : (signals : List Signal) (n : ℕ) (signal : Signal) (numbers : List ℕ) → n < length signals → signal ≡ get_or signals n signal → is_input signal.form ≡ false →
     numbers ≡ inputs_among signals n → numbers ≡ inputs_among signals (n + 1)
-inputs_gate signals n signal numbers below is gate so_far = so_far ∙ sym (inputs_among-more signals n signal true below is gate ∙ append-nil (inputs_among signals n))
+inputs_other signals n signal numbers below is other so_far = sort_other (λ signal. is_input signal.form) signals n signal numbers below is other so_far
 
-pub readers_among-more : (signals : List Signal) (n : ℕ) (signal : Signal) (fan_in : List ℕ) (number : ℕ) → n < length signals → signal ≡ get_or signals n signal → fan_in_of signal.form ≡ fan_in →
+-- a further flip-flop is listed
+pub flip_flops_one : (signals : List Signal) (n : ℕ) (signal : Signal) (numbers : List ℕ) → n < length signals → signal ≡ get_or signals n signal → is_flip_flop signal.form ≡ true →
+    numbers ≡ flip_flops_among signals n → numbers ++ n ∷ [] ≡ flip_flops_among signals (n + 1)
+flip_flops_one signals n signal numbers below is flip_flop so_far = sort_one (λ signal. is_flip_flop signal.form) signals n signal numbers below is flip_flop so_far
+
+-- another signal isn't
+pub flip_flops_other : (signals : List Signal) (n : ℕ) (signal : Signal) (numbers : List ℕ) → n < length signals → signal ≡ get_or signals n signal → is_flip_flop signal.form ≡ false →
+    numbers ≡ flip_flops_among signals n → numbers ≡ flip_flops_among signals (n + 1)
+flip_flops_other signals n signal numbers below is other so_far = sort_other (λ signal. is_flip_flop signal.form) signals n signal numbers below is other so_far
+
+pub readers_among-more : (signals : List Signal) (n : ℕ) (signal : Signal) (fan_in : List ℕ) (number : ℕ) → n < length signals → signal ≡ get_or signals n signal → watched_by signal.form ≡ fan_in →
     readers_among signals (n + 1) number ≡ readers_among signals n number ++ (if is_among fan_in number then n ∷ [] else [])
 readers_among-more signals n signal fan_in number below is e =
-    filter_more _ n (is_among fan_in number) (ap (λ (s : Signal). is_among (fan_in_of s.form) number) (sym (read_signal signals n signal below is)) ∙ ap (λ (f : List ℕ). is_among f number) e)
+    filter_more _ n (is_among fan_in number) (ap (λ (s : Signal). is_among (watched_by s.form) number) (sym (read_signal signals n signal below is)) ∙ ap (λ (f : List ℕ). is_among f number) e)

@@ -8,12 +8,12 @@ use Rattle.std.proofs.lemmas.List.Elements.{All-from_get_or, All-from_recursion,
 use Rattle.std.proofs.lemmas.List.Folds.{list_any_more}
 use Rattle.std.proofs.lemmas.Option.{slice_get-get_or}
 use Rattle.bench_reader.specs.Decks.{IsWired}
-use Rattle.bench_reader.specs.declared.deck.Form.TheVariants.{Gate}
-use Rattle.bench_reader.specs.declared.deck.GateKind.{GateKind}
+use Rattle.bench_reader.specs.declared.deck.Form.{Form}
+use Rattle.bench_reader.specs.declared.deck.Form.TheVariants.{Input, Gate, Dff}
 use Rattle.bench_reader.specs.declared.deck.Signal.{Signal}
 use Rattle.logic_sim.specs.Laws.{filter_range}
 use Rattle.logic_sim.specs.Tables.{AddsReader, ListsReaders, last_is, with_reader}
-use Rattle.logic_sim.specs.Wiring.{fan_in_of, is_among, readers_among, reads}
+use Rattle.logic_sim.specs.Wiring.{watched_by, is_among, readers_among, reads}
 use Rattle.logic_sim.proofs.Ranges.{readers_among-more}
 
 last_is-push : (gate : ℕ) (gates : List ℕ) → last_is gate (gates ++ gate ∷ []) ≡ true
@@ -112,10 +112,10 @@ ListsReaders-earlier signals n table so_far =
     (λ number here. All-same (λ other. other < n) (get_or table number []) (readers_among signals n number) (so_far.each number (omega (arith, so_far.count)))
     (All-from_recursion (λ other. other < n) (readers_among signals n number) (filter_range (λ other. other < n) (reads signals number) 0 n (λ z below reads_it. omega arith))))
 
--- a further gate is in the lists of its fan-ins
-pub ListsReaders-gate : (signals : List Signal) (n : ℕ) (signal : Signal) (fan_in : List ℕ) (old new : List (List ℕ)) → n < length signals → signal ≡ get_or signals n signal → fan_in_of signal.form ≡ fan_in →
+-- a further signal is in the lists of those that it watches
+pub ListsReaders-more : (signals : List Signal) (n : ℕ) (signal : Signal) (fan_in : List ℕ) (old new : List (List ℕ)) → n < length signals → signal ≡ get_or signals n signal → watched_by signal.form ≡ fan_in →
     ListsReaders signals n old → AddsReader old fan_in n new → ListsReaders signals (n + 1) new
-ListsReaders-gate signals n signal fan_in old new below is reads_these so_far adds = record {
+ListsReaders-more signals n signal fan_in old new below is reads_these so_far adds = record {
   count = adds.count ∙ so_far.count;
   each = λ number here.
       adds.each number (omega (arith, so_far.count))
@@ -123,18 +123,12 @@ ListsReaders-gate signals n signal fan_in old new below is reads_these so_far ad
       ∙ sym (readers_among-more signals n signal fan_in number below is reads_these);
 }
 
--- a further input is in none
-pub ListsReaders-input : (signals : List Signal) (n : ℕ) (signal : Signal) (table : List (List ℕ)) → n < length signals → signal ≡ get_or signals n signal → fan_in_of signal.form ≡ [] →
-    ListsReaders signals n table → ListsReaders signals (n + 1) table
-ListsReaders-input signals n signal table below is reads_none so_far = record {
-  count = so_far.count;
-  each = λ number here.
-      so_far.each number here ∙ sym (readers_among-more signals n signal [] number below is reads_none ∙ append-nil (readers_among signals n number));
-}
-
--- the fan-ins of a gate are signals
-pub wired_fan_in : (signals : List Signal) (n : ℕ) (signal : Signal) (kind : GateKind) (fan_in gates : List ℕ) → All (λ (s : Signal). IsWired (length signals) s.form) signals → n < length signals → signal ≡ get_or signals n signal →
-    signal.form ≡ Gate kind fan_in → gates ≡ fan_in → All (λ number. number < length signals) gates
-wired_fan_in signals n signal kind fan_in gates wired below is gate same =
-    All-same (λ number. number < length signals) gates fan_in same
-    (subst (IsWired (length signals)) (ap (λ (s : Signal). s.form) (sym is) ∙ gate) (wired n signal below)).1
+-- the signals that a signal watches
+pub wired_watched : (signals : List Signal) (n : ℕ) (signal : Signal) → All (λ (s : Signal). IsWired (length signals) s.form) signals → n < length signals → signal ≡ get_or signals n signal
+    → All (λ number. number < length signals) (watched_by signal.form)
+wired_watched signals n signal wired below is = known signal.form (subst (λ (s : Signal). IsWired (length signals) s.form) (sym is) (wired n signal below))
+  where
+    known : (form : Form) → IsWired (length signals) form → All (λ number. number < length signals) (watched_by form)
+    known Input wires = All-from_recursion (λ number. number < length signals) [] tt
+    known (Gate kind fan_in) wires = wires.1
+    known (Dff source) wires = All-from_recursion (λ number. number < length signals) [] tt

@@ -6,7 +6,7 @@ use Rattle.std.proofs.lemmas.List.Elements.{All-from_recursion, All-get_or}
 use Rattle.std.proofs.lemmas.List.FromFn.{get_or-map-range_with_len, length-map-range_with_len, map-range_with_len_more}
 use Rattle.bench_reader.specs.Decks.{IsSoundlyWired, IsWired}
 use Rattle.bench_reader.specs.declared.deck.Form.{Form}
-use Rattle.bench_reader.specs.declared.deck.Form.TheVariants.{Input, Gate}
+use Rattle.bench_reader.specs.declared.deck.Form.TheVariants.{Input, Gate, Dff}
 use Rattle.bench_reader.specs.declared.deck.Signal.{Signal}
 use Rattle.rw_sets.specs.declared.access.Access.{Access}
 use Rattle.rw_sets.specs.declared.access.Access.TheVariants.{Read, Write}
@@ -49,6 +49,7 @@ small_fan_in signals n signal few wiring below is = known signal.form (subst (λ
     known : (form : Form) → IsWired (length signals) form → All (λ number. number < 4096) (fan_in_of form)
     known Input wires = All-from_recursion (λ number. number < 4096) [] tt
     known (Gate kind fan_in) wires = λ k d inside. let low = wires.1 k d inside in omega (arith, low, few)
+    known (Dff source) wires = All-from_recursion (λ number. number < 4096) (source ∷ []) (omega (arith, wires, few), tt)
 
 -- the gates that read a signal
 pub readers_below : (signals : List Signal) (number : ℕ) → All (λ gate. gate < length signals) (readers_of signals number)

@@ -1,7 +1,7 @@
 -- What events find in their bundles, and what they make of them.
 use Rattle.std.specs.Prelude.{◌≡◌, ℕ, ◌^◌, ◌<◌, List, [], map}
 use Rattle.bench_reader.specs.declared.deck.Form.{Form}
-use Rattle.bench_reader.specs.declared.deck.Form.TheVariants.{Input, Gate}
+use Rattle.bench_reader.specs.declared.deck.Form.TheVariants.{Input, Gate, Dff}
 use Rattle.task_order.specs.declared.start.Start.{Start}
 use Rattle.rw_sets.specs.Accesses.{Accesses}
 use Rattle.cell_store.specs.declared.cell.Cell.{Cell}
@@ -40,10 +40,11 @@ pub record IsReadable (can_read : ℕ → Type 0) (signal : ℕ) : Type 0 where
 abbrev pub values_held : (ℕ → ℕ) → List ℕ → List ℕ
 values_held held signals = map (λ signal. held (value_place signal)) signals
 
--- what a gate computes from the values of its fan-ins, where these are held at the locations
+-- what a gate computes from the values of its fan-ins and a flip-flop takes from its source, where these are held at the locations
 abbrev pub computed_from : (ℕ → ℕ) → Form → ℕ
 computed_from held Input = 0
 computed_from held (Gate kind fan_in) = gate_value kind (values_held held fan_in)
+computed_from held (Dff source) = held (value_place source)
 
 -- a child as it is handed over, with the set that it declares
 abbrev pub child_of : Simulation → Start → Child

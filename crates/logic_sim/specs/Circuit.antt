@@ -6,8 +6,8 @@ use Rattle.bench_reader.specs.declared.deck.Stim.{Stim}
 use Rattle.bench_reader.specs.Decks.{IsSoundlyWired}
 use Rattle.task_order.specs.declared.task.Body.{Body}
 use Rattle.task_order.specs.declared.start.Start.{Start}
-use Rattle.logic_sim.specs.Event.{Simulation, change_kind, eval_kind, change_at, eval_at, final_line, value_in}
-use Rattle.logic_sim.specs.Wiring.{gates_of, inputs_of, is_gate, signal_at}
+use Rattle.logic_sim.specs.Event.{Simulation, change_kind, eval_kind, tick_kind, change_at, eval_at, tick_at, final_line, value_in}
+use Rattle.logic_sim.specs.Wiring.{flip_flops_of, gates_of, inputs_of, is_flip_flop, is_gate, signal_at}
 
 abbrev pub IsBit : ℕ → Type 0
 IsBit value = value ≤ 1
@@ -15,6 +15,7 @@ IsBit value = value ≤ 1
 -- two cells for each signal of a deck, each 0 or 1
 pub record IsFitCells (c : Simulation) (cells : List ℕ) : Type 0 where
   pub deck : IsSoundlyWired c.deck
+  pub clock : 1 ≤ c.clock
   pub count : length cells ≡ 2 * length c.deck.signals
   pub bits : All IsBit cells
 
@@ -33,12 +34,24 @@ pub record IsFitEval (c : Simulation) (prio : ℕ) (body : Body) : Type 0 where
   pub at_gate : IsTrue (is_gate (signal_at c.deck.signals body.at).form)
   pub no_arg : body.arg ≡ 0
 
+-- a flip-flop ticks
+pub record IsFitTick (c : Simulation) (prio : ℕ) (body : Body) : Type 0 where
+  pub kind : body.kind ≡ tick_kind
+  pub odd : prio % 2 ≡ 1
+  pub in_range : body.at < length c.deck.signals
+  pub at_flip_flop : IsTrue (is_flip_flop (signal_at c.deck.signals body.at).form)
+  pub no_arg : body.arg ≡ 0
+
 abbrev pub IsFitTask : Simulation → ℕ → Body → Type 0
-IsFitTask c prio body = IsFitChange c prio body ⊎ IsFitEval c prio body
+IsFitTask c prio body = IsFitChange c prio body ⊎ (IsFitEval c prio body ⊎ IsFitTick c prio body)
 
 -- the last time that a circuit may be simulated to
 abbrev pub latest : ℕ
 latest = 1_000_000_000
+
+-- the longest time between two ticks
+abbrev pub longest_clock : ℕ
+longest_clock = 1_000_000_000
 
 -- at first every value and every plan is 0
 abbrev pub start_cells : Deck → List ℕ
@@ -57,10 +70,14 @@ changes_for until inputs stimulus = if nat_le stimulus.time until then changes_a
 abbrev pub changes_of : ℕ → List ℕ → List Stim → List Start
 changes_of until inputs stimuli = flat_map (changes_for until inputs) stimuli
 
--- at first each gate is to be evaluated at time 0, in file order; and for each stimulus, in file order, each primary input is to
--- take its value, unless that is too late
+-- each flip-flop ticks first after the time of the clock, unless that is too late
+abbrev pub first_ticks : Simulation → List Start
+first_ticks c = if nat_le c.clock c.until then map (tick_at c.clock) (flip_flops_of c.deck.signals) else []
+
+-- at first each gate is to be evaluated at time 0, in file order; each flip-flop is to tick, in file order; and for each
+-- stimulus, in file order, each primary input is to take its value, unless that is too late
 abbrev pub start_tasks : Simulation → List Start
-start_tasks c = map (eval_at 0) (gates_of c.deck.signals) ++ changes_of c.until (inputs_of c.deck.signals) c.deck.stimuli
+start_tasks c = map (eval_at 0) (gates_of c.deck.signals) ++ first_ticks c ++ changes_of c.until (inputs_of c.deck.signals) c.deck.stimuli
 
 -- a line for each output, in the order in which they are declared
 abbrev pub finals_of : Deck → List ℕ → List ℕ

@@ -1,5 +1,5 @@
 -- The laws of circuits as ordered applications.
-use Rattle.std.specs.Prelude.{◌≡◌, ◌≢◌, ℕ, zero, suc, ◌+◌, ◌*◌, ◌==◌, ◌<◌, Bool, true, false, List, [], ◌∷◌, ◌++◌, length, map, slice_get, slice_index, slice_set, nat_le, Contains, Some, IsSome, IsFalse, IsTrue, if◌then◌else◌, refl}
+use Rattle.std.specs.Prelude.{◌≡◌, ◌≢◌, ℕ, zero, suc, ◌*◌, ◌==◌, ◌<◌, Bool, true, false, List, [], ◌∷◌, ◌++◌, length, map, slice_get, slice_index, slice_set, Contains, Some, IsSome, IsFalse, IsTrue, if◌then◌else◌, refl}
 use Rattle.std.specs.Fmt.{decimal}
 use Rattle.std.specs.List.{AllByRecursion, list_all}
 use Rattle.std.specs.Ordering.{nat_cmp}
@@ -12,7 +12,7 @@ use Rattle.std.proofs.lemmas.List.Folds.{list_all-append, list_all-map}
 use Rattle.std.proofs.lemmas.Option.{slice_get-get_or, same_Some}
 use Rattle.bench_reader.specs.Decks.{IsSoundlyWired, IsWired}
 use Rattle.bench_reader.specs.declared.deck.Form.{Form}
-use Rattle.bench_reader.specs.declared.deck.Form.TheVariants.{Input, Gate}
+use Rattle.bench_reader.specs.declared.deck.Form.TheVariants.{Input, Gate, Dff}
 use Rattle.task_order.specs.declared.key.Key.{Key}
 use Rattle.task_order.specs.declared.start.Start.{Start}
 use Rattle.task_order.specs.declared.task.Task.{Task}
@@ -27,9 +27,9 @@ use Rattle.app_laws.specs.Applications.{AgreeOn, IsFitTask as IsTaskOf, IsInRang
 use Rattle.app_laws.specs.Execution.{Outcome, children_from}
 use Rattle.app_laws.specs.Names.{renamed}
 use Rattle.logic_sim.specs.Circuit.{IsFitCells, IsFitTask}
-use Rattle.logic_sim.specs.Event.{Simulation, change_at, change_line, change_of, computed_by, eval_at, eval_of, event_of, nothing_done, plan_in, plan_of, plan_place, time_of, value_in, value_place}
+use Rattle.logic_sim.specs.Event.{Simulation, change_line, change_of, computed_by, eval_at, eval_of, event_of, next_changes, next_ticks, nothing_done, plan_in, plan_of, plan_place, tick_of, time_of, value_in, value_place, with_more}
 use Rattle.logic_sim.specs.Gate.{gate_value}
-use Rattle.logic_sim.specs.Laws.{act_of-fit, act_of-not_earlier, each_one, either}
+use Rattle.logic_sim.specs.Laws.{AllLater, act_of-fit, act_of-later, act_of-not_earlier, either}
 use Rattle.logic_sim.specs.Meaning.{change_set, eval_accesses, eval_set, set_for, is_safe, simulation}
 use Rattle.logic_sim.specs.Wiring.{fan_in_of, is_among, readers_of, signal_at}
 
@@ -136,6 +136,7 @@ module _ (c : Simulation) where
       known : (form : Form) → IsWired (length c.deck.signals) form → AllByRecursion (λ signal. signal < length c.deck.signals) (fan_in_of form)
       known Input is = tt
       known (Gate kind fan_in) is = recursion_from_All _ fan_in is.1
+      known (Dff source) is = (is, tt)
 
   accesses_in_range : (fan_in : List ℕ) (gate : ℕ) → gate < length c.deck.signals → AllByRecursion (λ signal. signal < length c.deck.signals) fan_in →
       AllByRecursion (λ (p : ℕ × Access). p.0 < 2 * length c.deck.signals) (eval_accesses fan_in gate)
@@ -165,17 +166,22 @@ module _ (c : Simulation) where
   pub cells_are_counted : CellsAreCounted (simulation c)
   cells_are_counted cells fit = fit.count
 
+  eval_set-in_range : (gate : ℕ) → IsSoundlyWired c.deck → gate < length c.deck.signals → IsInRange (simulation c) (eval_set c.deck gate)
+  eval_set-in_range gate sound below = record {
+    ascending = eval_set-ascending gate;
+    below = λ loc named. eval_set-below gate loc sound below named;
+  }
+
   pub sets_are_in_range : SetsAreInRange (simulation c)
   sets_are_in_range task cells fit (inl change) =
       subst (λ (kind : ℕ). IsInRange (simulation c) (set_for c.deck kind task.body.at)) (sym change.kind) (record {
         ascending = change_set-ascending task.body.at;
         below = λ loc named. let is = changed_is task.body.at loc named in omega (arith, is, change.at_signal);
       })
-  sets_are_in_range task cells fit (inr eval) =
-      subst (λ (kind : ℕ). IsInRange (simulation c) (set_for c.deck kind task.body.at)) (sym eval.kind) (record {
-        ascending = eval_set-ascending task.body.at;
-        below = λ loc named. eval_set-below task.body.at loc fit.deck eval.in_range named;
-      })
+  sets_are_in_range task cells fit (inr (inl eval)) =
+      subst (λ (kind : ℕ). IsInRange (simulation c) (set_for c.deck kind task.body.at)) (sym eval.kind) (eval_set-in_range task.body.at fit.deck eval.in_range)
+  sets_are_in_range task cells fit (inr (inr tick)) =
+      subst (λ (kind : ℕ). IsInRange (simulation c) (set_for c.deck kind task.body.at)) (sym tick.kind) (eval_set-in_range task.body.at fit.deck tick.in_range)
 
   change_of-lines : (time signal value : ℕ) (cells : List ℕ) → IsWholeLines (change_of c time signal value cells).text
   change_of-lines time signal value cells =
@@ -190,8 +196,11 @@ module _ (c : Simulation) where
   act_of-lines task cells (inl change) =
       subst (λ (kind : ℕ). IsWholeLines (event_of c kind (time_of task.key.prio) task.body.at task.body.arg cells).text) (sym change.kind)
       (change_of-lines (time_of task.key.prio) task.body.at task.body.arg cells)
-  act_of-lines task cells (inr eval) =
+  act_of-lines task cells (inr (inl eval)) =
       subst (λ (kind : ℕ). IsWholeLines (event_of c kind (time_of task.key.prio) task.body.at task.body.arg cells).text) (sym eval.kind)
+      (plan_of-lines (time_of task.key.prio) task.body.at _ cells)
+  act_of-lines task cells (inr (inr tick)) =
+      subst (λ (kind : ℕ). IsWholeLines (event_of c kind (time_of task.key.prio) task.body.at task.body.arg cells).text) (sym tick.kind)
       (plan_of-lines (time_of task.key.prio) task.body.at _ cells)
 
   pub acts_are_fit : ActsAreFit (simulation c)
@@ -202,16 +211,24 @@ module _ (c : Simulation) where
   pub sets_are_local : SetsAreLocal (simulation c)
   sets_are_local task cells others fit fit-others fit-task agree = refl
 
+  eval_of-elsewhere : (time gate : ℕ) (cells : List ℕ) (loc : ℕ) → IsFalse (writes (eval_set c.deck gate) loc) → slice_get (eval_of c time gate cells).cells loc ≡ slice_get cells loc
+  eval_of-elsewhere time gate cells loc unwritten =
+      let value = computed_by (signal_at c.deck.signals gate).form cells in
+      updated-elsewhere (plan_in cells gate == value) (plan_place gate) value (next_changes c time gate value) [] cells loc
+      (λ is. false≢true (sym unwritten ∙ subst (λ l. IsTrue (writes (eval_set c.deck gate) l)) (sym is) (eval_set-written gate)))
+
   act_of-elsewhere : (task : Task) (cells : List ℕ) → IsFitTask c task.key.prio task.body → (loc : ℕ) → IsFalse (writes (set_for c.deck task.body.kind task.body.at) loc) →
       slice_get ((simulation c).act task cells).cells loc ≡ slice_get cells loc
   act_of-elsewhere task cells (inl change) loc =
       subst (λ (kind : ℕ). IsFalse (writes (set_for c.deck kind task.body.at) loc) → slice_get (event_of c kind (time_of task.key.prio) task.body.at task.body.arg cells).cells loc ≡ slice_get cells loc) (sym change.kind)
       (λ unwritten. updated-elsewhere (value_in cells task.body.at == task.body.arg) (value_place task.body.at) task.body.arg _ _ cells loc
       (λ is. false≢true (sym unwritten ∙ subst (λ l. IsTrue (writes (change_set task.body.at) l)) (sym is) (change_set-written task.body.at))))
-  act_of-elsewhere task cells (inr eval) loc =
+  act_of-elsewhere task cells (inr (inl eval)) loc =
       subst (λ (kind : ℕ). IsFalse (writes (set_for c.deck kind task.body.at) loc) → slice_get (event_of c kind (time_of task.key.prio) task.body.at task.body.arg cells).cells loc ≡ slice_get cells loc) (sym eval.kind)
-      (λ unwritten. updated-elsewhere (plan_in cells task.body.at == computed_by (signal_at c.deck.signals task.body.at).form cells) (plan_place task.body.at) (computed_by (signal_at c.deck.signals task.body.at).form cells) _ [] cells loc
-      (λ is. false≢true (sym unwritten ∙ subst (λ l. IsTrue (writes (eval_set c.deck task.body.at) l)) (sym is) (eval_set-written task.body.at))))
+      (eval_of-elsewhere (time_of task.key.prio) task.body.at cells loc)
+  act_of-elsewhere task cells (inr (inr tick)) loc =
+      subst (λ (kind : ℕ). IsFalse (writes (set_for c.deck kind task.body.at) loc) → slice_get (event_of c kind (time_of task.key.prio) task.body.at task.body.arg cells).cells loc ≡ slice_get cells loc) (sym tick.kind)
+      (eval_of-elsewhere (time_of task.key.prio) task.body.at cells loc)
 
   change_of-alike : (time signal value : ℕ) (cells others : List ℕ) → IsFitCells c cells → IsFitCells c others → signal < length c.deck.signals → AgreeOn (change_set signal) cells others →
       IsSameOutcome (simulation c) (change_set signal) (change_of c time signal value cells) (change_of c time signal value others)
@@ -237,6 +254,7 @@ module _ (c : Simulation) where
       computed_by form cells ≡ computed_by form others
   computed_by-alike Input gate cells others agree = refl
   computed_by-alike (Gate kind fan_in) gate cells others agree = ap (gate_value kind) (values_alike fan_in gate cells others agree)
+  computed_by-alike (Dff source) gate cells others agree = agree (value_place source, Read) (0, omega arith, refl)
 
   eval_of-alike : (time gate : ℕ) (cells others : List ℕ) → IsFitCells c cells → IsFitCells c others → gate < length c.deck.signals → AgreeOn (eval_set c.deck gate) cells others →
       IsSameOutcome (simulation c) (eval_set c.deck gate) (eval_of c time gate cells) (eval_of c time gate others)
@@ -247,7 +265,7 @@ module _ (c : Simulation) where
       let planned : plan_in cells gate ≡ plan_in others gate = alike-at (plan_place gate, Write) (plan_listed (fan_in_of form) gate) in
       let computed : computed_by form cells ≡ computed_by form others = computed_by-alike form gate cells others alike-at in
       let value = computed_by form cells in
-      let children = if nat_le (time + 1) c.until then change_at (time + 1) gate value ∷ [] else [] in
+      let children = next_changes c time gate value in
       subst (λ now. IsSameOutcome (simulation c) (eval_set c.deck gate) (plan_of c time gate value cells) (plan_of c time gate now others)) computed
       (subst (λ held. IsSameOutcome (simulation c) (eval_set c.deck gate) (plan_of c time gate value cells) (updated (held == value) (plan_place gate) value children [] others)) planned
       (updated-alike (eval_set c.deck gate) (plan_in cells gate == value) (plan_place gate) value children [] cells others below-cells below-others agree))
@@ -258,13 +276,31 @@ module _ (c : Simulation) where
           let in_range = eval_set-below gate p.0 fit.deck below named in
           same_index cells others p.0 (omega (arith, fit.count, in_range)) (omega (arith, fit-others.count, in_range)) (agree p.0 named)
 
+  -- more children behind those of one outcome, and behind those of another that is the same
+  with_more-alike : (set : Accesses) (one other : Outcome ℕ) (more : List Start) → IsSameOutcome (simulation c) set one other → IsSameOutcome (simulation c) set (with_more one more) (with_more other more)
+  with_more-alike set one other more same = record {
+    cells = same.cells;
+    children = ap (λ (starts : List Start). starts ++ more) same.children;
+    text = same.text;
+  }
+
+  tick_of-alike : (time flip_flop : ℕ) (cells others : List ℕ) → IsFitCells c cells → IsFitCells c others → flip_flop < length c.deck.signals → AgreeOn (eval_set c.deck flip_flop) cells others →
+      IsSameOutcome (simulation c) (eval_set c.deck flip_flop) (tick_of c time flip_flop cells) (tick_of c time flip_flop others)
+  tick_of-alike time flip_flop cells others fit fit-others below agree =
+      with_more-alike (eval_set c.deck flip_flop) (eval_of c time flip_flop cells) (eval_of c time flip_flop others) (next_ticks c time flip_flop)
+      (eval_of-alike time flip_flop cells others fit fit-others below agree)
+
   act_of-alike : (task : Task) (cells others : List ℕ) → IsFitCells c cells → IsFitCells c others → IsFitTask c task.key.prio task.body → AgreeOn (set_for c.deck task.body.kind task.body.at) cells others →
       IsSameOutcome (simulation c) (set_for c.deck task.body.kind task.body.at) ((simulation c).act task cells) ((simulation c).act task others)
   act_of-alike task cells others fit fit-others (inl change) =
       subst (λ (kind : ℕ). AgreeOn (set_for c.deck kind task.body.at) cells others →
       IsSameOutcome (simulation c) (set_for c.deck kind task.body.at) (event_of c kind (time_of task.key.prio) task.body.at task.body.arg cells) (event_of c kind (time_of task.key.prio) task.body.at task.body.arg others)) (sym change.kind)
       (change_of-alike (time_of task.key.prio) task.body.at task.body.arg cells others fit fit-others change.at_signal)
-  act_of-alike task cells others fit fit-others (inr eval) =
+  act_of-alike task cells others fit fit-others (inr (inr tick)) =
+      subst (λ (kind : ℕ). AgreeOn (set_for c.deck kind task.body.at) cells others →
+      IsSameOutcome (simulation c) (set_for c.deck kind task.body.at) (event_of c kind (time_of task.key.prio) task.body.at task.body.arg cells) (event_of c kind (time_of task.key.prio) task.body.at task.body.arg others)) (sym tick.kind)
+      (tick_of-alike (time_of task.key.prio) task.body.at cells others fit fit-others tick.in_range)
+  act_of-alike task cells others fit fit-others (inr (inl eval)) =
       subst (λ (kind : ℕ). AgreeOn (set_for c.deck kind task.body.at) cells others →
       IsSameOutcome (simulation c) (set_for c.deck kind task.body.at) (event_of c kind (time_of task.key.prio) task.body.at task.body.arg cells) (event_of c kind (time_of task.key.prio) task.body.at task.body.arg others)) (sym eval.kind)
       (eval_of-alike (time_of task.key.prio) task.body.at cells others fit fit-others eval.in_range)
@@ -295,22 +331,6 @@ module _ (c : Simulation) where
   pub safe_alone : IsSafeAlone (simulation c)
   safe_alone task fit-task = refl
 
-  -- each child is later than its parent's priority
-  abbrev AllLater : ℕ → List Start → Type 0
-  AllLater prio starts = AllByRecursion (λ child. prio < child.prio) starts
-
-  act_of-later : (task : Task) (cells : List ℕ) → IsFitTask c task.key.prio task.body → AllLater task.key.prio ((simulation c).act task cells).children
-  act_of-later task cells (inl change) =
-      subst (λ (kind : ℕ). AllLater task.key.prio (event_of c kind (time_of task.key.prio) task.body.at task.body.arg cells).children) (sym change.kind)
-      (either (λ (outcome : Outcome ℕ). AllLater task.key.prio outcome.children) (value_in cells task.body.at == task.body.arg) (nothing_done cells) _ tt
-      (each_one _ (eval_at (time_of task.key.prio)) (readers_of c.deck.signals task.body.at) (λ z. omega (arith, change.even))))
-  act_of-later task cells (inr eval) =
-      let value = computed_by (signal_at c.deck.signals task.body.at).form cells in
-      let next = time_of task.key.prio + 1 in
-      subst (λ (kind : ℕ). AllLater task.key.prio (event_of c kind (time_of task.key.prio) task.body.at task.body.arg cells).children) (sym eval.kind)
-      (either (λ (outcome : Outcome ℕ). AllLater task.key.prio outcome.children) (plan_in cells task.body.at == value) (nothing_done cells) _ tt
-      (either (AllLater task.key.prio) (nat_le next c.until) (change_at next task.body.at value ∷ []) [] (omega (arith, eval.odd), tt) tt))
-
   pub safe_tasks_stay_safe : SafeTasksStaySafe (simulation c)
   safe_tasks_stay_safe task acted before after cells fit fit-task fit-others ascending earlier safe apart =
       rw (none_before task.key acted.key 0 ((simulation c).act acted cells).children later) (record { apart = tt; safe = others-safe })
@@ -331,7 +351,7 @@ module _ (c : Simulation) where
       others-safe = list_all-append same-prio before after ∙ and_from (list_all same-prio before) (list_all same-prio after) parts.0 acted-parts.1
 
       later : AllLater task.key.prio ((simulation c).act acted cells).children
-      later = subst (λ prio. AllLater prio ((simulation c).act acted cells).children) (eqb-true acted.key.prio task.key.prio acted-parts.0) (act_of-later acted cells acted-fit)
+      later = subst (λ prio. AllLater prio ((simulation c).act acted cells).children) (eqb-true acted.key.prio task.key.prio acted-parts.0) (act_of-later c acted cells fit acted-fit)
 
   pub safety_ignores_paths : SafetyIgnoresPaths (simulation c)
   safety_ignores_paths task earlier name has_name naming have_names fit-task fit-others = list_all-map (λ other. other.key.prio == task.key.prio) (renamed name) earlier

@@ -6,9 +6,9 @@ use Rattle.bench_reader.specs.declared.deck.Deck.{Deck}
 use Rattle.bench_reader.specs.declared.deck.Signal.{Signal}
 use Rattle.bench_reader.specs.Decks.{IsSoundlyWired}
 use Rattle.rw_sets.specs.Accesses.{Accesses, merged}
-use Rattle.logic_sim.specs.Circuit.{latest}
+use Rattle.logic_sim.specs.Circuit.{latest, longest_clock}
 use Rattle.logic_sim.specs.Meaning.{eval_accesses}
-use Rattle.logic_sim.specs.Wiring.{fan_in_of, inputs_of, is_among, readers_among, signal_at}
+use Rattle.logic_sim.specs.Wiring.{fan_in_of, flip_flops_of, inputs_of, is_among, readers_among, signal_at}
 
 -- for each signal the gates among the first n that read it
 pub record ListsReaders (signals : List Signal) (n : ℕ) (table : List (List ℕ)) : Type 0 where
@@ -38,10 +38,13 @@ abbrev pub sets_among : List Signal → ℕ → List Accesses
 sets_among signals n = map (λ gate. merged [] (eval_accesses (fan_in_of (signal_at signals gate).form) gate)) (range_with_len 0 n)
 
 -- what holds of each circuit
-pub record IsPrepared (deck : Deck) (until : ℕ) (inputs : List ℕ) (readers : List (List ℕ)) (is_output : List Bool) (sets : List Accesses) : Type 0 where
+pub record IsPrepared (deck : Deck) (until clock : ℕ) (inputs flip_flops : List ℕ) (readers : List (List ℕ)) (is_output : List Bool) (sets : List Accesses) : Type 0 where
   pub deck_read : IsSoundlyWired deck
   pub not_too_late : until ≤ latest
+  pub clock_runs : 1 ≤ clock
+  pub clock_in_time : clock ≤ longest_clock
   pub all_inputs : inputs ≡ inputs_of deck.signals
+  pub all_flip_flops : flip_flops ≡ flip_flops_of deck.signals
   pub all_readers : ListsReaders deck.signals (length deck.signals) readers
   pub all_outputs : MarksOutputs deck.outputs (length deck.signals) is_output
   pub all_sets : sets ≡ sets_among deck.signals (length deck.signals)

@@ -1,6 +1,6 @@
 ghost use Rattle.std.specs.Prelude.{◌≡◌, ◌≤◌, ◌<◌, IfOk};
 ghost use Rattle.bench_reader.specs.Decks.{IsSoundlyWired};
-ghost use Rattle.logic_sim.specs.Chain.{chain_input, generated_input, inverter_of, most_inverters};
+ghost use Rattle.logic_sim.specs.Chain.{chain_delays, chain_input, generated_input, inverter_of, most_inverters};
 
 use bench_reader::{Deck, Form, GateKind, Signal, SignalList, StimList};
 use kdg_text::{NoRoom, NumList, Text, push_u64};
@@ -21,11 +21,23 @@ pub fn chain_deck(alloc: Global, n: u32) -> Result<Deck, NoRoom>
     }
     let mut outputs = NumList::new(alloc);
     outputs.push(n)?;
+    let delays = chain_delays(alloc, n)?;
     Ok(Deck {
         signals,
         outputs,
         stimuli: StimList::new(alloc),
+        delays,
     })
+}
+
+/// The input has no delay, and each of the gates the delay 1.
+fn chain_delays(alloc: Global, n: u32) -> Result<NumList, NoRoom>
+    requires { n ≤ most_inverters }
+    ensures { IfOk result (λ delays. delays ≡ chain_delays n) }
+{
+    let mut delays = vec![in alloc; 1; n as usize + 1]?;
+    delays[0] = 0;
+    Ok(NumList::from_vec(delays))
 }
 
 /// The input that drives the first gate.
@@ -77,6 +89,7 @@ mod tests {
             assert_eq!(rt; fan_in.items(), [number as u32].as_slice());
         }
         assert_eq!(rt; deck.outputs.items(), [3].as_slice());
+        assert_eq!(rt; deck.delays.items(), [0, 1, 1, 1].as_slice());
         assert!(rt; deck.stimuli.items().is_empty());
         Ok(())
     }
@@ -84,7 +97,7 @@ mod tests {
     #[test]
     fn chains_are_circuits(rt: HostRuntime) -> Result<(), Fail> {
         for n in [1, 2, 999] {
-            let circuit = Circuit::new(rt.alloc(), chain_deck(rt.alloc(), n)?, 1000)?;
+            let circuit = Circuit::new(rt.alloc(), chain_deck(rt.alloc(), n)?, 1000, 10)?;
             assert_eq!(rt; circuit.first_task_count(), u64::from(n));
         }
         Ok(())

@@ -2,10 +2,12 @@ ghost use Rattle.std.specs.Prelude.{◌≡◌, ◌^◌, ◌<◌, ◌≤◌, leng
 ghost use Rattle.bench_reader.specs.Decks.{IsSoundlyWired};
 ghost use Rattle.cell_store.specs.Values.{AreAllHome, values_of};
 ghost use Rattle.app_laws.specs.Laws.{AllFit};
-ghost use Rattle.logic_sim.specs.Circuit.{IsFitCells, IsFitTask, finals_of, latest, start_cells, start_tasks};
+ghost use Rattle.logic_sim.specs.Circuit.{IsFitCells, IsFitTask, finals_of, first_ticks, latest, longest_clock, start_cells, start_tasks};
 
-use crate::event::{change_count, first_evals, push_final, push_stimuli};
-use crate::tables::{evaluation_sets, input_numbers, output_marks, reader_lists};
+use crate::event::{change_count, first_evals, push_final, push_first_ticks, push_stimuli};
+use crate::tables::{
+    evaluation_sets, flip_flop_numbers, input_numbers, output_marks, reader_lists,
+};
 use bench_reader::Deck;
 use cell_store::{Seen, Store, value_laws};
 use kdg_text::{NoRoom, NumList, Text};
@@ -23,13 +25,17 @@ pub struct Circuit {
     alloc: Global,
     deck: Deck,
     until: u64,
+    /// The time between two ticks of the flip-flops.
+    clock: u64,
     /// The primary inputs, in the order in which they are declared.
     inputs: NumList,
+    /// The flip-flops, in file order.
+    flip_flops: NumList,
     /// For each signal, the gates that read it, in file order.
     readers: Vec<NumList>,
     /// For each signal, whether it is an output.
     is_output: Vec<bool>,
-    /// For each signal, the set that its evaluation declares.
+    /// For each signal, the set that its evaluation or tick declares.
     sets: Vec<RwSet>,
 }
 
@@ -39,20 +45,24 @@ impl Model for Circuit {
 
     ghost Value = { Simulation };
 
-    ghost view = { λ c. record { deck = c.deck; until = c.until } };
+    ghost view = { λ c. record { deck = c.deck; until = c.until; clock = c.clock } };
 
-    ghost invariant = { λ c. IsPrepared c.deck c.until c.inputs c.readers.items c.is_output.items c.sets.items };
+    ghost invariant = { λ c. IsPrepared c.deck c.until c.clock c.inputs c.flip_flops c.readers.items c.is_output.items c.sets.items };
 }
 
 impl Circuit {
-    /// The circuit of a deck, in which nothing happens after the time `until`.
-    pub fn new(alloc: Global, deck: Deck, until: u64) -> Result<Circuit, NoRoom>
+    /// The circuit of a deck, in which nothing happens after the time `until`, and the flip-flops tick
+    /// each time that `clock` units of time have gone by.
+    pub fn new(alloc: Global, deck: Deck, until: u64, clock: u64) -> Result<Circuit, NoRoom>
         requires deck { IsSoundlyWired deck }
         requires until { until ≤ latest }
-        ensures { IfOk result (λ circuit. circuit ≡ record { deck = deck; until = until }) }
+        requires some_time { 1 ≤ clock }
+        requires clock { clock ≤ longest_clock }
+        ensures { IfOk result (λ circuit. circuit ≡ record { deck = deck; until = until; clock = clock }) }
     {
         let signals = deck.signals.items();
         let inputs = input_numbers(alloc, signals)?;
+        let flip_flops = flip_flop_numbers(alloc, signals)?;
         let readers = reader_lists(alloc, signals)?;
         let is_output = output_marks(alloc, deck.outputs.items(), signals.len())?;
         let sets = evaluation_sets(alloc, signals)?;
@@ -60,7 +70,9 @@ impl Circuit {
             alloc,
             deck,
             until,
+            clock,
             inputs,
+            flip_flops,
             readers,
             is_output,
             sets,
@@ -80,19 +92,33 @@ impl Circuit {
         ensures { result ≡ length (start_tasks self.now) }
     {
         let inputs = self.inputs.items();
-        let gates = self.deck.signals.items().len() - inputs.len();
+        let others = self.flip_flops.items().len() + inputs.len();
+        let gates = self.deck.signals.items().len() - others;
         let changes = change_count(self.until, inputs, self.deck.stimuli.items());
-        (gates + changes) as u64
+        (gates + (self.first_tick_count() + changes)) as u64
     }
 
-    /// The first tasks: each gate is evaluated at time 0, and each primary input takes the values of
-    /// the stimuli that come no later than `until`.
+    /// How many flip-flops tick at all.
+    fn first_tick_count(&self) -> usize
+        ensures { result ≡ length (first_ticks self.now) }
+    {
+        if self.until < self.clock {
+            return 0;
+        }
+        self.flip_flops.items().len()
+    }
+
+    /// The first tasks: each gate is evaluated at time 0, each flip-flop ticks at the time of the
+    /// clock, and each primary input takes the values of the stimuli, where these come no later than
+    /// `until`.
     pub fn first_tasks(&self) -> Result<StartList, NoRoom>
         ensures tasks { IfOk result (λ tasks. tasks ≡ start_tasks self.now) }
         ensures fit { IfOk result (AllFit (IsFitTask self.now)) }
         ensures few { IfOk result (λ tasks. length tasks < 2 ^ 32) }
     {
         let mut starts = first_evals(self.alloc, self.deck.signals.items())?;
+        let flip_flops = self.flip_flops.items();
+        push_first_ticks(&mut starts, self.until, self.clock, flip_flops)?;
         let stimuli = self.deck.stimuli.items();
         push_stimuli(&mut starts, self.until, self.inputs.items(), stimuli)?;
         Ok(starts)

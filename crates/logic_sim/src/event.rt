@@ -1,6 +1,6 @@
-ghost use Rattle.std.specs.Prelude.{◌≡◌, ◌<◌, ◌≤◌, ◌^◌, ◌*◌, ◌+◌, ◌++◌, length, map, IfOk, OnOk};
-ghost use Rattle.logic_sim.specs.Circuit.{changes_at, changes_for, changes_of, latest};
-ghost use Rattle.logic_sim.specs.Event.{change_at, change_line, eval_at, final_line, value_line};
+ghost use Rattle.std.specs.Prelude.{◌≡◌, ◌<◌, ◌≤◌, ◌^◌, ◌*◌, ◌+◌, ◌++◌, [], length, map, nat_le, if◌then◌else◌, IfOk, OnOk};
+ghost use Rattle.logic_sim.specs.Circuit.{changes_at, changes_for, changes_of, latest, longest_clock};
+ghost use Rattle.logic_sim.specs.Event.{change_at, change_line, eval_at, final_line, tick_at, value_line};
 ghost use Rattle.logic_sim.specs.Wiring.{gates_of};
 
 use bench_reader::{Form, Signal, Stim};
@@ -13,6 +13,9 @@ pub(crate) const CHANGE: u8 = 0;
 
 /// The kind of a task that evaluates a gate.
 pub(crate) const EVAL: u8 = 1;
+
+/// The kind of a task that has a flip-flop take the value of its source.
+pub(crate) const TICK: u8 = 2;
 
 /// The signal takes the value at that time.
 pub(crate) fn change_start(time: u64, signal: u32, value: u64) -> Start
@@ -44,6 +47,21 @@ pub(crate) fn eval_start(time: u64, gate: u32) -> Start
     }
 }
 
+/// The flip-flop ticks at that time.
+pub(crate) fn tick_start(time: u64, flip_flop: u32) -> Start
+    requires { 2 * time + 1 < 2 ^ 64 }
+    ensures { result ≡ tick_at time flip_flop }
+{
+    Start {
+        prio: 2 * time + 1,
+        body: Body {
+            kind: TICK,
+            at: flip_flop,
+            arg: 0,
+        },
+    }
+}
+
 /// Each gate is evaluated at time 0.
 #[tactic(auto, using(crate::proofs::Ranges::first_evals_gate, crate::proofs::Ranges::first_evals_input))]
 pub(crate) fn first_evals(alloc: Global, signals: &[Signal]) -> Result<StartList, NoRoom>
@@ -57,6 +75,33 @@ pub(crate) fn first_evals(alloc: Global, signals: &[Signal]) -> Result<StartList
         }
     }
     Ok(starts)
+}
+
+/// Each of the flip-flops ticks first at the time of the clock, unless that is later than `until`.
+pub(crate) fn push_first_ticks(
+    made: &mut StartList,
+    until: u64,
+    clock: u64,
+    flip_flops: &[u32],
+) -> Result<(), NoRoom>
+    requires { clock ≤ longest_clock }
+    ensures { OnOk result (made.new ≡ made.old ++ (if nat_le clock until then map (tick_at clock) flip_flops.now else [])) }
+{
+    if clock > until {
+        return Ok(());
+    }
+    push_ticks(made, clock, flip_flops)
+}
+
+/// Each of the flip-flops ticks at that time.
+fn push_ticks(made: &mut StartList, time: u64, flip_flops: &[u32]) -> Result<(), NoRoom>
+    requires { time ≤ longest_clock }
+    ensures { OnOk result (made.new ≡ made.old ++ map (tick_at time) flip_flops.now) }
+{
+    for &flip_flop in flip_flops {
+        made.push(tick_start(time, flip_flop))?;
+    }
+    Ok(())
 }
 
 /// For each stimulus, each of the inputs takes its value, unless that comes later than `until`.

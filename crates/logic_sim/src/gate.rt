@@ -32,7 +32,8 @@ fn count_high<C: Cells>(signals: &[u32], cells: &C) -> usize
         .count()
 }
 
-/// What a gate computes from the values of its fan-ins; an input computes nothing.
+/// What a gate computes from the values of its fan-ins; an input computes nothing, and a flip-flop
+/// takes the value of its source.
 #[inline(always)]
 pub(crate) fn computed_value<C: Cells>(form: &Form, cells: &C) -> u8
     requires { All (IsReadable (C.can_read cells.now)) (fan_in_of form.now) }
@@ -44,5 +45,6 @@ pub(crate) fn computed_value<C: Cells>(form: &Form, cells: &C) -> u8
             let fan_in = fan_in.items();
             output_of(*kind, count_high(fan_in, cells), fan_in.len())
         }
+        Form::Dff { source } => cells.value(2 * *source),
     }
 }

@@ -4,7 +4,7 @@ ghost use Rattle.rw_sets.specs.Accesses.{merged};
 ghost use Rattle.logic_sim.specs.Event.{value_place};
 ghost use Rattle.logic_sim.specs.Meaning.{eval_accesses};
 ghost use Rattle.logic_sim.specs.Tables.{AddsReader, ListsReaders, MarksOutputs, last_is, sets_among};
-ghost use Rattle.logic_sim.specs.Wiring.{fan_in_of, inputs_of};
+ghost use Rattle.logic_sim.specs.Wiring.{fan_in_of, flip_flops_of, inputs_of, watched_by};
 
 use bench_reader::{Form, Signal};
 use kdg_text::{NoRoom, NumList};
@@ -12,7 +12,7 @@ use rw_sets::{Access, RwSet};
 use std::alloc::Global;
 
 /// The primary inputs, in order.
-#[tactic(auto, using(crate::proofs::Ranges::inputs_input, crate::proofs::Ranges::inputs_gate))]
+#[tactic(auto, using(crate::proofs::Ranges::inputs_input, crate::proofs::Ranges::inputs_other))]
 pub(crate) fn input_numbers(alloc: Global, signals: &[Signal]) -> Result<NumList, NoRoom>
     requires { length signals.now ≤ 4096 }
     ensures { IfOk result (λ numbers. numbers ≡ inputs_of signals.now) }
@@ -20,6 +20,21 @@ pub(crate) fn input_numbers(alloc: Global, signals: &[Signal]) -> Result<NumList
     let mut numbers = NumList::new(alloc);
     for (number, signal) in signals.iter().enumerate() {
         if let Form::Input = signal.form {
+            numbers.push(number as u32)?;
+        }
+    }
+    Ok(numbers)
+}
+
+/// The flip-flops, in order.
+#[tactic(auto, using(crate::proofs::Ranges::flip_flops_one, crate::proofs::Ranges::flip_flops_other))]
+pub(crate) fn flip_flop_numbers(alloc: Global, signals: &[Signal]) -> Result<NumList, NoRoom>
+    requires { length signals.now ≤ 4096 }
+    ensures { IfOk result (λ numbers. numbers ≡ flip_flops_of signals.now) }
+{
+    let mut numbers = NumList::new(alloc);
+    for (number, signal) in signals.iter().enumerate() {
+        if let Form::Dff { .. } = signal.form {
             numbers.push(number as u32)?;
         }
     }
@@ -34,11 +49,19 @@ pub(crate) fn reader_lists(alloc: Global, signals: &[Signal]) -> Result<Vec<NumL
 {
     let mut table = empty_lists(alloc, signals.len())?;
     for (number, signal) in signals.iter().enumerate() {
-        if let Form::Gate { fan_in, .. } = &signal.form {
-            add_reader(&mut table, fan_in.items(), number as u32)?;
-        }
+        add_reader(&mut table, watched_by(&signal.form), number as u32)?;
     }
     Ok(table)
+}
+
+/// The signals of which each change has this one evaluated: a flip-flop waits for its clock.
+fn watched_by(form: &Form) -> &[u32]
+    ensures { result.now ≡ watched_by form.now }
+{
+    match form {
+        Form::Gate { fan_in, .. } => fan_in.items(),
+        Form::Input | Form::Dff { .. } => &[],
+    }
 }
 
 /// So many empty lists.
@@ -107,8 +130,8 @@ pub(crate) fn evaluation_sets(alloc: Global, signals: &[Signal]) -> Result<Vec<R
     Ok(sets)
 }
 
-/// The set that the evaluation of a gate declares: the values of its fan-ins are read, and what is
-/// planned for it is written. A fan-in that stands twice is there once.
+/// The set that the evaluation of a gate or the tick of a flip-flop declares: the values of its
+/// fan-ins are read, and what is planned for it is written. A fan-in that stands twice is there once.
 fn evaluation_set(alloc: Global, form: &Form, gate: u32) -> Result<RwSet, NoRoom>
     requires gate { gate < 4096 }
     requires fan_in { All (λ signal. signal < 4096) (fan_in_of form.now) }
@@ -117,6 +140,7 @@ fn evaluation_set(alloc: Global, form: &Form, gate: u32) -> Result<RwSet, NoRoom
     let mut pairs = match form {
         Form::Input => Vec::new(alloc),
         Form::Gate { fan_in, .. } => value_reads(alloc, fan_in.items())?,
+        Form::Dff { source } => value_reads(alloc, &[*source])?,
     };
     pairs.push((2 * gate + 1, Access::Write))?;
     Ok(RwSet::from_pairs(pairs))

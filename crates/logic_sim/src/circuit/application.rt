@@ -2,13 +2,13 @@ ghost use Rattle.std.specs.Prelude.{true, ◌≡◌, ◌==◌, ◌+◌, ◌-◌,
 ghost use Rattle.std.specs.List.{AllByRecursion};
 ghost use Rattle.app_laws.specs.Applications.{IsFitTask as IsTaskOf, IsTaken, IsEffect};
 ghost use Rattle.logic_sim.specs.Bundles.{IsEffectOn, child_of, computed_from};
-ghost use Rattle.logic_sim.specs.Event.{change_of, change_text, eval_at, eval_of, next_changes, plan_place, value_place};
+ghost use Rattle.logic_sim.specs.Event.{change_of, change_text, delay_of, eval_at, eval_of, next_changes, next_ticks, plan_place, tick_of, value_place};
 ghost use Rattle.logic_sim.specs.Meaning.{change_set, eval_set, simulation};
 ghost use Rattle.logic_sim.specs.Wiring.{fan_in_of, readers_of, signal_at};
 
 use super::Circuit;
 use crate::cells::Cells;
-use crate::event::{CHANGE, change_start, eval_start, push_change};
+use crate::event::{CHANGE, EVAL, change_start, eval_start, push_change, tick_start};
 use crate::gate::computed_value;
 use app_laws::{App, Child, ChildList, Effect, SetAnswer};
 use cell_store::{Bundle, Store, home_laws, location_laws, return_laws, value_laws};
@@ -87,8 +87,10 @@ impl App for Circuit {
         let Body { kind, at, arg } = task.body;
         if kind == CHANGE {
             self.change_effect(time, at, arg as u8, bundle)
-        } else {
+        } else if kind == EVAL {
             self.evaluation_effect(time, at, bundle)
+        } else {
+            self.tick_effect(time, at, bundle)
         }
     }
 
@@ -106,8 +108,10 @@ impl App for Circuit {
         let Body { kind, at, arg } = task.body;
         if kind == CHANGE {
             self.change(time, at, arg as u8, store)
-        } else {
+        } else if kind == EVAL {
             self.evaluate(time, at, store)
+        } else {
+            self.tick(time, at, store)
         }
     }
 
@@ -115,7 +119,7 @@ impl App for Circuit {
 }
 
 impl Circuit {
-    /// A copy of the set that the evaluation of a gate declares.
+    /// A copy of the set that the evaluation of a gate or the tick of a flip-flop declares.
     #[inline(always)]
     fn evaluation_set(&self, gate: u32) -> Result<RwSet, NoRoom>
         requires { gate < length self.now.deck.signals }
@@ -223,8 +227,8 @@ impl Circuit {
         Ok(children)
     }
 
-    /// Plans what the gate computes, unless it is planned. The gate then takes that value one unit
-    /// of time later, if that is not too late.
+    /// Plans what the gate computes, unless it is planned. The gate then takes that value after its
+    /// delay, if that is not too late.
     #[inline(always)]
     fn evaluate<C: Cells>(
         &self,
@@ -279,7 +283,92 @@ impl Circuit {
         }
     }
 
-    /// The change of a gate's signal one unit of time later, unless that is too late.
+    /// Plans the value of the flip-flop's source, unless it is planned. The flip-flop then takes that
+    /// value after its delay, and in any case ticks again when the clock next does, if these are not
+    /// too late.
+    #[inline(always)]
+    fn tick<C: Cells>(
+        &self,
+        time: u64,
+        flip_flop: u32,
+        cells: &mut C,
+    ) -> Result<(ChildList, Text), NoRoom>
+        requires in_range { flip_flop < length self.now.deck.signals }
+        requires time { time < 2 ^ 63 }
+        requires fan_in { AllByRecursion (λ signal. C.can_read cells.old (value_place signal)) (fan_in_of (signal_at self.now.deck.signals flip_flop).form) }
+        requires read { C.can_read cells.old (plan_place flip_flop) }
+        requires written { C.can_write cells.old (plan_place flip_flop) }
+        ensures cells { OnOk result (let value = computed_from (C.held cells.old) (signal_at self.now.deck.signals flip_flop).form in cells.new ≡ (if C.held cells.old (plan_place flip_flop) == value then cells.old else C.put_at cells.old (plan_place flip_flop) value)) }
+        ensures children { IfOk result (λ made. let value = computed_from (C.held cells.old) (signal_at self.now.deck.signals flip_flop).form in made.0 ≡ (if C.held cells.old (plan_place flip_flop) == value then [] else map (child_of self.now) (next_changes self.now time flip_flop value)) ++ map (child_of self.now) (next_ticks self.now time flip_flop)) }
+        ensures text { IfOk result (λ made. made.1 ≡ []) }
+        ensures unchanged { OnErr result (cells.new ≡ cells.old) }
+    {
+        let value = computed_value(&self.deck.signals.items()[flip_flop as usize].form, &*cells);
+        let place = 2 * flip_flop + 1;
+        if cells.value(place) == value {
+            let children = self.with_tick(time, flip_flop, ChildList::new(self.alloc))?;
+            return Ok((children, Text::new(self.alloc)));
+        }
+        let children = self.next_change(time, flip_flop, value)?;
+        let children = self.with_tick(time, flip_flop, children)?;
+        cells.put(place, value);
+        Ok((children, Text::new(self.alloc)))
+    }
+
+    /// A tick of a flip-flop in a bundle.
+    #[inline(always)]
+    fn tick_effect(
+        &self,
+        time: u64,
+        flip_flop: u32,
+        bundle: Bundle<u8>,
+    ) -> Result<Effect<u8>, Bundle<u8>>
+        requires in_range { flip_flop < length self.now.deck.signals }
+        requires time { time < 2 ^ 63 }
+        requires set { bundle.set ≡ eval_set self.now.deck flip_flop }
+        ensures effect { IfOk result (IsEffectOn self.now (eval_set self.now.deck flip_flop) (tick_of self.now time flip_flop) bundle) }
+        ensures returned { IfErr result (λ back. back ≡ bundle) }
+    {
+        location_laws::<u8>();
+        value_laws::<u8>();
+        let mut bundle = bundle;
+        match self.tick(time, flip_flop, &mut bundle) {
+            Ok((children, text)) => Ok(Effect {
+                bundle,
+                children,
+                text,
+            }),
+            Err(_) => Err(bundle),
+        }
+    }
+
+    /// The children with the next tick of a flip-flop behind them, unless that is too late.
+    fn with_tick(&self, time: u64, flip_flop: u32, children: ChildList) -> Result<ChildList, NoRoom>
+        requires in_range { flip_flop < length self.now.deck.signals }
+        requires time { time < 2 ^ 63 }
+        requires few { length children ≤ 1 }
+        ensures { IfOk result (λ all. all ≡ children ++ map (child_of self.now) (next_ticks self.now time flip_flop)) }
+    {
+        let mut children = children;
+        let tick = time + self.clock;
+        if tick <= self.until {
+            let set = self.evaluation_set(flip_flop)?;
+            push_child(&mut children, tick_start(tick, flip_flop), set)?;
+        }
+        Ok(children)
+    }
+
+    /// How long after its evaluation or tick a signal takes the value that was planned for it.
+    #[inline(always)]
+    fn delay(&self, signal: u32) -> u64
+        requires in_range { signal < length self.now.deck.signals }
+        ensures delay { result ≡ delay_of self.now signal }
+        ensures short { result ≤ 1000000 }
+    {
+        u64::from(self.deck.delays.items()[signal as usize])
+    }
+
+    /// The change of a gate's signal after its delay, unless that is too late.
     #[inline(always)]
     fn next_change(&self, time: u64, gate: u32, value: u8) -> Result<ChildList, NoRoom>
         requires in_range { gate < length self.now.deck.signals }
@@ -287,13 +376,11 @@ impl Circuit {
         ensures { IfOk result (λ children. children ≡ map (child_of self.now) (next_changes self.now time gate value)) }
     {
         let mut children = ChildList::new(self.alloc);
-        if time < self.until {
+        let next = time + self.delay(gate);
+        if next <= self.until {
             let set = change_set(self.alloc, gate)?;
-            push_child(
-                &mut children,
-                change_start(time + 1, gate, u64::from(value)),
-                set,
-            )?;
+            let start = change_start(next, gate, u64::from(value));
+            push_child(&mut children, start, set)?;
         }
         Ok(children)
     }

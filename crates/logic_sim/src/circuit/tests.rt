@@ -13,8 +13,19 @@ const C17: &[u8] =
     b"INPUT(1)\nINPUT(2)\nINPUT(3)\nINPUT(6)\nINPUT(7)\nOUTPUT(22)\nOUTPUT(23)\n10 = NAND(1, 3)\n11 = NAND(3, 6)\n16 = NAND(2, 11)\n19 = NAND(11, 7)\n22 = NAND(10, 16)\n23 = NAND(16, 19)\n";
 
 fn circuit_of(rt: &impl Abort, alloc: Global, deck: &[u8], until: u64) -> Result<Circuit, Fail> {
+    clocked(rt, alloc, deck, until, 10)
+}
+
+fn clocked(
+    rt: &impl Abort,
+    alloc: Global,
+    deck: &[u8],
+    until: u64,
+    clock: u64,
+) -> Result<Circuit, Fail> {
     assert!(rt; until <= 1_000_000_000);
-    Ok(Circuit::new(alloc, read_deck(alloc, deck)?, until)?)
+    assert!(rt; 1 <= clock && clock <= 1_000_000_000);
+    Ok(Circuit::new(alloc, read_deck(alloc, deck)?, until, clock)?)
 }
 
 /// What a run leaves, and the print of its cells.
@@ -127,6 +138,62 @@ fn circuits_run_to_their_end(rt: HostRuntime) -> Result<(), Fail> {
         assert_eq!(rt; log_text.bytes(), log);
         assert_eq!(rt; last_text.bytes(), last_lines);
         assert_eq!(rt; tasks, count);
+    }
+    Ok(())
+}
+
+/// The ISCAS-89 circuit s27.
+const S27: &[u8] =
+    b"INPUT(G0)\nINPUT(G1)\nINPUT(G2)\nINPUT(G3)\nOUTPUT(G17)\nG5 = DFF(G10)\nG6 = DFF(G11)\nG7 = DFF(G13)\nG14 = NOT(G0)\nG17 = NOT(G11)\nG8 = AND(G14, G6)\nG15 = OR(G12, G8)\nG16 = OR(G3, G8)\nG9 = NAND(G16, G15)\nG10 = NOR(G14, G11)\nG11 = NOR(G5, G9)\nG12 = NOR(G1, G7)\nG13 = NOR(G2, G12)\n";
+
+#[test]
+fn flip_flops_and_delays(rt: HostRuntime) -> Result<(), Fail> {
+    let rows: [(&[u8], u64, u64, &[u8], &[u8], u64); 5] = [
+        (b"INPUT(d)\nq = DFF(d)", 1000, 10, b"", b"", 100),
+        (
+            b"OUTPUT(q)\nn = NOT(q)\nq = DFF(n)",
+            7,
+            3,
+            b"4 q 1\n7 q 0\n",
+            b"final q 0\n",
+            9,
+        ),
+        // no tick in time
+        (
+            b"OUTPUT(q)\nn = NOT(q)\nq = DFF(n)",
+            7,
+            8,
+            b"",
+            b"final q 0\n",
+            2,
+        ),
+        (
+            b"INPUT(a)\nOUTPUT(x)\nx = NOT(a)\n@delay x 3\n@ 5 1",
+            1000,
+            10,
+            b"3 x 1\n8 x 0\n",
+            b"final x 0\n",
+            5,
+        ),
+        (
+            S27,
+            100,
+            10,
+            b"1 G17 1\n2 G17 0\n3 G17 1\n",
+            b"final G17 1\n",
+            63,
+        ),
+    ];
+    for (deck, until, clock, log, last_lines, count) in rows {
+        let circuit = clocked(&rt, rt.alloc(), deck, until, clock)?;
+        assert_eq!(rt;
+            circuit.first_task_count(),
+            circuit.first_tasks()?.items().len() as u64
+        );
+        let (finals, last_text) = run(rt.alloc(), &circuit, 100)?;
+        assert_eq!(rt; finals.text.bytes(), log);
+        assert_eq!(rt; last_text.bytes(), last_lines);
+        assert_eq!(rt; finals.count, count);
     }
     Ok(())
 }

@@ -11,7 +11,7 @@ loop-before-preserved c =
 pub returns-clause-sound : goal.returns-clause-sound
 returns-clause-sound c =
     let all : c.loop-before.before ≡ c.args.n = omega arith in
-    parts-sound c.args.n c.loop-before.signals c.push-2.new.self c.new.result c.requires.few
+    parts-sound c.args.n c.loop-before.signals c.push-2.new.self c.new.result c.in_ok-delays.delays c.requires.few
     (c.loop-before.invariant ∙ ap chain_signals all)
     (c.in_ok-push-3.ensures.ok ∙ ap (λ (outputs : List ℕ). outputs ++ c.args.n ∷ []) c.new-outputs.ensures)
-    c.new.ensures
+    c.new.ensures c.in_ok-delays.ensures
