@@ -13,7 +13,8 @@ use crate::laws::basis;
 use crate::pending::Pending;
 use crate::{Engine, OverCause};
 use app_laws::{App, act_at_home};
-use kdg_graph::{Graph, NodeId, node_laws, source_laws};
+use kdg_graph::laws::{node_laws, source_laws};
+use kdg_graph::{Graph, NodeId};
 use kdg_text::{NoRoom, Steps};
 use std::sync::ledger::Ledger;
 

@@ -8,7 +8,8 @@ ghost use Rattle.graph_update.specs.Engine.{AreFirstNodes};
 
 use app_laws::{App, SetAnswer, lawful};
 use cell_store::{Store, value_laws};
-use kdg_graph::{Graph, put_laws};
+use kdg_graph::Graph;
+use kdg_graph::laws::put_laws;
 use kdg_text::{NoRoom, Steps};
 use rw_sets::RwSet;
 use std::alloc::Global;

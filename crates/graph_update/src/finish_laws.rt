@@ -5,7 +5,7 @@ ghost use Rattle.graph_update.specs.Laws.{FinishesKeepSound};
 use app_laws::{App, family_laws, lawful};
 use cell_store::{location_laws, return_laws, value_laws};
 use commuting::{clear_tasks_stay_clear, independent_tasks_commute};
-use kdg_graph::{node_laws, rewrite_laws};
+use kdg_graph::laws::{node_laws, rewrite_laws};
 use output_log::{part_laws, put_laws};
 use rw_sets::{conflict_laws, independence_laws, merge_laws, within_laws};
 use task_order::{earlier_laws, key_order, put_all_laws, put_in_laws, without_laws};

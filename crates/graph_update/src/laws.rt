@@ -7,7 +7,7 @@ use crate::finish_laws::sound_finish_laws;
 use app_laws::{App, lawful};
 use cell_store::{location_laws, value_laws};
 use commuting::standing_laws;
-use kdg_graph::{node_laws, put_laws};
+use kdg_graph::laws::{node_laws, put_laws};
 use output_log::part_laws;
 use rw_sets::{conflict_laws, independence_laws, within_laws};
 use task_order::{earlier_laws, put_all_laws};

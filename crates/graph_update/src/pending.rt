@@ -7,7 +7,8 @@ ghost use Rattle.graph_update.specs.Engine.{AreCovered, HaveFixedSets};
 
 use crate::laws::lower_laws;
 use app_laws::App;
-use kdg_graph::{Graph, NodeId, node_laws, source_laws, writer_laws};
+use kdg_graph::laws::{node_laws, source_laws, writer_laws};
+use kdg_graph::{Graph, NodeId};
 use std::marker::Model;
 use task_order::{PendingTasks, Task};
 

@@ -9,7 +9,8 @@ ghost use Rattle.graph_update.specs.Events.{clear_nodes};
 
 use crate::pending::Pending;
 use app_laws::App;
-use kdg_graph::{Graph, NodeId, node_laws, source_laws};
+use kdg_graph::laws::{node_laws, source_laws};
+use kdg_graph::{Graph, NodeId};
 use kdg_text::NoRoom;
 use std::alloc::Global;
 use tiered_list::TieredList;

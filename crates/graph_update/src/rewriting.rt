@@ -13,7 +13,8 @@ ghost use Rattle.graph_update.specs.Events.{fresh_from, renewals, renewed};
 
 use app_laws::{App, Child, SetAnswer};
 use cell_store::Store;
-use kdg_graph::{Fresh, Graph, NodeId, SetChange, later_laws, node_laws};
+use kdg_graph::laws::{later_laws, node_laws};
+use kdg_graph::{Fresh, Graph, NodeId, SetChange};
 use kdg_text::{NoRoom, Steps};
 use rw_sets::RwSet;
 use std::alloc::Global;

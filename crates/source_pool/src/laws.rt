@@ -9,7 +9,7 @@ use graph_update::{
     claim_laws, clear_laws, drain_laws, finish_state_laws, renaming_laws, sound_finish_laws,
     stay_clear_laws,
 };
-use kdg_graph::{node_laws, put_laws};
+use kdg_graph::laws::{node_laws, put_laws};
 use output_log::{join_laws, part_laws};
 use rw_sets::conflict_laws;
 use task_order::{earlier_laws, key_order, put_all_laws, put_in_laws, without_laws};

@@ -6,13 +6,12 @@ mod claiming;
 mod draining;
 mod finishing;
 mod hands;
-mod laws;
+pub mod laws;
 mod performing;
 mod round_lists;
 mod rounds;
 
 pub use graph_update::OverCause as RunFault;
-pub use laws::{acting_laws, draining_laws, drawing_laws, ending_laws, leg_laws, rounds_laws};
 pub use rounds::run_rounds;
 
 #[cfg(test)]

@@ -1,5 +1,0 @@
-use Rattle.engine_rows.specs.InHand.{AreInHand}
-use Rattle.engine_rows.proofs.driving.give_first_tasks.Given as goal
-
-abbrev pub invariant-loop-pick : goal.invariant-loop-pick
-invariant-loop-pick g l = AreInHand (g.A.App.meaning l.engine.app) l.engine.progress l.jobs.items

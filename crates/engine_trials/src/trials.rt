@@ -1,0 +1,129 @@
+//! Whole trials: an engine that has begun is driven, and what there is to see is handed out.
+
+ghost use Rattle.std.specs.Prelude.{[]};
+ghost use Rattle.engine_trials.specs.InHand.{AreInHand};
+
+use super::driving::{
+    Answer, answer_of, claim, finish_all, give_first_tasks, gives, perform_next, value_left,
+};
+use app_laws::{App, Finals};
+use cell_store::Held;
+use graph_update::{Counts, Done, Engine, FinishFault};
+use kdg_text::{NoRoom, Text};
+use std::alloc::Global;
+use task_order::Path;
+
+/// What one more claim answers once claims with these picks have given the first tasks of the
+/// numbers beside them. There is none where one of them gives another task.
+pub fn answer_after<A: App>(
+    alloc: Global,
+    engine: Engine<'_, A>,
+    picked: &[(u64, u32)],
+) -> Result<Option<Answer>, NoRoom>
+    requires { AreInHand (A.meaning engine.app) engine.progress [] }
+{
+    let mut engine = engine;
+    let mut jobs = Vec::new(alloc);
+    if !give_first_tasks(alloc, &mut engine, &mut jobs, picked)? {
+        return Ok(None);
+    }
+    Ok(Some(claim(&mut engine, &mut jobs, 0)?))
+}
+
+/// How far it has come once the first tasks of these picks have all ended and a claim has given the
+/// task of the path. There is none where another task is given, or one does not end.
+pub fn counts_after<A: App>(
+    alloc: Global,
+    engine: Engine<'_, A>,
+    picked: &[(u64, u32)],
+    path: &Path,
+) -> Result<Option<Counts>, NoRoom>
+    requires { AreInHand (A.meaning engine.app) engine.progress [] }
+{
+    let mut engine = engine;
+    let mut jobs = Vec::new(alloc);
+    if !give_first_tasks(alloc, &mut engine, &mut jobs, picked)? {
+        return Ok(None);
+    }
+    let Ok(()) = finish_all(&mut engine, &mut jobs) else {
+        return Ok(None);
+    };
+    if !gives(&mut engine, &mut jobs, 0, path)? {
+        return Ok(None);
+    }
+    Ok(Some(engine.counts()))
+}
+
+/// The first task once it was performed, and the value that it leaves at a location of its set.
+pub fn first_done<A: App>(
+    alloc: Global,
+    engine: Engine<'_, A>,
+    loc: u32,
+) -> Result<Option<(Done<A::Val>, A::Val)>, NoRoom>
+    requires { AreInHand (A.meaning engine.app) engine.progress [] }
+{
+    let mut engine = engine;
+    let mut jobs = Vec::new(alloc);
+    let Some(done) = perform_next(&mut engine, &mut jobs)? else {
+        return Ok(None);
+    };
+    let value = match value_left(&engine, &done, loc) {
+        Some(value) => value.copy()?,
+        None => return Ok(None),
+    };
+    Ok(Some((done, value)))
+}
+
+/// How the first task ends, and what a claim answers then.
+pub fn first_end<A: App>(
+    alloc: Global,
+    engine: Engine<'_, A>,
+) -> Result<Option<(Result<(), FinishFault<A::Val>>, Answer)>, NoRoom>
+    requires { AreInHand (A.meaning engine.app) engine.progress [] }
+{
+    let mut engine = engine;
+    let mut jobs = Vec::new(alloc);
+    let Some(done) = perform_next(&mut engine, &mut jobs)? else {
+        return Ok(None);
+    };
+    let ended = engine.finish_uncounted(done);
+    let answer = answer_alone(&mut engine)?;
+    Ok(Some((ended, answer)))
+}
+
+/// What a claim answers whose job is let go.
+fn answer_alone<A: App>(engine: &mut Engine<'_, A>) -> Result<Answer, NoRoom> {
+    let claim = engine.claim(0)?;
+    Ok(answer_of(&claim))
+}
+
+/// What a claim answers after giving up.
+pub fn answer_given_up<A: App>(engine: Engine<'_, A>) -> Result<Answer, NoRoom> {
+    let mut engine = engine;
+    engine.give_up();
+    answer_alone(&mut engine)
+}
+
+/// What a claim answers, what is drained then, and how many tasks have ended where none is pending.
+pub fn end_at_once<A: App>(engine: Engine<'_, A>) -> Result<(Answer, Text, Option<u64>), NoRoom> {
+    let mut engine = engine;
+    let answer = answer_alone(&mut engine)?;
+    let text = engine.drain()?;
+    Ok((answer, text, end_count(engine)?))
+}
+
+/// How many tasks have ended, where none is pending.
+fn end_count<A: App>(engine: Engine<'_, A>) -> Result<Option<u64>, NoRoom> {
+    match finals_of(engine)? {
+        Some(finals) => Ok(Some(finals.count)),
+        None => Ok(None),
+    }
+}
+
+/// What an engine comes to, where no task is pending.
+pub fn finals_of<A: App>(engine: Engine<'_, A>) -> Result<Option<Finals<A::Val>>, NoRoom> {
+    match engine.graph().least() {
+        Some(_) => Ok(None),
+        None => Ok(Some(engine.end()?)),
+    }
+}
