@@ -15,12 +15,12 @@ use Rattle.kdg_graph.specs.Node.{Node}
 use Rattle.kdg_graph.specs.Nodes.{node_at, node_with_key, set_at}
 use Rattle.app_laws.specs.Applications.{Application, IsEffect}
 use Rattle.app_laws.specs.declared.app.Effect.{Effect}
-use Rattle.graph_update.specs.declared.job.Done.{Done}
-use Rattle.graph_update.specs.declared.job.Job.{Job}
-use Rattle.graph_update.specs.Engine.{FinishStaysSound, IsDone, MayRun, StaysSound}
-use Rattle.graph_update.specs.Jobs.{JobsMayRun}
-use Rattle.graph_update.specs.Progress.{Progress}
-use Rattle.graph_update.specs.Sound.{IsOfNode}
+use Rattle.run_laws.specs.Jobs.{Done, Job}
+use Rattle.graph_update.specs.Engine.{FinishStaysSound, StaysSound}
+use Rattle.run_laws.specs.Laws.{IsDone, JobsMayRun}
+use Rattle.crew.specs.Jobs.{MayRun}
+use Rattle.run_laws.specs.Progress.{Progress}
+use Rattle.run_laws.specs.Sound.{IsOfNode}
 use Rattle.engine_trials.specs.InHand.{AreInHand, IsDoneBeside}
 
 -- ---- lists

@@ -1,11 +1,10 @@
 -- An execution with the jobs in hand.
 use Rattle.std.specs.Prelude.{List}
 use Rattle.app_laws.specs.Applications.{Application}
-use Rattle.graph_update.specs.declared.job.Done.{Done}
-use Rattle.graph_update.specs.declared.job.Job.{Job}
-use Rattle.graph_update.specs.Laws.{IsPerformed}
-use Rattle.graph_update.specs.Progress.{Progress}
-use Rattle.graph_update.specs.Sound.{IsSound}
+use Rattle.run_laws.specs.Jobs.{Done, Job}
+use Rattle.crew.specs.Jobs.{IsPerformed}
+use Rattle.run_laws.specs.Progress.{Progress}
+use Rattle.run_laws.specs.Sound.{IsSound}
 
 module _ {V : Type 0} (app : Application V) where
   -- the jobs in hand are those of the running tasks

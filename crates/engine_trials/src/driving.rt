@@ -2,15 +2,17 @@
 
 ghost use Rattle.std.specs.Prelude.{◌≡◌, ◌+◌, ◌<◌, ◌≤◌, ◌^◌, [], length, IfOk, IfErr, IfSome, OnOk};
 ghost use Rattle.app_laws.specs.Applications.{AreFitStarts};
-ghost use Rattle.graph_update.specs.Engine.{IsBeginFault, IsDone};
+ghost use Rattle.graph_update.specs.Engine.{IsBeginFault};
+ghost use Rattle.run_laws.specs.Laws.{IsDone};
 ghost use Rattle.engine_trials.specs.InHand.{AreInHand, IsDoneBeside};
 
 use app_laws::App;
 use cell_store::Held;
-use graph_update::{BeginFault, Claim, Done, Engine, Job, OverCause, job_laws, perform};
+use graph_update::{BeginFault, Claim, Done, Engine, Job, OverCause, perform};
 use kdg_graph::laws::node_laws;
 use kdg_text::NoRoom;
 use outer_edge::Still;
+use run_laws::job_laws;
 use std::alloc::Global;
 use task_order::{Path, StartList};
 

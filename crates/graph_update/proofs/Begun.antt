@@ -1,22 +1,21 @@
 -- An execution that has just begun.
 use Rattle.std.proofs.Common.{◌≡◌, ℕ, ◌+◌, ◌≤◌, List, [], None, length, refl, subst, arith}
 use Rattle.task_order.specs.declared.start.Start.{Start}
-use Rattle.task_order.specs.Laws.{PutAllAddsEach}
 use Rattle.cell_store.specs.declared.cell.Cell.{Cell}
 use Rattle.cell_store.specs.Values.{homes}
 use Rattle.output_log.specs.Entries.{Entry}
 use Rattle.kdg_graph.specs.Node.{Node}
 use Rattle.app_laws.specs.Applications.{Application, AreFitStarts}
-use Rattle.graph_update.specs.Answers.{IsBegun}
-use Rattle.graph_update.specs.Engine.{AreFirstNodes, HaveFixedSets, IsKept, most_tasks}
-use Rattle.graph_update.specs.Laws.{BeginningsAreSound}
-use Rattle.graph_update.specs.Progress.{Progress}
-use Rattle.graph_update.specs.Sound.{IsSound}
-use Rattle.graph_update.proofs.Beginnings.{as_many_first_nodes}
+use Rattle.run_laws.specs.Answers.{IsBegun, AreFirstNodes}
+use Rattle.graph_update.specs.Engine.{HaveFixedSets, IsKept, most_tasks}
+use Rattle.run_laws.specs.Laws.{BeginningsAreSound}
+use Rattle.run_laws.specs.Progress.{Progress}
+use Rattle.run_laws.specs.Renaming.{FirstNodesAreAsMany}
+use Rattle.run_laws.specs.Sound.{IsSound}
 use Rattle.graph_update.proofs.FixedSets.{first_are_fixed}
 
 module _ {V : Type 0} (app : Application V) (cells values : List V) (first starts : List Start) (budget : ℕ) (store : List (Cell V)) (nodes : List Node) (log : List Entry)
-    (same : values ≡ cells) (listed : starts ≡ first) (home : store ≡ homes cells) (are : AreFirstNodes app values starts nodes) (empty : log ≡ []) (adds_each : PutAllAddsEach) where
+    (same : values ≡ cells) (listed : starts ≡ first) (home : store ≡ homes cells) (are : AreFirstNodes app values starts nodes) (empty : log ≡ []) (as_many : FirstNodesAreAsMany app) where
   abbrev fresh : Progress V
   fresh = record { cells = store; nodes = nodes; log = log; created = 0 + length nodes; ended = 0; limit = budget; over = None }
 
@@ -24,7 +23,7 @@ module _ {V : Type 0} (app : Application V) (cells values : List V) (first start
   of_cells = subst (λ held. AreFirstNodes app held first nodes) same (subst (λ (held : List Start). AreFirstNodes app values held nodes) listed are)
 
   many : 0 + length nodes ≡ length first
-  many = let same = as_many_first_nodes adds_each app cells first nodes of_cells in omega (arith, same)
+  many = let same = as_many cells first nodes of_cells in omega (arith, same)
 
   pub begun : IsBegun app cells first budget fresh
   begun = record {

@@ -1,63 +1,22 @@
--- A claim takes one of the clear nodes.
-use Rattle.std.proofs.Common.{◌≡◌, ◌≢◌, ℕ, zero, suc, ◌&&◌, not, ◌%◌, Bool, true, false, cond, List, [], ◌∷◌, Some, None, length, slice_get, refl, sym, ap, subst, ◌∙◌, eq-eqb, eqb-true}
+-- The ids of nodes without that of one.
+use Rattle.std.proofs.Common.{◌≡◌, ◌≢◌, ℕ, zero, suc, not, ◌%◌, Bool, true, false, cond, List, [], ◌∷◌, Some, None, length, slice_get, refl, sym, ap, subst, ◌∙◌, eq-eqb, eqb-true}
 use Rattle.std.specs.Prelude.{remove}
 use Rattle.std.specs.List.{AllByRecursion, filter}
 use lib.ListN.{length-map}
 use Rattle.kdg_graph.specs.declared.node_id.NodeId.{NodeId}
 use Rattle.kdg_graph.specs.Node.{Node}
-use Rattle.kdg_graph.specs.Nodes.{HaveOwnIds, IsGraph, ids_of, is_at, started}
+use Rattle.kdg_graph.specs.Nodes.{HaveOwnIds, IsGraph, ids_of, is_at}
 use Rattle.kdg_graph.specs.Rewrite.{without}
 use Rattle.app_laws.specs.Applications.{Application}
-use Rattle.graph_update.specs.Basis.{Basis, LowerLaws}
-use Rattle.graph_update.specs.Events.{clear_nodes, is_clear}
-use Rattle.graph_update.specs.Laws.{ClaimsTakeOneClear}
-use Rattle.graph_update.specs.Progress.{Progress}
-use Rattle.graph_update.specs.Sound.{is_unblocked}
-use Rattle.graph_update.proofs.Members.{all-filter, all_at}
-use Rattle.graph_update.proofs.Claims.{found_is_there}
+use Rattle.run_laws.specs.Events.{clear_nodes, is_clear}
+use Rattle.graph_update.proofs.Members.{all-filter, all_at, found_is_there}
 use Rattle.graph_update.proofs.Picked.{IsPicked}
-use Rattle.graph_update.proofs.Starting.{start, unblocked_started}
 
 pub Some-injective : {X : Type 0} (a b : X) → Some a ≡ Some b → a ≡ b
 Some-injective a b same = cc
 
 none_is_not_some : {X : Type 0} (x : X) → None ≡ Some x → ⊥
 none_is_not_some x same = cc
-
--- ---- nodes
-
-module _ {V : Type 0} (app : Application V) (lower : LowerLaws) where
-  -- of some of the nodes, the clear ones are those of before but for the started one
-  others_clear : (id : NodeId) (nodes some : List Node) → filter (is_clear app (started id nodes)) (started id some) ≡ without id (filter (is_clear app nodes) some)
-  others_clear id nodes [] = refl
-  others_clear id nodes (node ∷ some) = by_case (is_at id node) refl (others_clear id nodes some)
-    where
-      same_way : is_at id node ≡ false → is_unblocked app (started id nodes) node ≡ is_unblocked app nodes node
-      same_way is =
-          let same : start id node ≡ node = ap (λ test. cond test (record node { running = true }) node) is in
-          ap (is_unblocked app (started id nodes)) (sym same) ∙ unblocked_started app lower id nodes node
-
-      by_case : (test : Bool) → is_at id node ≡ test → filter (is_clear app (started id nodes)) (started id some) ≡ without id (filter (is_clear app nodes) some)
-          → filter (is_clear app (started id nodes)) (cond test (record node { running = true }) node ∷ started id some) ≡ without id (filter (is_clear app nodes) (node ∷ some))
-      by_case true is rest = rest ∙ elim (is_clear app nodes node) as (λ b. without id (filter (is_clear app nodes) some) ≡ without id (cond b (node ∷ filter (is_clear app nodes) some) (filter (is_clear app nodes) some))) [
-        | true ↦ sym (ap (λ b. cond (not b) (node ∷ without id (filter (is_clear app nodes) some)) (without id (filter (is_clear app nodes) some))) is)
-        | false ↦ refl
-      ]
-      by_case false is rest =
-          ap (λ free. cond (not node.running && free) (node ∷ filter (is_clear app (started id nodes)) (started id some)) (filter (is_clear app (started id nodes)) (started id some))) (same_way is)
-          ∙ elim (is_clear app nodes node) as (λ b. cond b (node ∷ filter (is_clear app (started id nodes)) (started id some)) (filter (is_clear app (started id nodes)) (started id some)) ≡ without id (cond b (node ∷ filter (is_clear app nodes) some) (filter (is_clear app nodes) some))) [
-            | true ↦ ap (λ others. node ∷ others) rest ∙ sym (ap (λ b. cond (not b) (node ∷ without id (filter (is_clear app nodes) some)) (without id (filter (is_clear app nodes) some))) is)
-            | false ↦ rest
-          ]
-
-  pub others_stay_clear : (id : NodeId) (nodes : List Node) → clear_nodes app (started id nodes) ≡ without id (clear_nodes app nodes)
-  others_stay_clear id nodes = others_clear id nodes nodes
-
-pub claims_take_one_clear : {V : Type 0} {app : Application V} → Basis app → ClaimsTakeOneClear app
-claims_take_one_clear {app = app} basis old now pick job claimed =
-    ap (λ (p : Progress _). clear_nodes app p.nodes) claimed.after ∙ others_stay_clear app basis.lower claimed.node.id old.nodes
-
--- ---- ids
 
 own-filter : (test : Node → Bool) (nodes : List Node) → HaveOwnIds nodes → HaveOwnIds (filter test nodes)
 own-filter test [] own = tt
@@ -91,14 +50,13 @@ id_taken (first ∷ nodes) (suc place) node own is =
     ap (λ test. ids_of (cond (not test) (first ∷ without node.id nodes) (without node.id nodes))) (other_at node.id first (λ same. differs (sym same)))
     ∙ ap (λ ids. first.id ∷ ids) (id_taken nodes place node own.1 is)
 
--- after a claim the ids of the clear nodes are those of before without the picked one
-pub ids_after : {V : Type 0} (app : Application V) → LowerLaws → (nodes : List Node) → IsGraph nodes → (pick : ℕ) (id : NodeId) → IsPicked app nodes pick id
-    → (ids left : List NodeId) → ids ≡ ids_of (clear_nodes app nodes) → left ≡ remove ids (pick % length ids) → (now : List Node) → now ≡ started id nodes → left ≡ ids_of (clear_nodes app now)
-ids_after app lower nodes graph pick id picked ids left are left_is now now_is =
+-- without the picked one, the ids of the clear nodes are those of the others
+pub picked_taken : {V : Type 0} (app : Application V) → (nodes : List Node) → IsGraph nodes → (pick : ℕ) (id : NodeId) → IsPicked app nodes pick id
+    → (ids left : List NodeId) → ids ≡ ids_of (clear_nodes app nodes) → left ≡ remove ids (pick % length ids) → left ≡ ids_of (without id (clear_nodes app nodes))
+picked_taken app nodes graph pick id picked ids left are left_is =
     let clear = clear_nodes app nodes in
     let many : length (ids_of clear) ≡ length clear = length-map clear (λ (n : Node). n.id) in
     let own = own-filter (is_clear app nodes) nodes graph.own_ids in
     left_is ∙ ap (λ (held : List NodeId). remove held (pick % length held)) are ∙ ap (λ m. remove (ids_of clear) (pick % m)) many
     ∙ sym (id_taken clear (pick % length clear) picked.node own picked.chosen)
     ∙ ap (λ one. ids_of (without one clear)) picked.id_is
-    ∙ sym (ap (λ held. ids_of (clear_nodes app held)) now_is ∙ ap ids_of (others_stay_clear app lower id nodes))

@@ -1,8 +1,9 @@
 -- A clear node that is named by its id is claimed, and its task is performed and ended.
-use Rattle.std.proofs.Common.{◌≡◌, ℕ, ◌+◌, ◌%◌, ◌<◌, ◌≤◌, true, false, cond, List, [], ◌∷◌, Option, Some, None, length, slice_get, refl, sym, ap, subst, ◌∙◌, arith, inr}
+use Rattle.std.proofs.Common.{◌≡◌, ℕ, ◌+◌, ◌%◌, ◌<◌, ◌≤◌, true, false, cond, List, [], ◌∷◌, Option, Some, None, length, slice_get, refl, sym, ap, subst, ◌∙◌, arith, eq-eqb, inr}
 use Rattle.std.specs.Prelude.{Contains, IsSome}
 use Rattle.std.specs.List.{filter}
-use Rattle.std.specs.Option.{option_or}
+use Rattle.std.specs.Option.{option_map, option_or}
+use lib.ListN.{length-map}
 use Rattle.std.specs.Ordering.{is_lt}
 use Rattle.std.proofs.Math.Nat.{mod-eq_of_lt}
 use Rattle.std.proofs.lemmas.Option.{same_Some, slice_get_read}
@@ -19,24 +20,24 @@ use Rattle.kdg_graph.specs.Node.{Node}
 use Rattle.kdg_graph.specs.Nodes.{HasNode, IsGraph, ids_of, is_at, later_than, node_at, set_at, started, task_at}
 use Rattle.app_laws.specs.declared.child.Child.{Child}
 use Rattle.app_laws.specs.Applications.{Application, IsDoneAtHome}
-use Rattle.graph_update.specs.declared.answers.OverCause.{OverCause}
-use Rattle.graph_update.specs.declared.answers.OverCause.TheVariants as cause
-use Rattle.graph_update.specs.declared.job.Done.{Done}
-use Rattle.graph_update.specs.declared.job.Job.{Job}
-use Rattle.graph_update.specs.Acting.{HasActed, IsActFault, IsPlayed, IsStarted}
+use Rattle.crew.specs.declared.answers.OverCause.{OverCause}
+use Rattle.crew.specs.declared.answers.OverCause.TheVariants as cause
+use Rattle.run_laws.specs.Jobs.{Done, Job}
+use Rattle.run_laws.specs.Acting.{HasActed, IsActFault, IsPlayed, IsStarted}
 use Rattle.graph_update.specs.AtHome.{IsBackHome, IsEndFault, done_of}
 use Rattle.graph_update.specs.Basis.{Basis}
-use Rattle.graph_update.specs.Engine.{IsDone, IsKept, IsOfClear, MayRun}
-use Rattle.graph_update.specs.Events.{IsFinished, IsOverLimit, clear_nodes, is_clear}
-use Rattle.graph_update.specs.Laws.{IsPerformed}
-use Rattle.graph_update.specs.Progress.{EngineState, Progress}
-use Rattle.graph_update.specs.Sound.{IsSound}
-use Rattle.graph_update.proofs.Claims.{found_is_there}
+use Rattle.run_laws.specs.Laws.{IsDone}
+use Rattle.graph_update.specs.Engine.{IsKept, EngineState}
+use Rattle.run_laws.specs.Events.{IsOfClear, IsFinished, IsOverLimit, clear_nodes, is_clear}
+use Rattle.crew.specs.Jobs.{MayRun, IsPerformed}
+use Rattle.run_laws.specs.Progress.{Progress}
+use Rattle.run_laws.specs.Sound.{IsSound}
+use Rattle.graph_update.proofs.Members.{found_is_there, from_filter}
 use Rattle.graph_update.proofs.ClearClaims.{claimed, has_node, may_run, picked_home, sound_after}
-use Rattle.graph_update.proofs.Marks.{sound_marked}
-use Rattle.graph_update.proofs.Members.{from_filter, in_map}
 use Rattle.graph_update.proofs.Picked.{IsPicked, pick_is}
-use Rattle.graph_update.proofs.Starting.{as_many_started, start, start_runs, started_graph}
+
+abbrev start : NodeId → Node → Node
+start id node = cond (is_at id node) (record node { running = true }) node
 
 -- ---- the later nodes
 
@@ -122,7 +123,7 @@ module _ {V : Type 0} {app : Application V} (basis : Basis app) (old : Progress 
       midway = midway_of old set nodes
 
       same_count : old.ended + length nodes ≡ old.created
-      same_count = ap (λ count. old.ended + count) (as_many_started id old.nodes nodes nodes_are) ∙ sym kept.sound.keys_and_counts.created
+      same_count = ap (λ count. old.ended + count) (ap length nodes_are ∙ length-map old.nodes (start id)) ∙ sym kept.sound.keys_and_counts.created
 
       is_started : IsStarted app old id midway job
       is_started = record {
@@ -135,7 +136,7 @@ module _ {V : Type 0} {app : Application V} (basis : Basis app) (old : Progress 
       sound_midway = sound_after basis old kept clear.0 id picked task task set (part_of old.cells set) (cells_taken old.cells set) nodes task_is refl set_is refl refl nodes_are kept.jobs kept.values kept.sound
 
       kept_midway : (over : Option OverCause) → IsKept app (record midway { over = over })
-      kept_midway over = record { jobs = job ∷ kept.jobs; values = kept.values; sound = sound_marked basis midway over (job ∷ kept.jobs) kept.values sound_midway; limited = kept.limited }
+      kept_midway over = record { jobs = job ∷ kept.jobs; values = kept.values; sound = basis.marks.any_mark midway over (job ∷ kept.jobs) kept.values sound_midway; limited = kept.limited }
 
       abbrev node : Node
       node = picked.node
@@ -155,13 +156,11 @@ module _ {V : Type 0} {app : Application V} (basis : Basis app) (old : Progress 
       started_is : nodes ≡ started node.id old.nodes
       started_is = nodes_are ∙ ap (λ (one : NodeId). started one old.nodes) (sym picked.id_is)
 
-      there_now : Contains (started node.id old.nodes) running
-      there_now = subst (Contains (started node.id old.nodes)) (start_runs node) (in_map (start node.id) old.nodes node there)
-
       after : node_at nodes id ≡ Some running
       after =
-          ap (λ (nodes : List Node). node_at nodes id) started_is ∙ ap (node_at (started node.id old.nodes)) (sym picked.id_is)
-          ∙ basis.lower.have_ids (started node.id old.nodes) running (started_graph basis.lower node.id old.nodes graph) there_now
+          let own : is_at id node ≡ true = eq-eqb node.id.at id.at (ap (λ (one : NodeId). one.at) picked.id_is) in
+          ap (λ (nodes : List Node). node_at nodes id) nodes_are ∙ basis.starts_mark id old.nodes id ∙ ap (option_map (start id)) before
+          ∙ ap (λ test. Some (cond test running node)) own
 
       -- the later nodes in conflict are those of before
       steps_before : (first last : ℕ) → ((of : Node) → node_at nodes id ≡ Some of → last ≤ first + length (laters_of nodes of)) → (of : Node) → node_at old.nodes id ≡ Some of → last ≤ first + length (laters_of old.nodes of)

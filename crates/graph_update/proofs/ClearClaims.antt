@@ -1,6 +1,7 @@
 -- A claim takes a clear node.
-use Rattle.std.proofs.Common.{◌≡◌, ◌≢◌, ℕ, ◌+◌, ◌||◌, Bool, true, false, List, [], ◌∷◌, Option, Some, length, is_some, refl, sym, ap, subst, ◌∙◌}
-use Rattle.std.specs.Prelude.{Contains, IsSome}
+use Rattle.std.proofs.Common.{◌≡◌, ◌≢◌, ℕ, ◌+◌, ◌%◌, cond, ◌||◌, Bool, true, false, List, [], ◌∷◌, Option, Some, length, is_some, refl, sym, ap, subst, ◌∙◌}
+use Rattle.std.specs.Prelude.{Contains, IsSome, remove}
+use lib.ListN.{length-map}
 use Rattle.std.specs.List.{list_any}
 use Rattle.std.specs.Option.{option_map}
 use Rattle.std.proofs.lemmas.Bool.{true≢false}
@@ -9,24 +10,21 @@ use Rattle.rw_sets.specs.Accesses.{Accesses}
 use Rattle.cell_store.specs.declared.cell.Cell.{Cell}
 use Rattle.cell_store.specs.Cells.{AreHome, cells_taken, part_of}
 use Rattle.cell_store.specs.Part.{Part}
-use Rattle.cell_store.specs.Values.{homes}
 use Rattle.kdg_graph.specs.declared.node_id.NodeId.{NodeId}
 use Rattle.kdg_graph.specs.Node.{Node}
-use Rattle.kdg_graph.specs.Nodes.{HasNode, least_of, node_at, set_at, started, task_at, tasks_of}
-use Rattle.app_laws.specs.Applications.{Application, IsFitTask, set_in}
+use Rattle.kdg_graph.specs.Nodes.{HasNode, ids_of, is_at, least_of, node_at, set_at, started, task_at}
+use Rattle.kdg_graph.specs.Rewrite.{without}
+use Rattle.app_laws.specs.Applications.{Application}
 use Rattle.graph_update.specs.Basis.{Basis}
-use Rattle.graph_update.specs.declared.job.Job.{Job}
-use Rattle.graph_update.specs.Engine.{IsKept, MayRun, SomeRuns}
-use Rattle.graph_update.specs.Events.{IsClaimed, clear_nodes, is_clear}
-use Rattle.graph_update.specs.Jobs.{JobsMayRun}
-use Rattle.graph_update.specs.Progress.{Progress}
-use Rattle.graph_update.specs.Sound.{Covers, IsOfNode, IsSound}
-use Rattle.graph_update.proofs.Claims.{claims_keep_sound, found_is_there, is_home}
-use Rattle.graph_update.proofs.ClearNodes.{some_is_clear}
-use Rattle.graph_update.proofs.Ending.{no_jobs}
-use Rattle.graph_update.proofs.Members.{all_at, from_filter, here, in_map, none_passes, there as from_there}
+use Rattle.run_laws.specs.Jobs.{Job}
+use Rattle.graph_update.specs.Engine.{IsKept, SomeRuns}
+use Rattle.crew.specs.Jobs.{MayRun}
+use Rattle.run_laws.specs.Events.{IsClaimed, clear_nodes, is_clear}
+use Rattle.run_laws.specs.Progress.{Progress}
+use Rattle.run_laws.specs.Sound.{IsSound}
+use Rattle.graph_update.proofs.Members.{all_from, found_is_there, from_filter, here, none_passes, there as from_there}
+use Rattle.graph_update.proofs.ClaimedNodes.{picked_taken}
 use Rattle.graph_update.proofs.Picked.{IsPicked}
-use Rattle.graph_update.proofs.Starting.{as_many_started}
 
 Some-injective : {X : Type 0} (a b : X) → Some a ≡ Some b → a ≡ b
 Some-injective a b same = cc
@@ -63,22 +61,7 @@ module _ {V : Type 0} {app : Application V} (basis : Basis app) where
     picked_set set found = Some-injective picked.node.set set (sym (ap (option_map (λ (n : Node). n.set)) at) ∙ found)
 
     pub picked_home : (set : Accesses) → set_at old.nodes id ≡ Some set → AreHome old.cells set
-    picked_home set found = subst (AreHome old.cells) (picked_set set found) (is_home basis old jobs values picked.node sound there.0 there.1)
-
-  -- each of the jobs of a sound execution may run
-  pub jobs_may_run : JobsMayRun app
-  jobs_may_run progress jobs values job sound has =
-      let found = all_at (IsOfNode app progress.nodes) jobs job sound.outs_match.named has in
-      let bundle = all_at (λ (one : Job V). one.bundle ≡ part_of (homes values) one.bundle.set) jobs job sound.whole.bundles has in
-      let node = found.0 in
-      let there = (basis.lower.keys_find progress.nodes job.task.key node found.1).0 in
-      let covers = all_at (Covers app progress.cells values) progress.nodes node sound.recorded_covers there in
-      let fit = all_at (IsFitTask app) (tasks_of progress.nodes) node.task sound.ready.tasks (in_map (λ (n : Node). n.task) progress.nodes node there) in
-      let set : job.bundle.set ≡ set_in app values job.task = sym found.2.set ∙ covers.running found.2.running ∙ ap (set_in app values) found.2.task in
-      record {
-        fit = subst (IsFitTask app) found.2.task fit;
-        taken = record { cells = values; fit = sound.ready.cells; is = bundle ∙ ap (part_of (homes values)) set };
-      }
+    picked_home set found = subst (AreHome old.cells) (picked_set set found) (basis.clear_home old jobs values picked.node sound there.0 there.1)
 
   module _ (old : Progress V) (kept : IsKept app old) (pick : ℕ) (id : NodeId) (picked : IsPicked app old.nodes pick id)
       (found copy : Task) (set : Accesses) (bundle : Part V) (cells : List (Cell V)) (nodes : List Node)
@@ -97,7 +80,7 @@ module _ {V : Type 0} {app : Application V} (basis : Basis app) where
     same_set = sym (picked_set old kept.jobs kept.values kept.sound pick id picked set set_is)
 
     same_count : old.ended + length nodes ≡ old.created
-    same_count = ap (λ count. old.ended + count) (as_many_started id old.nodes nodes nodes_are) ∙ sym kept.sound.keys_and_counts.created
+    same_count = ap (λ count. old.ended + count) (ap length nodes_are ∙ length-map old.nodes (λ node. cond (is_at id node) (record node { running = true }) node)) ∙ sym kept.sound.keys_and_counts.created
 
     -- the claim of the picked node
     pub claimed : IsClaimed app old pick now job
@@ -109,13 +92,20 @@ module _ {V : Type 0} {app : Application V} (basis : Basis app) where
     }
 
     pub sound_after : (jobs : List (Job V)) (values : List V) → IsSound app old jobs values → IsSound app now (job ∷ jobs) values
-    sound_after jobs values sound = claims_keep_sound basis old now pick job jobs values sound claimed
+    sound_after jobs values sound = basis.claims old now pick job jobs values sound claimed
 
     pub kept_after : IsKept app now
     kept_after = record { jobs = job ∷ kept.jobs; values = kept.values; sound = sound_after kept.jobs kept.values kept.sound; limited = kept.limited }
 
+    -- the ids of the clear nodes after it
+    pub ids_after : (ids left : List NodeId) → ids ≡ ids_of (clear_nodes app old.nodes) → left ≡ remove ids (pick % length ids) → left ≡ ids_of (clear_nodes app nodes)
+    unfolding claimed
+    ids_after ids left are left_is =
+        picked_taken app old.nodes kept.sound.keys_and_counts.graph pick id picked ids left are left_is
+        ∙ ap (λ one. ids_of (without one (clear_nodes app old.nodes))) (sym picked.id_is) ∙ ap ids_of (sym (basis.one_clear old now pick job claimed))
+
     pub may_run : MayRun app job
-    may_run = jobs_may_run now (job ∷ kept.jobs) kept.values job (sound_after kept.jobs kept.values kept.sound) (here job kept.jobs)
+    may_run = basis.jobs_run now (job ∷ kept.jobs) kept.values job (sound_after kept.jobs kept.values kept.sound) (here job kept.jobs)
 
   -- where no node is clear, although nodes are there, some node is running
   pub some_runs : (progress : Progress V) (jobs : List (Job V)) (values : List V) → IsSound app progress jobs values → progress.nodes ≢ [] → clear_nodes app progress.nodes ≡ [] → SomeRuns progress.nodes
@@ -126,8 +116,9 @@ module _ {V : Type 0} {app : Application V} (basis : Basis app) where
           let found = any_one (λ (n : Node). n.running) progress.nodes is in
           record { node = found.0; there = found.1; running = found.2 }
       by_search false is =
-          let idle = no_jobs basis progress.nodes jobs (λ node there running. true≢false (sym running ∙ none_passes (λ (n : Node). n.running) progress.nodes node is there)) sound.outs_match.named in
-          absurd (some_is_clear basis progress values (subst (λ left. IsSound app progress left values) idle sound) some none_clear)
+          let none = all_from (λ (n : Node). n.running ≡ false) progress.nodes (λ node there. none_passes (λ (n : Node). n.running) progress.nodes node is there) in
+          let idle = (basis.no_jobs progress jobs values sound).1 none in
+          absurd (basis.some_clear progress values (subst (λ left. IsSound app progress left values) idle sound) some none_clear)
 
   -- the same of a graph that has a least node, where no node is clear
   pub runs_where_none : (old : Progress V) (least : Option NodeId) → IsKept app old → least ≡ least_of old.nodes → is_some least ≡ true → clear_nodes app old.nodes ≡ [] → SomeRuns old.nodes

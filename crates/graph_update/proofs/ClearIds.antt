@@ -9,8 +9,8 @@ use Rattle.kdg_graph.specs.Laws.{NodesHaveIds, SourcesAreNodes}
 use Rattle.kdg_graph.specs.Node.{Node}
 use Rattle.kdg_graph.specs.Nodes.{IsGraph, earlier_than, ids_of, node_at, tasks_of}
 use Rattle.app_laws.specs.Applications.{Application, tasks_before}
-use Rattle.graph_update.specs.Events.{clear_nodes, is_clear}
-use Rattle.graph_update.proofs.ClearNodes.{tasks-earlier_than}
+use Rattle.run_laws.specs.Events.{clear_nodes, is_clear}
+use Rattle.graph_update.proofs.EarlierNodes.{tasks-earlier_than}
 use Rattle.graph_update.proofs.Members.{all_from}
 use Rattle.graph_update.proofs.Renewing.{some_node}
 

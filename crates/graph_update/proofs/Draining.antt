@@ -11,9 +11,9 @@ use Rattle.kdg_graph.specs.Node.{Node}
 use Rattle.kdg_graph.specs.Nodes.{least_of, node_at, task_at}
 use Rattle.app_laws.specs.Applications.{Application}
 use Rattle.graph_update.specs.Engine.{IsKept}
-use Rattle.graph_update.specs.Events.{undrainable}
-use Rattle.graph_update.specs.Laws.{MarksAndDrainsKeepSound}
-use Rattle.graph_update.specs.Progress.{Progress}
+use Rattle.run_laws.specs.Events.{undrainable}
+use Rattle.run_laws.specs.Laws.{MarksAndDrainsKeepSound}
+use Rattle.run_laws.specs.Progress.{Progress}
 
 module _ {V : Type 0} (app : Application V) where
   -- the entries that stay are those that are not earlier than the least node's task

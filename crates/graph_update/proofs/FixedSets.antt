@@ -8,6 +8,7 @@ use Rattle.task_order.specs.Key.{key_cmp}
 use Rattle.rw_sets.specs.Accesses.{Accesses, conflicts_with}
 use Rattle.cell_store.specs.declared.cell.Cell.{Cell}
 use Rattle.cell_store.specs.Cells.{cells_given}
+use Rattle.kdg_graph.specs.declared.change.Fresh.{Fresh}
 use Rattle.kdg_graph.specs.declared.change.SetChange.{SetChange}
 use Rattle.kdg_graph.specs.declared.node_id.NodeId.{NodeId}
 use Rattle.kdg_graph.specs.Laws.{NodesHaveIds}
@@ -16,17 +17,13 @@ use Rattle.kdg_graph.specs.Nodes.{IsGraph, is_at, later_than, started, tasks_of}
 use Rattle.kdg_graph.specs.Rewrite.{set_after, with_sets, without}
 use Rattle.app_laws.specs.declared.app.SetAnswer.TheVariants as answer
 use Rattle.app_laws.specs.Applications.{Application, AreFitTasks, IsFitTask, set_in}
-use Rattle.graph_update.specs.declared.job.Done.{Done}
-use Rattle.graph_update.specs.declared.job.Job.{Job}
+use Rattle.run_laws.specs.Jobs.{Done, Job}
 use Rattle.graph_update.specs.Engine.{HaveFixedSets}
-use Rattle.graph_update.specs.Events.{fresh_from, renewals, renewed}
-use Rattle.graph_update.specs.FinishBasis.{FinishBasis}
-use Rattle.graph_update.specs.Finishes.{IsEnd}
-use Rattle.graph_update.specs.Progress.{Progress}
-use Rattle.graph_update.proofs.Ended.{ready_after}
-use Rattle.graph_update.proofs.EndedSets.{item_set}
-use Rattle.graph_update.proofs.FinishMembers.{all_at, all_from, from_filter, here, in_map, there}
-use Rattle.graph_update.proofs.Performed.{fit_after}
+use Rattle.run_laws.specs.Events.{fresh_from, renewals, renewed}
+use Rattle.graph_update.specs.Basis.{EndBasis}
+use Rattle.run_laws.specs.Finishes.{IsEnd, IsPerformedTask}
+use Rattle.run_laws.specs.Progress.{Progress}
+use Rattle.graph_update.proofs.Members.{all_at, all_from, from_filter, here, in_map, there}
 use Rattle.graph_update.proofs.Renewing.{affected, change_of}
 
 same_id : (id : NodeId) (node : Node) → is_at id node ≡ true → node.id ≡ id
@@ -95,18 +92,21 @@ module _ {V : Type 0} (app : Application V) where
     others_same id changes none =
         ap (λ changes. with_sets changes (without id nodes)) none ∙ same_nodes (without id nodes) (λ node has. (from_filter _ nodes node has).0)
 
-module _ {V : Type 0} {app : Application V} (basis : FinishBasis app) where
+module _ {V : Type 0} {app : Application V} (basis : EndBasis app) where
+  known : {old now : Progress V} {done : Done V} {job : Job V} {jobs others : List (Job V)} {values : List V} → IsEnd app old jobs values done job others now → IsPerformedTask app old values done job
+  known {old} {now} {done} {job} {jobs} {others} {values} end = basis.performed old done job jobs others values end.sound end.performed
+
   pub fixed_after : {old now : Progress V} {done : Done V} {job : Job V} {jobs others : List (Job V)} {values : List V} → IsEnd app old jobs values done job others now
       → HaveFixedSets app old.nodes → HaveFixedSets app now.nodes
   fixed_after {old} {now} {done} {job} {jobs} {others} {values} end have fixed cells = all_from (IsFound app cells) now.nodes (λ node has.
       ⊎_elim
       (λ kept.
-      let stays = set_stays app basis.have_ids (cells_given old.cells done.effect.bundle) old.nodes end.sound.keys_and_counts.graph (have fixed (cells_given old.cells done.effect.bundle)) end.finished.node kept.0 kept.1 in
+      let stays = set_stays app basis.lower.have_ids (cells_given old.cells done.effect.bundle) old.nodes end.sound.keys_and_counts.graph (have fixed (cells_given old.cells done.effect.bundle)) end.finished.node kept.0 kept.1 in
       subst (IsFound app cells) (sym (kept.3 ∙ ap (λ (set : Accesses). let one : Node = record kept.0 { set = set } in one) stays)) (all_at (IsFound app cells) old.nodes kept.0 (have fixed cells) kept.1))
       (λ fresh.
-      let fit : IsFitTask app node.task = all_at (IsFitTask app) (tasks_of now.nodes) node.task (ready_after basis end).tasks (in_map (λ node. node.task) now.nodes node has) in
+      let fit : IsFitTask app node.task = all_at (IsFitTask app) (tasks_of now.nodes) node.task (basis.stay_ready old now done job jobs others values end).tasks (in_map (λ node. node.task) now.nodes node has) in
       let same_item : node.set ≡ fresh.0.set = ap (λ (node : Node). node.set) fresh.2 in
       let same_task : node.task ≡ fresh.0.task = ap (λ (node : Node). node.task) fresh.2 in
-      let declared = same_item ∙ item_set basis end fresh.0 fresh.1 ∙ ap (λ task. set_in app (app.act job.task values).cells task) (sym same_task) in
-      fixed node.task cells (app.act job.task values).cells (fit_after basis end.sound end.performed) fit ∙ ap (λ set. answer.Known set) (sym declared))
-      (basis.no_other old.nodes end.finished.node.id (renewals app (cells_given old.cells done.effect.bundle) old.nodes end.finished.node) (fresh_from done.task.key 0 done.effect.children) now.nodes end.finished.nodes node has))
+      let declared = same_item ∙ all_at (λ (item : Fresh). item.set ≡ set_in app (app.act job.task values).cells item.task) (fresh_from done.task.key 0 done.effect.children) fresh.0 (known end).handed fresh.1 ∙ ap (λ task. set_in app (app.act job.task values).cells task) (sym same_task) in
+      fixed node.task cells (app.act job.task values).cells (known end).fit_after fit ∙ ap (λ set. answer.Known set) (sym declared))
+      (basis.lower.no_other old.nodes end.finished.node.id (renewals app (cells_given old.cells done.effect.bundle) old.nodes end.finished.node) (fresh_from done.task.key 0 done.effect.children) now.nodes end.finished.nodes node has))

@@ -10,7 +10,7 @@ use Rattle.rw_sets.specs.Accesses.{Accesses}
 use Rattle.kdg_graph.specs.declared.change.Fresh.{Fresh}
 use Rattle.kdg_graph.specs.Rewrite.{fresh_tasks}
 use Rattle.app_laws.specs.declared.child.Child.{Child}
-use Rattle.graph_update.specs.Events.{fresh_from}
+use Rattle.run_laws.specs.Events.{fresh_from}
 
 module _ (children : List Child) (number : ℕ) (child : Child) (within : number < length children) (here : child ≡ get_or children number child) where
   left : drop number children ≡ child ∷ drop (suc number) children

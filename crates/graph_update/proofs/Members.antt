@@ -1,9 +1,12 @@
 -- Members of lists, of their filters and of their images.
-use Rattle.std.proofs.Common.{◌≡◌, ◌⊎◌, inl, inr, zero, suc, ◌≤◌, ◌||◌, Bool, true, false, cond, List, [], ◌∷◌, map, length, refl, sym, ◌∙◌, ap, subst, arith}
+use Rattle.std.proofs.Common.{◌≡◌, ◌⊎◌, inl, inr, ℕ, zero, suc, ◌||◌, Bool, true, false, cond, List, [], ◌∷◌, ◌++◌, Some, slice_get, map, refl, sym, ◌∙◌, ap, subst, arith}
 use Rattle.std.specs.Prelude.{Contains}
 use Rattle.std.specs.List.{AllByRecursion, filter, list_any}
+use Rattle.std.specs.Ordering.{is_lt}
 use Rattle.std.proofs.lemmas.Bool.{true≢false}
-use Rattle.app_laws.specs.Order.{Pairwise}
+use Rattle.task_order.specs.declared.task.Task.{Task}
+use Rattle.task_order.specs.Key.{key_cmp}
+use Rattle.task_order.specs.TaskList.{put_in}
 
 pub none : {X : Type 0} (x : X) → Contains [] x → ⊥
 none x (k, inside, is) = omega (arith, inside)
@@ -27,6 +30,38 @@ all_at P (y ∷ xs) x all has = elim (cases y x xs has) [ inl same ↦ subst P s
 pub all_from : {X : Type 0} (P : X → Type 0) (xs : List X) → ((x : X) → Contains xs x → P x) → AllByRecursion P xs
 all_from P [] each = tt
 all_from P (x ∷ xs) each = (each x (here x xs), all_from P xs (λ y has. each y (there x y xs has)))
+
+-- what holds of each holds of one in the middle
+pub all_in_middle : {X : Type 0} (P : X → Type 0) (before : List X) (x : X) (after : List X) → AllByRecursion P (before ++ x ∷ after) → P x
+all_in_middle P [] x after all = all.0
+all_in_middle P (y ∷ before) x after all = all_in_middle P before x after all.1
+
+pub all-weaker : {X : Type 0} (P Q : X → Type 0) → ((x : X) → P x → Q x) → (xs : List X) → AllByRecursion P xs → AllByRecursion Q xs
+all-weaker P Q weaker [] all = tt
+all-weaker P Q weaker (x ∷ xs) all = (weaker x all.0, all-weaker P Q weaker xs all.1)
+
+pub all-joined : {X : Type 0} (P Q R : X → Type 0) → ((x : X) → P x → Q x → R x) → (xs : List X) → AllByRecursion P xs → AllByRecursion Q xs → AllByRecursion R xs
+all-joined P Q R join [] p q = tt
+all-joined P Q R join (x ∷ xs) p q = (join x p.0 q.0, all-joined P Q R join xs p.1 q.1)
+
+pub all-put_in : (P : Task → Type 0) (task : Task) (tasks : List Task) → P task → AllByRecursion P tasks → AllByRecursion P (put_in task tasks)
+all-put_in P task [] one all = (one, tt)
+all-put_in P task (other ∷ tasks) one all = elim (is_lt (key_cmp other.key task.key)) as (λ past. AllByRecursion P (cond past (other ∷ put_in task tasks) (task ∷ other ∷ tasks))) [
+  | true ↦ (all.0, all-put_in P task tasks one all.1)
+  | false ↦ (one, all)
+]
+
+pub all-filter : {X : Type 0} (P : X → Type 0) (test : X → Bool) (xs : List X) → AllByRecursion P xs → AllByRecursion P (filter test xs)
+all-filter P test [] all = tt
+all-filter P test (x ∷ xs) all = elim (test x) as (λ b. AllByRecursion P (cond b (x ∷ filter test xs) (filter test xs))) [
+  | true ↦ (all.0, all-filter P test xs all.1)
+  | false ↦ all-filter P test xs all.1
+]
+
+pub found_is_there : {X : Type 0} (xs : List X) (i : ℕ) (x : X) → slice_get xs i ≡ Some x → Contains xs x
+found_is_there [] i x found = cc
+found_is_there {X} (y ∷ xs) zero x found = subst (λ (z : X). Contains (y ∷ xs) z) ((let same : y ≡ x = cc in same)) (here y xs)
+found_is_there (y ∷ xs) (suc i) x found = there y x xs (found_is_there xs i x found)
 
 -- ---- filters
 
@@ -75,32 +110,3 @@ none_passes {X} p (y ∷ xs) x is has =
       | false ↦ λ fails rest c. elim c [ inl same ↦ ap p (sym same) ∙ fails | inr later ↦ none_passes p xs x rest later ]
     ] in
     by_case (p y) refl is (cases y x xs has)
-
-pub none_any : {X : Type 0} (p : X → Bool) (xs : List X) → ((x : X) → Contains xs x → p x ≡ false) → list_any p xs ≡ false
-none_any p [] each = refl
-none_any p (x ∷ xs) each = ap (λ test. test || list_any p xs) (each x (here x xs)) ∙ none_any p xs (λ y has. each y (there x y xs has))
-
--- ---- parts
-
-pub all-filter : {X : Type 0} (P : X → Type 0) (test : X → Bool) (xs : List X) → AllByRecursion P xs → AllByRecursion P (filter test xs)
-all-filter P test [] all = tt
-all-filter P test (x ∷ xs) all = elim (test x) as (λ b. AllByRecursion P (cond b (x ∷ filter test xs) (filter test xs))) [
-  | true ↦ (all.0, all-filter P test xs all.1)
-  | false ↦ all-filter P test xs all.1
-]
-
-pub pairwise-filter : {X : Type 0} (R : X → X → Type 0) (test : X → Bool) (xs : List X) → Pairwise R xs → Pairwise R (filter test xs)
-pairwise-filter R test [] pairs = tt
-pairwise-filter R test (x ∷ xs) pairs = elim (test x) as (λ b. Pairwise R (cond b (x ∷ filter test xs) (filter test xs))) [
-  | true ↦ (all-filter (R x) test xs pairs.0, pairwise-filter R test xs pairs.1)
-  | false ↦ pairwise-filter R test xs pairs.1
-]
-
-pub length-part : {X : Type 0} (test : X → Bool) (xs : List X) → length (filter test xs) ≤ length xs
-length-part test [] = omega arith
-length-part test (x ∷ xs) =
-    let rest = length-part test xs in
-    elim (test x) as (λ b. length (cond b (x ∷ filter test xs) (filter test xs)) ≤ suc (length xs)) [
-      | true ↦ omega (arith, rest)
-      | false ↦ omega (arith, rest)
-    ]

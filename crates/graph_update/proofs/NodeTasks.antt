@@ -8,13 +8,13 @@ use Rattle.kdg_graph.specs.declared.node_id.NodeId.{NodeId}
 use Rattle.kdg_graph.specs.Node.{Node}
 use Rattle.kdg_graph.specs.Nodes.{HaveOwnIds, node_at}
 use Rattle.app_laws.specs.Applications.{Application}
-use Rattle.graph_update.specs.declared.job.Done.{Done}
-use Rattle.graph_update.specs.Acting.{no_task, task_named}
-use Rattle.graph_update.specs.Engine.{IsDone}
-use Rattle.graph_update.specs.Progress.{Progress}
-use Rattle.graph_update.specs.Sound.{IsOfNode}
+use Rattle.run_laws.specs.Jobs.{Done}
+use Rattle.run_laws.specs.Acting.{no_task, task_named}
+use Rattle.run_laws.specs.Laws.{IsDone}
+use Rattle.run_laws.specs.Progress.{Progress}
+use Rattle.run_laws.specs.Sound.{IsOfNode}
 use Rattle.graph_update.proofs.ClaimedNodes.{other_at}
-use Rattle.graph_update.proofs.FinishMembers.{all_at, all_in_middle, cases, here, none, there}
+use Rattle.graph_update.proofs.Members.{all_at, all_in_middle, cases, here, none, there}
 
 found_is_there : (test : Node → Bool) (nodes : List Node) (node : Node) → find test nodes ≡ Some node → Contains nodes node
 found_is_there test [] node is = cc

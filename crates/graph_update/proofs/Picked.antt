@@ -6,7 +6,7 @@ use Rattle.kdg_graph.specs.declared.node_id.NodeId.{NodeId}
 use Rattle.kdg_graph.specs.Node.{Node}
 use Rattle.kdg_graph.specs.Nodes.{ids_of}
 use Rattle.app_laws.specs.Applications.{Application}
-use Rattle.graph_update.specs.Events.{clear_nodes}
+use Rattle.run_laws.specs.Events.{clear_nodes}
 
 Some-injective : {X : Type 0} (a b : X) → Some a ≡ Some b → a ≡ b
 Some-injective a b same = cc

@@ -9,15 +9,15 @@ use Rattle.kdg_graph.specs.Laws.{NodesHaveIds}
 use Rattle.kdg_graph.specs.Node.{Node}
 use Rattle.kdg_graph.specs.Nodes.{IsGraph, ids_of}
 use Rattle.app_laws.specs.Applications.{Application}
-use Rattle.graph_update.specs.declared.job.Done.{Done}
-use Rattle.graph_update.specs.declared.job.Job.{Job}
+use Rattle.run_laws.specs.Jobs.{Done, Job}
 use Rattle.graph_update.specs.declared.ready.Ready.{Ready}
-use Rattle.graph_update.specs.Engine.{AreReady, IsOfClear}
-use Rattle.graph_update.specs.Events.{IsFinished, IsOverLimit, clear_nodes, is_clear}
-use Rattle.graph_update.specs.Laws.{Event, IsPerformed, Moment}
-use Rattle.graph_update.specs.Progress.{Progress}
-use Rattle.graph_update.specs.Sound.{IsSound}
-use Rattle.graph_update.specs.StandingLaws.{ClearNodesStayClear}
+use Rattle.graph_update.specs.Engine.{AreReady}
+use Rattle.run_laws.specs.Events.{IsOfClear, IsFinished, IsOverLimit, clear_nodes, is_clear}
+use Rattle.run_laws.specs.Laws.{Event, Moment}
+use Rattle.crew.specs.Jobs.{IsPerformed}
+use Rattle.run_laws.specs.Progress.{Progress}
+use Rattle.run_laws.specs.Sound.{IsSound}
+use Rattle.run_laws.specs.StandingLaws.{ClearNodesStayClear}
 use Rattle.graph_update.proofs.ClearIds.{clear_are_safe, is_safe_id}
 use Rattle.graph_update.proofs.Members.{all_at, all_from, from_filter, from_map, in_filter, in_map}
 

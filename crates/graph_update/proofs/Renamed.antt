@@ -1,4 +1,5 @@
--- An execution whose pending tasks become first tasks.
+-- An engine whose pending tasks become first tasks.
+use lib.ListN.{length-map}
 use Rattle.std.proofs.Common.{◌≡◌, ℕ, ◌+◌, ◌^◌, ◌<◌, List, [], length, sym, ap, subst, ◌∙◌, arith}
 use Rattle.task_order.specs.declared.start.Start.{Start}
 use Rattle.task_order.specs.declared.task.Task.{Task}
@@ -11,56 +12,35 @@ use Rattle.app_laws.specs.Names.{AreListed}
 use Rattle.app_laws.specs.Renaming.{AreNamed, ListedTasksAreNamed}
 use Rattle.app_laws.specs.RenamingLaws.{as_many_listed}
 use Rattle.graph_update.specs.Basis.{Basis}
-use Rattle.graph_update.specs.Engine.{AreFirstNodes, HaveFixedSets, IsKept}
-use Rattle.graph_update.specs.Progress.{EngineState, Progress}
-use Rattle.graph_update.specs.Renaming.{IsRenamed, RenamingsKeepSound}
-use Rattle.graph_update.specs.Sound.{IsSound}
-use Rattle.graph_update.specs.StandingLaws.{NoneRuns}
-use Rattle.graph_update.proofs.AtRest.{at_rest, home_values, idle_is_sound}
-use Rattle.graph_update.proofs.Beginnings.{as_many_first_nodes, first_nodes_are_sound}
-use Rattle.graph_update.proofs.Listed.{listed_fit}
-use Rattle.graph_update.proofs.FinishTasks.{length-mapped}
+use Rattle.run_laws.specs.Answers.{AreFirstNodes}
+use Rattle.graph_update.specs.Engine.{HaveFixedSets, IsKept, EngineState}
+use Rattle.run_laws.specs.Progress.{Progress}
+use Rattle.run_laws.specs.Renaming.{IsRenamed, RenamingsKeepSound}
+use Rattle.run_laws.specs.Sound.{IsSound}
+use Rattle.run_laws.specs.StandingLaws.{NoneRuns}
 use Rattle.graph_update.proofs.FixedSets.{first_are_fixed}
 
--- as many first tasks as nodes
-pub as_many_first : (nodes : List Node) (first : List Start) → AreListed (tasks_of nodes) first → length first ≡ length nodes
-as_many_first nodes first listed = as_many_listed (tasks_of nodes) first listed ∙ length-mapped (λ (node : Node). node.task) nodes
-
 module _ {V : Type 0} {app : Application V} (basis : Basis app) where
-  pub renamings_keep_sound : RenamingsKeepSound app
-  renamings_keep_sound old now values sound is =
-      let counts = sound.keys_and_counts in
-      let fit = listed_fit app (tasks_of old.nodes) is.first is.listed sound.ready.tasks in
-      let are = subst (λ cells. AreFirstNodes app cells is.first now.nodes) (home_values basis old values sound) is.nodes in
-      let home = ap (λ (progress : Progress V). progress.cells) is.after ∙ (at_rest basis old values sound).cells in
-      let empty = ap (λ (progress : Progress V). progress.log) is.after in
-      let created = ap (λ (progress : Progress V). progress.created) is.after in
-      let ended = ap (λ (progress : Progress V). progress.ended) is.after in
-      let limit = ap (λ (progress : Progress V). progress.limit) is.after in
-      let many = as_many_first old.nodes is.first is.listed in
-      first_nodes_are_sound basis values is.first now sound.ready.cells fit are home empty
-      (omega (arith, created, ended, many, counts.created)) (omega (arith, created, limit, counts.within))
-
   -- an engine's execution while nothing is running
   module _ (old : Progress V) (kept : IsKept app old) (idle : NoneRuns old.nodes) where
     pub own_sound : IsSound app old [] (values_of old.cells)
-    own_sound = idle_is_sound basis old kept.jobs kept.values kept.sound idle
+    own_sound = basis.idle old kept.jobs kept.values kept.sound idle
 
     pub own_home : old.cells ≡ homes (values_of old.cells)
-    own_home = (at_rest basis old (values_of old.cells) own_sound).cells
+    own_home = (basis.at_rest old (values_of old.cells) own_sound).cells
 
     module _ (tasks : List Task) (first starts : List Start) (all : tasks ≡ tasks_of old.nodes) (listed : AreListed tasks first) (same : starts ≡ first) where
       own_listed : AreListed (tasks_of old.nodes) starts
       own_listed = subst (λ pending. AreListed pending starts) all (subst (AreListed tasks) (sym same) listed)
 
       pub own_fit : AreFitStarts app starts
-      own_fit = listed_fit app (tasks_of old.nodes) starts own_listed own_sound.ready.tasks
+      own_fit = basis.listed_fit (tasks_of old.nodes) starts own_listed own_sound.ready.tasks
 
       pub own_names : ListedTasksAreNamed → AreNamed (tasks_of old.nodes) starts
       own_names laws = laws (tasks_of old.nodes) starts own_sound.ready.ascending own_sound.ready.apart own_listed
 
       pub own_many : length starts ≡ length old.nodes
-      own_many = as_many_first old.nodes starts own_listed
+      own_many = as_many_listed (tasks_of old.nodes) starts own_listed ∙ length-map old.nodes (λ (node : Node). node.task)
 
       pub own_few : length starts < 2 ^ 32
       own_few =
@@ -74,7 +54,7 @@ module _ {V : Type 0} {app : Application V} (basis : Basis app) where
 
         same_count : old.ended + length nodes ≡ old.created
         same_count =
-            let many = as_many_first_nodes basis.lower.put_all_length app (values_of old.cells) starts nodes are in
+            let many = basis.as_many (values_of old.cells) starts nodes are in
             let before = own_many in
             let created = kept.sound.keys_and_counts.created in
             omega (arith, many, before, created)

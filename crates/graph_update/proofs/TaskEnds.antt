@@ -20,19 +20,19 @@ use Rattle.kdg_graph.specs.Rewrite.{IsRewritten}
 use Rattle.app_laws.specs.declared.app.Effect.{Effect}
 use Rattle.app_laws.specs.declared.child.Child.{Child}
 use Rattle.app_laws.specs.Applications.{Application}
-use Rattle.graph_update.specs.declared.answers.OverCause.{OverCause}
-use Rattle.graph_update.specs.declared.answers.OverCause.TheVariants as cause
-use Rattle.graph_update.specs.declared.job.Done.{Done}
-use Rattle.graph_update.specs.Engine.{FinishStaysSound, HaveFixedSets, IsDone, IsKept, IsOfClear, IsOneStepEach, StaysSound, most_tasks}
-use Rattle.graph_update.specs.Events.{IsFinished, IsOverLimit, budget_marked, fresh_from, renewals}
-use Rattle.graph_update.specs.FinishBasis.{FinishBasis}
-use Rattle.graph_update.specs.Laws.{FinishesKeepSound, MarksAndDrainsKeepSound}
-use Rattle.graph_update.specs.Progress.{EngineState, Progress}
-use Rattle.graph_update.specs.Sound.{IsSound}
-use Rattle.graph_update.specs.StandingLaws.{ClearNodesStayClear}
-use Rattle.graph_update.proofs.FinishMembers.{none}
+use Rattle.crew.specs.declared.answers.OverCause.{OverCause}
+use Rattle.crew.specs.declared.answers.OverCause.TheVariants as cause
+use Rattle.run_laws.specs.Jobs.{Done}
+use Rattle.graph_update.specs.Engine.{FinishStaysSound, HaveFixedSets, IsKept, IsOneStepEach, StaysSound, most_tasks, EngineState}
+use Rattle.run_laws.specs.Laws.{IsDone, FinishesKeepSound, MarksAndDrainsKeepSound}
+use Rattle.run_laws.specs.Events.{IsOfClear, IsFinished, IsOverLimit, budget_marked, fresh_from, renewals}
+use Rattle.run_laws.specs.Finishes.{IsEnded, IsPerformedTask}
+use Rattle.graph_update.specs.Basis.{EndBasis}
+use Rattle.run_laws.specs.Progress.{Progress}
+use Rattle.run_laws.specs.Sound.{IsSound}
+use Rattle.run_laws.specs.StandingLaws.{ClearNodesStayClear}
+use Rattle.graph_update.proofs.Members.{none}
 use Rattle.graph_update.proofs.FixedSets.{fixed_after}
-use Rattle.graph_update.proofs.Performed.{IsEnded, agrees_given, bundle_is_out, bundle_is_whole, done_set, fit_after, named, new_entry, performed_node}
 use Rattle.graph_update.proofs.ReadyIds.{ready_after}
 use Rattle.graph_update.proofs.Renewing.{part_is}
 
@@ -90,13 +90,16 @@ module _ {A V : Type 0} (meaning : A → Application V) (inside engine : EngineS
       ∙ ap (λ (state : EngineState A V). budget_marked (meaning state.app) state.progress done) same in
       subst (λ (now : Progress V). IsSound (meaning engine.app) now jobs values) (sym marked) (laws.over_limit engine.progress done jobs values sound)
 
-module _ {V : Type 0} {app : Application V} (basis : FinishBasis app) (old : Progress V) (done : Done V) (is : IsDone app old done) where
-  ended : IsEnded app old is.values done is.job (named basis is.sound is.performed).0
-  ended = performed_node basis is.sound is.performed
+module _ {V : Type 0} {app : Application V} (basis : EndBasis app) (old : Progress V) (done : Done V) (is : IsDone app old done) where
+  pub known : IsPerformedTask app old is.values done is.job
+  known = basis.performed old done is.job is.jobs is.others is.values is.sound is.performed
+
+  ended : IsEnded app old is.values done is.job known.node
+  ended = known.ended
 
   -- the node of the task has the id that the job named
-  id_is : (named basis is.sound is.performed).0.id ≡ done.node
-  id_is = (named basis is.sound is.performed).2.id ∙ is.performed.node
+  id_is : known.node.id ≡ done.node
+  id_is = known.id
 
   pub node_is : option_map (λ (node : Node). node.id) (node_with_key old.nodes done.task.key) ≡ Some done.node
   node_is = ap (option_map (λ (node : Node). node.id)) ended.found ∙ ap (λ (id : NodeId). Some id) id_is
@@ -104,7 +107,7 @@ module _ {V : Type 0} {app : Application V} (basis : FinishBasis app) (old : Pro
   -- the task that its id finds is that of the job
   pub task_is : (task : Task) → task_at old.nodes done.node ≡ Some task → task ≡ done.task
   task_is task at =
-      let node = (named basis is.sound is.performed).0 in
+      let node = known.node in
       let there : node_at old.nodes done.node ≡ Some node = subst (λ (id : NodeId). node_at old.nodes id ≡ Some node) id_is ended.at_id in
       sym (part_is (λ (node : Node). node.task) (node_at old.nodes done.node) task node at there) ∙ ended.task ∙ ended.job_task
 
@@ -123,14 +126,14 @@ module _ {V : Type 0} {app : Application V} (basis : FinishBasis app) (old : Pro
   has_node = subst (HasNode old.nodes) id_is (subst IsSome (sym ended.at_id) refl)
 
   pub fit_given : (values : List V) × app.is_fit_cells values × AgreesWith (cells_given old.cells done.effect.bundle) values
-  fit_given = ((app.act is.job.task is.values).cells, fit_after basis is.sound is.performed, agrees_given basis is.sound is.performed)
+  fit_given = ((app.act is.job.task is.values).cells, known.fit_after, known.given)
 
   pub entry_is_new : IsNewEntry done.task.key old.log
-  entry_is_new = subst (λ (task : Task). IsNewEntry task.key old.log) is.performed.task (new_entry basis is.sound is.performed)
+  entry_is_new = subst (λ (task : Task). IsNewEntry task.key old.log) is.performed.task known.new_entry
 
   pub ended_below : old.ended + 1 ≤ old.created
   ended_below =
-      let some = some_there old.nodes (named basis is.sound is.performed).0 ended.there in
+      let some = some_there old.nodes known.node ended.there in
       let created = is.sound.keys_and_counts.created in
       omega (arith, some, created)
 
@@ -142,8 +145,8 @@ module _ {V : Type 0} {app : Application V} (basis : FinishBasis app) (old : Pro
     node_of_id : (node : Node) → node_with_key old.nodes done.task.key ≡ Some node → node_at old.nodes id ≡ Some node
     node_of_id node has =
         let same : node.id ≡ id = part_is (λ (node : Node). node.id) (node_with_key old.nodes done.task.key) id node found has in
-        let there = (basis.keys_find old.nodes done.task.key node has).0 in
-        ap (node_at old.nodes) (sym same) ∙ basis.have_ids old.nodes node is.sound.keys_and_counts.graph there
+        let there = (basis.lower.keys_find old.nodes done.task.key node has).0 in
+        ap (node_at old.nodes) (sym same) ∙ basis.lower.have_ids old.nodes node is.sound.keys_and_counts.graph there
 
     pub step_each : (before after : ℕ) → ((node : Node) → node_at old.nodes id ≡ Some node → after ≤ before + length (laters_of old.nodes node)) → IsOneStepEach old.nodes done.task.key before after
     step_each before after each node has = each node (node_of_id node has)
@@ -158,7 +161,7 @@ module _ {V : Type 0} {app : Application V} (basis : FinishBasis app) (old : Pro
 
       pub is_finished : IsFinished app old done now
       is_finished =
-          let node = (named basis is.sound is.performed).0 in
+          let node = known.node in
           let same : node.id ≡ id = part_is (λ (node : Node). node.id) (node_with_key old.nodes done.task.key) id node found ended.found in
           let one_more : count ≡ suc old.ended = omega (arith, count_is) in
           record {
@@ -220,9 +223,9 @@ module _ {V : Type 0} {app : Application V} (basis : FinishBasis app) (old : Pro
   -- the set that its id finds is that of its bundle
   set_is : (set : Accesses) → set_at old.nodes done.node ≡ Some set → set ≡ done.effect.bundle.set
   set_is set at =
-      let node = (named basis is.sound is.performed).0 in
+      let node = known.node in
       let there : node_at old.nodes done.node ≡ Some node = subst (λ (id : NodeId). node_at old.nodes id ≡ Some node) id_is ended.at_id in
-      sym (part_is (λ (node : Node). node.set) (node_at old.nodes done.node) set node at there) ∙ ended.job_set ∙ sym (done_set basis is.sound is.performed)
+      sym (part_is (λ (node : Node). node.set) (node_at old.nodes done.node) set node at there) ∙ ended.job_set ∙ sym known.set
 
   module _ (cells : List (Cell V)) (given : cells ≡ cells_given old.cells done.effect.bundle) where
     module _ (set : Accesses) (at : set_at old.nodes done.node ≡ Some set) where
@@ -230,10 +233,10 @@ module _ {V : Type 0} {app : Application V} (basis : FinishBasis app) (old : Pro
       written_home =
           subst (AreWrittenHome cells) (sym (set_is set at))
           (subst (λ (cells : List (Cell V)). AreWrittenHome cells done.effect.bundle.set) (sym given)
-          (basis.given.leaves_home old.cells done.effect.bundle (bundle_is_whole basis is.sound is.performed) (bundle_is_out basis is.sound is.performed)))
+          (basis.lower.given.leaves_home old.cells done.effect.bundle known.whole known.out))
 
       -- without what it writes the cells are as they were
       pub dropped : (left : List (Cell V)) → left ≡ cells_taken cells set → left ≡ old.cells
       dropped left taken =
           taken ∙ ap (cells_taken cells) (set_is set at) ∙ ap (λ (cells : List (Cell V)). cells_taken cells done.effect.bundle.set) given
-          ∙ basis.takes_back old.cells done.effect.bundle (bundle_is_out basis is.sound is.performed)
+          ∙ basis.lower.takes_back old.cells done.effect.bundle known.out

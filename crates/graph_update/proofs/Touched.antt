@@ -13,8 +13,8 @@ use Rattle.kdg_graph.specs.Node.{Node}
 use Rattle.kdg_graph.specs.Nodes.{IsGraph, node_at, started, task_at, tasks_of}
 use Rattle.kdg_graph.specs.Rewrite.{IsRewritten, fresh_tasks}
 use Rattle.app_laws.specs.Applications.{Application}
-use Rattle.graph_update.specs.FinishBasis.{FinishBasis}
-use Rattle.graph_update.proofs.FinishMembers.{in_map}
+use Rattle.graph_update.specs.Basis.{EndBasis}
+use Rattle.graph_update.proofs.Members.{in_map}
 use Rattle.graph_update.proofs.Sources.{node_of}
 
 -- a task stands among these, and the rest are the others
@@ -43,13 +43,13 @@ put_splits task (other ∷ tasks) =
 pub told_started : (Told : List Task → Type 0) → StartsKeepTasks → (id : NodeId) (nodes now : List Node) → now ≡ started id nodes → Told (tasks_of nodes) → Told (tasks_of now)
 told_started Told keep id nodes now is told = subst Told (sym (ap tasks_of is ∙ keep id nodes)) told
 
-module _ {V : Type 0} {app : Application V} (basis : FinishBasis app) (nodes : List Node) (graph : IsGraph nodes) (id : NodeId) (task : Task) (at : task_at nodes id ≡ Some task) where
+module _ {V : Type 0} {app : Application V} (basis : EndBasis app) (nodes : List Node) (graph : IsGraph nodes) (id : NodeId) (task : Task) (at : task_at nodes id ≡ Some task) where
   -- the task that ends stands among the pending ones
   ended_splits : IsSplit task (tasks_of nodes) (without task.key (tasks_of nodes))
   ended_splits =
       let found = node_of nodes id task at in
-      let has = subst (Contains (tasks_of nodes)) found.2 (in_map (λ (node : Node). node.task) nodes found.0 (basis.ids_find nodes id found.0 found.1).0) in
-      subst (λ (tasks : List Task). IsSplit task tasks (without task.key (tasks_of nodes))) (basis.put_without task (tasks_of nodes) graph.ascending has) (put_splits task (without task.key (tasks_of nodes)))
+      let has = subst (Contains (tasks_of nodes)) found.2 (in_map (λ (node : Node). node.task) nodes found.0 (basis.lower.ids_find nodes id found.0 found.1).0) in
+      subst (λ (tasks : List Task). IsSplit task tasks (without task.key (tasks_of nodes))) (basis.lower.put_without task (tasks_of nodes) graph.ascending has) (put_splits task (without task.key (tasks_of nodes)))
 
   -- what is told of all tasks is told of the others, once it went
   pub told_of_others : (Before After : List Task → Type 0) → ((before after : List Task) → Before (before ++ task ∷ after) → After (before ++ after))
@@ -64,5 +64,5 @@ module _ {V : Type 0} {app : Application V} (basis : FinishBasis app) (nodes : L
       → tasks_of now ≡ put_all (fresh_tasks fresh) (without task.key (tasks_of nodes))
   tasks_after changes fresh now rewritten =
       let found = node_of nodes id task at in
-      basis.replaces nodes id (changes found.0) fresh now found.0 graph (rewritten found.0 found.1) found.1
+      basis.lower.replaces nodes id (changes found.0) fresh now found.0 graph (rewritten found.0 found.1) found.1
       ∙ ap (λ (task : Task). put_all (fresh_tasks fresh) (without task.key (tasks_of nodes))) found.2

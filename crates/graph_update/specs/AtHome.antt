@@ -7,12 +7,12 @@ use Rattle.cell_store.specs.Part.{Part}
 use Rattle.kdg_graph.specs.declared.node_id.NodeId.{NodeId}
 use Rattle.app_laws.specs.declared.child.Child.{Child}
 use Rattle.app_laws.specs.Applications.{Application}
-use Rattle.graph_update.specs.declared.answers.OverCause.{OverCause}
-use Rattle.graph_update.specs.declared.answers.OverCause.TheVariants as cause
-use Rattle.graph_update.specs.declared.job.Done.{Done}
-use Rattle.graph_update.specs.Engine.{IsDone}
-use Rattle.graph_update.specs.Events.{IsFinished}
-use Rattle.graph_update.specs.Progress.{Progress}
+use Rattle.crew.specs.declared.answers.OverCause.{OverCause}
+use Rattle.crew.specs.declared.answers.OverCause.TheVariants as cause
+use Rattle.run_laws.specs.Jobs.{Done}
+use Rattle.run_laws.specs.Laws.{IsDone}
+use Rattle.run_laws.specs.Events.{IsFinished}
+use Rattle.run_laws.specs.Progress.{Progress}
 
 -- a task that was performed, by what it did
 abbrev pub done_of : {V : Type 0} → NodeId → Task → Part V → List Child → List ℕ → Done V

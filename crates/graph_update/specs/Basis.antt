@@ -1,42 +1,35 @@
--- What the laws of this crate stand on.
-use Rattle.task_order.specs.Laws as tasks
-use Rattle.rw_sets.specs.Laws as sets
-use Rattle.output_log.specs.Laws as logs
-use Rattle.cell_store.specs.Laws as cells
-use Rattle.kdg_graph.specs.Laws as nodes
+-- What the proofs of the engine rest on.
 use Rattle.app_laws.specs.Applications.{Application, IsLawful}
-use Rattle.commuting.specs.Standing.{StartsAreReady}
+use Rattle.kdg_graph.specs.Laws.{StartsMarkOneNode}
+use Rattle.run_laws.specs.Acting.{ActFaultsKeepSound, ActsKeepSound}
+use Rattle.run_laws.specs.Basis.{LowerLaws}
+use Rattle.run_laws.specs.FinishBasis.{FinishBasis}
+use Rattle.run_laws.specs.Finishes.{FinishesStayReady, PerformedTasksAreKnown}
+use Rattle.run_laws.specs.Laws.{ClaimsKeepSound, ClaimsTakeOneClear, ClearNodesAreHome, JobsMayRun, MarksAndDrainsKeepSound, SomeIsClear}
+use Rattle.run_laws.specs.Renaming.{FirstNodesAreAsMany, ListedTasksFit}
+use Rattle.run_laws.specs.StandingLaws.{IdleIsSound, NoJobsAreRest, NoJobsWhereNoneRuns}
 
--- what the crates below promise of keys, lists of tasks, sets, logs and nodes
-pub record LowerLaws : Type 0 where
-  pub irreflexive : tasks.EarlierIsIrreflexive
-  pub transitive : tasks.EarlierIsTransitive
-  pub connected : tasks.EarlierIsConnected
-  pub equal : tasks.EqualIsReflexive
-  pub put_all_length : tasks.PutAllAddsEach
-  pub turned : sets.ConflictsAreMutual
-  pub grows : sets.ConflictsGrow
-  pub decided : sets.ConflictsAreDecided
-  pub independent : sets.IndependentWithoutConflict
-  pub reflexive : sets.WithinIsReflexive
-  pub parts_in_order : logs.PartsKeepOrder
-  pub have_ids : nodes.NodesHaveIds
-  pub have_keys : nodes.NodesHaveKeys
-  pub keys_find : nodes.KeysFindNodes
-  pub starts_keep_tasks : nodes.StartsKeepTasks
-
--- what holds of cells
-pub record CellLaws (V : Type 0) : Type 0 where
-  pub determine : cells.LookupsDetermineCells V
-  pub taken : cells.TakenByLocation V
-  pub parts : cells.PartsByLocation V
-  pub values : cells.HomesAreValues V
-  pub agreement : cells.AgreementLasts V
-  pub changes : cells.ValueChanges V
-
--- these, the laws of an application, and what holds of its first tasks
+-- while an execution goes on
 pub record Basis {V : Type 0} (app : Application V) : Type 0 where
   pub lawful : IsLawful app
   pub lower : LowerLaws
-  pub cells : CellLaws V
-  pub starts_ready : StartsAreReady app
+  pub starts_mark : StartsMarkOneNode
+  pub claims : ClaimsKeepSound app
+  pub one_clear : ClaimsTakeOneClear app
+  pub clear_home : ClearNodesAreHome app
+  pub some_clear : SomeIsClear app
+  pub jobs_run : JobsMayRun app
+  pub marks : MarksAndDrainsKeepSound app
+  pub acts : ActsKeepSound app
+  pub faults : ActFaultsKeepSound app
+  pub no_jobs : NoJobsWhereNoneRuns app
+  pub at_rest : NoJobsAreRest app
+  pub idle : IdleIsSound app
+  pub listed_fit : ListedTasksFit app
+  pub as_many : FirstNodesAreAsMany app
+
+-- where a task ends
+pub record EndBasis {V : Type 0} (app : Application V) : Type 0 where
+  pub lower : FinishBasis app
+  pub performed : PerformedTasksAreKnown app
+  pub stay_ready : FinishesStayReady app

@@ -1,31 +1,32 @@
 -- What is kept of every engine, and what its calls find.
-use Rattle.std.specs.Prelude.{◌≡◌, ◌+◌, ◌<◌, ◌≤◌, ℕ, Bool, true, false, List, Contains, [], ◌∷◌, length, Some}
+use Rattle.std.specs.Prelude.{◌≡◌, ◌+◌, ◌<◌, ◌≤◌, ℕ, Bool, true, List, Contains, length, Some}
 use Rattle.std.specs.List.{AllByRecursion}
 use Rattle.task_order.specs.declared.key.Key.{Key}
 use Rattle.task_order.specs.declared.start.Start.{Start}
 use Rattle.task_order.specs.declared.task.Task.{Task}
-use Rattle.task_order.specs.TaskList.{put_all}
 use Rattle.rw_sets.specs.Accesses.{IsWithin}
 use Rattle.cell_store.specs.declared.cell.Cell.{Cell}
-use Rattle.kdg_graph.specs.declared.node_id.NodeId.{NodeId}
 use Rattle.kdg_graph.specs.Node.{Node}
 use Rattle.kdg_graph.specs.Edges.{laters_of}
-use Rattle.kdg_graph.specs.Nodes.{IsGraph, ids_of, node_with_key, tasks_of}
+use Rattle.kdg_graph.specs.Nodes.{ids_of, node_with_key, tasks_of}
 use Rattle.app_laws.specs.declared.app.SetAnswer.TheVariants as answer
-use Rattle.app_laws.specs.Applications.{Application, AreFitTasks, FixedSetsAreKnown, IsFitTask, IsTaken, set_in}
-use Rattle.app_laws.specs.Execution.{first_from}
+use Rattle.app_laws.specs.Applications.{Application, AreFitTasks, FixedSetsAreKnown, set_in}
+use Rattle.crew.specs.declared.answers.Claim.TheVariants as claim
+use Rattle.crew.specs.Jobs.{IsPerformed, MayRun}
+use Rattle.run_laws.specs.Answers.{jobs_after}
+use Rattle.run_laws.specs.Events.{IsOfClear, clear_nodes}
+use Rattle.run_laws.specs.Jobs.{Claim, Done, Job}
+use Rattle.run_laws.specs.Progress.{Progress}
+use Rattle.run_laws.specs.Sound.{IsSound}
 use Rattle.graph_update.specs.declared.agenda.Tally.{Tally}
 use Rattle.graph_update.specs.declared.answers.BeginFault.{BeginFault}
 use Rattle.graph_update.specs.declared.answers.BeginFault.TheVariants as fault
-use Rattle.graph_update.specs.declared.answers.Claim.{Claim}
-use Rattle.graph_update.specs.declared.answers.Claim.TheVariants as claim
-use Rattle.graph_update.specs.declared.job.Done.{Done}
-use Rattle.graph_update.specs.declared.job.Job.{Job}
 use Rattle.graph_update.specs.declared.ready.Ready.{Ready}
-use Rattle.graph_update.specs.Events.{clear_nodes}
-use Rattle.graph_update.specs.Laws.{IsPerformed}
-use Rattle.graph_update.specs.Progress.{Progress}
-use Rattle.graph_update.specs.Sound.{IsSound}
+
+-- an application, and how far its execution has come
+pub record EngineState (A : Type 0) (V : Type 0) : Type 0 where
+  pub app : A
+  pub progress : Progress V
 
 -- the greatest number of tasks that an execution may be allowed
 abbrev pub most_tasks : ℕ
@@ -62,31 +63,15 @@ abbrev pub IsBeginFault : List Start → ℕ → BeginFault → Type 0
 IsBeginFault first budget (fault.Budget asked limit) = (asked ≡ length first) × (limit ≡ budget) × (budget < length first)
 IsBeginFault first budget fault.NoRoom = length first ≤ budget
 
--- the jobs in hand after a claim
-abbrev pub jobs_after : {V : Type 0} → Claim V → List (Job V) → List (Job V)
-jobs_after (claim.Job job) jobs = job ∷ jobs
-jobs_after answer jobs = jobs
-
 -- that no node is clear is answered only where some node is running
 abbrev pub SomeRunsWhereNotYet : {V : Type 0} → List Node → Claim V → Type 0
 SomeRunsWhereNotYet nodes claim.NotYet = SomeRuns nodes
 SomeRunsWhereNotYet nodes answer = Unit {0}
 
 module _ {V : Type 0} (app : Application V) where
-  -- the first tasks as nodes of a graph, with the sets that they declare in the cells, none of them running
-  pub record AreFirstNodes (cells : List V) (first : List Start) (nodes : List Node) : Type 0 where
-    pub graph : IsGraph nodes
-    pub tasks : tasks_of nodes ≡ put_all (first_from 0 first) []
-    pub sets : AllByRecursion (λ node. node.set ≡ set_in app cells node.task) nodes
-    pub none_runs : AllByRecursion (λ node. node.running ≡ false) nodes
-
-  -- the id is that of a clear node
-  abbrev pub IsOfClear : List Node → NodeId → Type 0
-  IsOfClear nodes id = Contains (ids_of (clear_nodes app nodes)) id
-
   -- The ready nodes are clear. Where no task has ended since the last look, they are just the clear ones, in key order.
   pub record AreReady (nodes : List Node) (ready : Ready) : Type 0 where
-    pub clear : AllByRecursion (IsOfClear nodes) ready.ids.items
+    pub clear : AllByRecursion (IsOfClear app nodes) ready.ids.items
     pub all : ready.is_current ≡ true → ready.ids.items ≡ ids_of (clear_nodes app nodes)
 
   -- where the sets are fixed, each recorded set is the one that a walk finds, whatever the cells hold
@@ -121,24 +106,10 @@ module _ {V : Type 0} (app : Application V) where
   abbrev pub ClaimStaysSound : Progress V → Progress V → Claim V → Type 0
   ClaimStaysSound old now answer = (jobs : List (Job V)) (values : List V) → IsSound app old jobs values → IsSound app now (jobs_after answer jobs) values
 
-  -- a job has a task of the application, and what that task takes of cells of it
-  pub record MayRun (job : Job V) : Type 0 where
-    pub fit : IsFitTask app job.task
-    pub taken : IsTaken app job.task job.bundle
-
   -- what is claimed may be performed
   abbrev pub IsToRun : Claim V → Type 0
-  IsToRun (claim.Job job) = MayRun job
+  IsToRun (claim.Job job) = MayRun app job
   IsToRun answer = Unit {0}
-
-  -- the task is that of one of the jobs of a sound execution, with the effect of its operator on the job's bundle
-  pub record IsDone (progress : Progress V) (done : Done V) : Type 0 where
-    pub jobs : List (Job V)
-    pub values : List V
-    pub sound : IsSound app progress jobs values
-    pub job : Job V
-    pub others : List (Job V)
-    pub performed : IsPerformed app jobs done job others
 
   -- where it was sound with some jobs, of which this one is done, it is sound with the others
   abbrev pub FinishStaysSound : Progress V → Done V → Progress V → Type 0

@@ -4,18 +4,18 @@ ghost use Rattle.std.specs.Prelude.{◌≡◌, ◌+◌, ◌≤◌, length, None,
 ghost use Rattle.kdg_graph.specs.Edges.{laters_of};
 ghost use Rattle.kdg_graph.specs.Node.{Node};
 ghost use Rattle.kdg_graph.specs.Nodes.{ids_of, node_at, tasks_of};
-ghost use Rattle.graph_update.specs.Acting.{ActStaysSound, HasActed, IsActFault, RefusedActStaysSound};
-ghost use Rattle.graph_update.specs.Engine.{AreCovered, AsksForNoFixedSet, HaveFixedSets, IsOfClear};
-ghost use Rattle.graph_update.specs.Events.{clear_nodes};
+ghost use Rattle.run_laws.specs.Acting.{ActStaysSound, HasActed, IsActFault, RefusedActStaysSound};
+ghost use Rattle.graph_update.specs.Engine.{AreCovered, AsksForNoFixedSet, HaveFixedSets};
+ghost use Rattle.run_laws.specs.Events.{IsOfClear, clear_nodes};
 
-use crate::finish_laws::{self, sound_finish_laws};
-use crate::laws::basis;
+use crate::laws::{basis, end_basis};
 use crate::pending::Pending;
 use crate::{Engine, OverCause};
 use app_laws::{App, act_at_home};
 use kdg_graph::laws::{node_laws, source_laws};
 use kdg_graph::{Graph, NodeId};
 use kdg_text::{NoRoom, Steps};
+use run_laws::sound_finish_laws;
 use std::sync::ledger::Ledger;
 
 impl<'a, A: App> Engine<'a, A> {
@@ -48,7 +48,7 @@ impl<'a, A: App> Engine<'a, A> {
         ensures no_step { AsksForNoFixedSet (A.has_fixed_sets self.old.app) steps.old steps.new }
     {
         basis::<A>();
-        finish_laws::basis::<A>();
+        end_basis::<A>();
         sound_finish_laws::<A>();
         let (task, set) = (self.agenda.graph.task(node), self.agenda.graph.set(node));
         let Ok((children, text)) = act_at_home(self.app, task, set, &mut self.store) else {

@@ -4,7 +4,7 @@
 ghost use Rattle.std.specs.Prelude.{◌≡◌, ◌+◌, ◌≤◌, ◌<◌, ◌^◌, [], length, IfOk};
 ghost use Rattle.cell_store.specs.Values.{homes, values_of};
 ghost use Rattle.app_laws.specs.Applications.{AreFitStarts, IsFitTask, set_in};
-ghost use Rattle.graph_update.specs.Engine.{AreFirstNodes};
+ghost use Rattle.run_laws.specs.Answers.{AreFirstNodes};
 
 use app_laws::{App, SetAnswer, lawful};
 use cell_store::{Store, value_laws};

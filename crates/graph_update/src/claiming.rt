@@ -2,7 +2,7 @@
 //! taken.
 
 ghost use Rattle.std.specs.Prelude.{◌≡◌, ◌≢◌, [], None, IfOk, OnErr};
-ghost use Rattle.graph_update.specs.Answers.{IsClaimAnswer};
+ghost use Rattle.run_laws.specs.Answers.{IsClaimAnswer};
 ghost use Rattle.graph_update.specs.Engine.{ClaimStaysSound, IsToRun, SomeRunsWhereNotYet};
 
 use crate::laws::basis;

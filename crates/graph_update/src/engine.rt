@@ -2,15 +2,16 @@ ghost use Rattle.std.specs.Prelude.{◌≡◌, ◌≢◌, ◌↔◌, ◌+◌, �
 ghost use Rattle.cell_store.specs.Values.{homes};
 ghost use Rattle.output_log.specs.Entries.{joined_texts, with_texts};
 ghost use Rattle.app_laws.specs.Applications.{AreFitStarts};
-ghost use Rattle.graph_update.specs.declared.answers.OverCause.TheVariants as cause;
-ghost use Rattle.graph_update.specs.Answers.{IsBegun, counts_of};
+ghost use Rattle.crew.specs.declared.answers.OverCause.TheVariants as cause;
+ghost use Rattle.run_laws.specs.Answers.{IsBegun};
+ghost use Rattle.graph_update.specs.Answers.{counts_of};
 ghost use Rattle.graph_update.specs.Engine.{IsBeginFault, IsKept, StaysSound};
-ghost use Rattle.graph_update.specs.Events.{drainable, drained, marked};
-ghost use Rattle.graph_update.specs.Sound.{IsSound};
+ghost use Rattle.run_laws.specs.Events.{drainable, drained, marked};
+ghost use Rattle.run_laws.specs.Sound.{IsSound};
 
 use crate::agenda::{Agenda, Tally};
 use crate::beginning::{empty_graph, home_store, put_first};
-use crate::laws::{basis, begin_laws, drain_laws};
+use crate::laws::basis;
 use crate::ready::Ready;
 use crate::{BeginFault, Counts, OverCause};
 use app_laws::{App, Finals};
@@ -18,6 +19,7 @@ use cell_store::{Store, value_laws};
 use kdg_graph::Graph;
 use kdg_text::{NoRoom, Steps, Text};
 use output_log::Log;
+use run_laws::{begin_laws, drain_laws};
 use std::alloc::Global;
 use std::marker::Model;
 use std::sync::ledger::Ledger;
@@ -37,8 +39,7 @@ pub struct Engine<'a, A: App> {
 }
 
 impl<'a, A: App> Model for Engine<'a, A> {
-    ghost use Rattle.graph_update.specs.Engine.{AreKnown, IsKept, progress_of};
-    ghost use Rattle.graph_update.specs.Progress.{EngineState};
+    ghost use Rattle.graph_update.specs.Engine.{AreKnown, IsKept, progress_of, EngineState};
 
     ghost Value = { EngineState A A.Val };
 

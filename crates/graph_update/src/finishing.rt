@@ -5,22 +5,22 @@ ghost use Rattle.task_order.specs.declared.task.Task.{Task};
 ghost use Rattle.kdg_graph.specs.Edges.{laters_of};
 ghost use Rattle.kdg_graph.specs.Node.{Node};
 ghost use Rattle.kdg_graph.specs.Nodes.{node_at};
-ghost use Rattle.graph_update.specs.Answers.{IsFinishRefusal};
+ghost use Rattle.run_laws.specs.Answers.{IsFinishRefusal};
 ghost use Rattle.graph_update.specs.AtHome.{EndsAtHome, IsBackHome, IsEndFault};
-ghost use Rattle.graph_update.specs.Engine.{AreKnown, AsksForNoFixedSet, FinishStaysSound, IsDone, IsOneStepEach, StaysSound, most_tasks, progress_of};
-ghost use Rattle.graph_update.specs.Events.{IsFinished, IsOverLimit};
+ghost use Rattle.graph_update.specs.Engine.{AreKnown, AsksForNoFixedSet, FinishStaysSound, IsOneStepEach, StaysSound, most_tasks, progress_of};
+ghost use Rattle.run_laws.specs.Laws.{IsDone};
+ghost use Rattle.run_laws.specs.Events.{IsFinished, IsOverLimit};
 
 use crate::agenda::{Agenda, Tally};
-use crate::finish_laws::{basis, sound_finish_laws};
-use crate::laws::drain_laws;
+use crate::laws::end_basis;
 use crate::rewriting::{end_node, fresh_tasks};
-use crate::standing_laws::stay_clear_laws;
 use crate::touching::touch_end;
 use crate::{Done, Engine, FinishFault, OverCause};
 use app_laws::{App, ChildList, Effect};
 use cell_store::Store;
 use kdg_graph::NodeId;
 use kdg_text::{Steps, Text};
+use run_laws::{drain_laws, sound_finish_laws, stay_clear_laws};
 use std::sync::ledger::Ledger;
 
 impl<'a, A: App> Engine<'a, A> {
@@ -90,7 +90,7 @@ impl<'a, A: App> Engine<'a, A> {
         ensures steps { IsOneStepEach self.old.progress.nodes task.key steps.old steps.new }
         ensures no_step { AsksForNoFixedSet (A.has_fixed_sets self.old.app) steps.old steps.new }
     {
-        basis::<A>();
+        end_basis::<A>();
         sound_finish_laws::<A>();
         let Effect {
             bundle,
@@ -181,7 +181,7 @@ impl<A: App> Agenda<A> {
         ensures steps { (of : Node) → node_at self.old.graph node ≡ Some of → steps.new ≤ steps.old + length (laters_of self.old.graph of) }
         ensures no_step { AsksForNoFixedSet (A.has_fixed_sets app.now) steps.old steps.new }
     {
-        basis::<A>();
+        end_basis::<A>();
         sound_finish_laws::<A>();
         stay_clear_laws::<A>();
         let children = children.items();

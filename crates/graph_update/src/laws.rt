@@ -1,112 +1,36 @@
-ghost use Rattle.graph_update.specs.Basis.{CellLaws, LowerLaws, Basis};
-ghost use Rattle.graph_update.specs.Jobs.{JobsMayRun};
-ghost use Rattle.graph_update.specs.Laws.{BeginningsAreSound, ClaimsKeepSound, ClaimsTakeOneClear, EventsKeepSound, MarksAndDrainsKeepSound, RecordedSetsSuffice, SomeIsClear, WholeIsOne};
-ghost use Rattle.graph_update.specs.Renaming.{RenamingsKeepSound};
+//! What the proofs of the engine rest on.
 
-use crate::finish_laws::sound_finish_laws;
+ghost use Rattle.graph_update.specs.Basis.{Basis, EndBasis};
+
 use app_laws::{App, lawful};
-use cell_store::{location_laws, value_laws};
-use commuting::standing_laws;
-use kdg_graph::laws::{node_laws, put_laws};
-use output_log::part_laws;
-use rw_sets::{conflict_laws, independence_laws, within_laws};
-use task_order::{earlier_laws, put_all_laws};
+use kdg_graph::laws::put_laws;
+use run_laws::{
+    act_laws, claim_laws, clear_claim_laws, clear_laws, drain_laws, finish_basis,
+    finish_state_laws, job_laws, lower_laws, performed_laws, renaming_laws, rest_laws,
+};
 
-/// What the crates below promise of keys, lists of tasks, sets, logs and nodes, as one.
-pub(crate) fn lower_laws()
-    ensures { LowerLaws }
-{
-    earlier_laws();
-    put_all_laws();
-    conflict_laws();
-    independence_laws();
-    within_laws();
-    part_laws();
-    node_laws();
-    put_laws();
-}
-
-/// What they promise of cells.
-fn cell_laws<V>()
-    ensures { CellLaws V }
-{
-    location_laws::<V>();
-    value_laws::<V>();
-}
-
-/// Both, the laws of an application, and that its first tasks make a state that is ready.
+/// What holds of an application's executions while they go on.
 pub(crate) fn basis<A: App>()
     ensures { (app : A) → Basis (A.meaning app) }
 {
-    lower_laws();
-    cell_laws::<A::Val>();
     lawful::<A>();
-    standing_laws::<A>();
+    lower_laws();
+    put_laws();
+    claim_laws::<A>();
+    clear_laws::<A>();
+    clear_claim_laws::<A>();
+    job_laws::<A>();
+    drain_laws::<A>();
+    act_laws::<A>();
+    rest_laws::<A>();
+    renaming_laws::<A>();
 }
 
-/// Marks and drains change neither the jobs nor the whole cells.
-pub fn drain_laws<A: App>()
-    ensures sound { (app : A) → MarksAndDrainsKeepSound (A.meaning app) }
+/// What holds of a task of an execution that was performed, and where it ends.
+pub(crate) fn end_basis<A: App>()
+    ensures { (app : A) → EndBasis (A.meaning app) }
 {
-    basis::<A>();
-}
-
-/// An execution and its jobs have one list of whole cells.
-pub fn whole_laws<A: App>()
-    ensures one { (app : A) → WholeIsOne (A.meaning app) }
-{
-    basis::<A>();
-}
-
-/// A clear node is a clear task, and so is a running one. While nothing is running some node is
-/// clear, unless none is there.
-pub fn clear_laws<A: App>()
-    ensures suffice { (app : A) → RecordedSetsSuffice (A.meaning app) }
-    ensures some { (app : A) → SomeIsClear (A.meaning app) }
-{
-    basis::<A>();
-}
-
-/// What begins is sound, and nothing is running.
-pub fn begin_laws<A: App>()
-    ensures sound { (app : A) → BeginningsAreSound (A.meaning app) }
-{
-    basis::<A>();
-}
-
-/// Where nothing is running and the pending tasks become first tasks, what is there is as sound.
-pub fn renaming_laws<A: App>()
-    ensures { (app : A) → RenamingsKeepSound (A.meaning app) }
-{
-    basis::<A>();
-}
-
-/// Where a job is claimed, an execution stays sound with that job more, and its whole cells are the
-/// same.
-pub fn claim_laws<A: App>()
-    ensures sound { (app : A) → ClaimsKeepSound (A.meaning app) }
-{
-    basis::<A>();
-}
-
-/// A claim takes one of the clear nodes: the others stay clear, and no other becomes clear.
-pub fn clear_claim_laws<A: App>()
-    ensures one { (app : A) → ClaimsTakeOneClear (A.meaning app) }
-{
-    basis::<A>();
-}
-
-/// Each job in hand may run, whatever else has happened since it was claimed.
-pub fn job_laws<A: App>()
-    ensures { (app : A) → JobsMayRun (A.meaning app) }
-{
-    basis::<A>();
-}
-
-/// Whatever happens, and in whatever order tasks end, an execution stays sound.
-pub fn event_laws<A: App>()
-    ensures sound { (app : A) → EventsKeepSound (A.meaning app) }
-{
-    basis::<A>();
-    sound_finish_laws::<A>();
+    finish_basis::<A>();
+    finish_state_laws::<A>();
+    performed_laws::<A>();
 }

@@ -5,10 +5,10 @@ ghost use Rattle.kdg_graph.specs.Nodes.{IsGraph, node_at, tasks_of};
 ghost use Rattle.app_laws.specs.Applications.{tasks_before};
 ghost use Rattle.graph_update.specs.Engine.{AreCovered, HaveFixedSets};
 
-use crate::laws::lower_laws;
 use app_laws::App;
 use kdg_graph::laws::{node_laws, source_laws, writer_laws};
 use kdg_graph::{Graph, NodeId};
+use run_laws::lower_laws;
 use std::marker::Model;
 use task_order::{PendingTasks, Task};
 

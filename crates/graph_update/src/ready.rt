@@ -4,8 +4,8 @@ ghost use Rattle.std.specs.Prelude.{◌≡◌, ◌%◌, ◌^◌, ◌<◌, ◌++�
 ghost use Rattle.std.specs.List.{AllByRecursion, remove};
 ghost use Rattle.std.specs.Option.{option_map};
 ghost use Rattle.kdg_graph.specs.Nodes.{ids_of, tasks_of};
-ghost use Rattle.graph_update.specs.Engine.{AreCovered, AreReady, HaveFixedSets, IsOfClear};
-ghost use Rattle.graph_update.specs.Events.{clear_nodes};
+ghost use Rattle.graph_update.specs.Engine.{AreCovered, AreReady, HaveFixedSets};
+ghost use Rattle.run_laws.specs.Events.{IsOfClear, clear_nodes};
 
 use crate::pending::Pending;
 use app_laws::App;

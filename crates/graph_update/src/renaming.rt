@@ -4,18 +4,19 @@ ghost use Rattle.std.specs.Prelude.{◌≡◌, ◌+◌, ◌≤◌, [], false, le
 ghost use Rattle.std.specs.List.{AllByRecursion};
 ghost use Rattle.kdg_graph.specs.Nodes.{tasks_of};
 ghost use Rattle.output_log.specs.Entries.{with_texts};
-ghost use Rattle.graph_update.specs.Renaming.{IsRenamed};
-ghost use Rattle.graph_update.specs.Sound.{IsSound};
+ghost use Rattle.run_laws.specs.Renaming.{IsRenamed};
+ghost use Rattle.run_laws.specs.Sound.{IsSound};
 
 use crate::Engine;
 use crate::agenda::Agenda;
 use crate::beginning::put_first;
-use crate::laws::{basis, renaming_laws};
+use crate::laws::basis;
 use crate::touching::horizon_under_names;
 use app_laws::{App, naming_laws, starts_by_path};
 use kdg_graph::{Fresh, Graph};
 use kdg_text::{NoRoom, Steps};
 use output_log::Log;
+use run_laws::renaming_laws;
 use std::alloc::Global;
 use std::sync::ledger::Ledger;
 use task_order::Task;

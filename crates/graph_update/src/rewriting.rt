@@ -9,7 +9,7 @@ ghost use Rattle.kdg_graph.specs.Edges.{laters_of};
 ghost use Rattle.kdg_graph.specs.Rewrite.{AreChangesOf, HaveNewKeys, IsRewritten, with_sets, without};
 ghost use Rattle.app_laws.specs.Applications.{AgreesWith, AreFitTasks};
 ghost use Rattle.graph_update.specs.Engine.{AsksForNoFixedSet, HaveFixedSets};
-ghost use Rattle.graph_update.specs.Events.{fresh_from, renewals, renewed};
+ghost use Rattle.run_laws.specs.Events.{fresh_from, renewals, renewed};
 
 use app_laws::{App, Child, SetAnswer};
 use cell_store::Store;

@@ -7,7 +7,7 @@ ghost use Rattle.task_order.specs.declared.task.Task.{Task};
 ghost use Rattle.task_order.specs.TaskList.{put_all};
 ghost use Rattle.kdg_graph.specs.Rewrite.{fresh_tasks};
 ghost use Rattle.app_laws.specs.Names.{HaveNames, IsNaming, renamed};
-ghost use Rattle.graph_update.specs.Events.{fresh_from};
+ghost use Rattle.run_laws.specs.Events.{fresh_from};
 
 use app_laws::{App, Child};
 use kdg_text::NoRoom;

@@ -2,10 +2,11 @@
 
 ghost use Rattle.std.specs.Prelude.{◌≡◌, ◌<◌, ◌≤◌, ◌^◌, [], length, IfOk, IfErr, OnOk, OnErr};
 ghost use Rattle.app_laws.specs.Applications.{AreFitStarts};
-ghost use Rattle.graph_update.specs.Answers.{IsBegun, IsFinishRefusal};
-ghost use Rattle.graph_update.specs.Engine.{FinishStaysSound, IsBeginFault, IsDone, StaysSound};
-ghost use Rattle.graph_update.specs.Events.{IsFinished, IsOverLimit};
-ghost use Rattle.graph_update.specs.Sound.{IsSound};
+ghost use Rattle.run_laws.specs.Answers.{IsBegun, IsFinishRefusal};
+ghost use Rattle.graph_update.specs.Engine.{FinishStaysSound, IsBeginFault, StaysSound};
+ghost use Rattle.run_laws.specs.Laws.{IsDone};
+ghost use Rattle.run_laws.specs.Events.{IsFinished, IsOverLimit};
+ghost use Rattle.run_laws.specs.Sound.{IsSound};
 
 use crate::{BeginFault, Done, Engine, FinishFault};
 use app_laws::App;

@@ -17,10 +17,10 @@ use Rattle.app_laws.specs.declared.serial_run.Finals.{Finals}
 use Rattle.commuting.specs.Clear.{IsReady}
 use Rattle.commuting.specs.Rounds.{RoundsAreOneNumber, TakesRounds}
 use Rattle.commuting.specs.States.{run_from, state_of}
-use Rattle.graph_update.specs.declared.answers.OverCause.{OverCause}
-use Rattle.graph_update.specs.declared.answers.OverCause.TheVariants as faults
-use Rattle.graph_update.specs.Answers.{IsBegun}
-use Rattle.graph_update.specs.Progress.{Progress}
+use Rattle.crew.specs.declared.answers.OverCause.{OverCause}
+use Rattle.crew.specs.declared.answers.OverCause.TheVariants as faults
+use Rattle.run_laws.specs.Answers.{IsBegun}
+use Rattle.run_laws.specs.Progress.{Progress}
 use Rattle.source_pool.specs.Runs.{IsRoundsEnd, IsRunFault, rest_of_run, state_at_rest}
 use Rattle.task_order.specs.declared.start.Start.{Start}
 use Rattle.kdg_prog.specs.declared.status.Status.{Status}

@@ -7,8 +7,8 @@ use Rattle.kdg_text.specs.declared.fault.ReadFail.{ReadFail}
 use Rattle.kdg_text.specs.declared.fault.ReadFail.TheVariants as reader
 use Rattle.graph_update.specs.declared.answers.BeginFault.{BeginFault}
 use Rattle.graph_update.specs.declared.answers.BeginFault.TheVariants as begin
-use Rattle.graph_update.specs.declared.answers.OverCause.{OverCause}
-use Rattle.graph_update.specs.declared.answers.OverCause.TheVariants as rounds
+use Rattle.crew.specs.declared.answers.OverCause.{OverCause}
+use Rattle.crew.specs.declared.answers.OverCause.TheVariants as rounds
 use Rattle.outer_edge.specs.declared.whole_input.ReadAllFault.{ReadAllFault}
 use Rattle.outer_edge.specs.declared.whole_input.ReadAllFault.TheVariants as input
 use Rattle.kdg_prog.specs.declared.status.Status.{Status}

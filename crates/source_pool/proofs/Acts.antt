@@ -16,14 +16,13 @@ use Rattle.app_laws.specs.Applications.{Application}
 use Rattle.commuting.specs.Clear.{IsClear, IsReady}
 use Rattle.commuting.specs.Rounds.{clear_tasks}
 use Rattle.commuting.specs.States.{State, after_task, after_tasks}
-use Rattle.graph_update.specs.declared.job.Done.{Done}
-use Rattle.graph_update.specs.declared.job.Job.{Job}
-use Rattle.graph_update.specs.Acting.{IsPlayed}
-use Rattle.graph_update.specs.Events.{IsClaimed, IsFinished, IsOverLimit, clear_nodes, is_clear}
-use Rattle.graph_update.specs.Laws.{Event, Moment, Reaches}
-use Rattle.graph_update.specs.Progress.{Progress, whole_state}
-use Rattle.graph_update.specs.Sound.{HasJob, IsSound}
-use Rattle.graph_update.specs.StandingLaws.{ClaimsNode, IsClearNode}
+use Rattle.run_laws.specs.Jobs.{Done, Job}
+use Rattle.run_laws.specs.Acting.{IsPlayed}
+use Rattle.run_laws.specs.Events.{IsClaimed, IsFinished, IsOverLimit, clear_nodes, is_clear}
+use Rattle.run_laws.specs.Laws.{Event, Moment, Reaches}
+use Rattle.run_laws.specs.Progress.{Progress, whole_state}
+use Rattle.run_laws.specs.Sound.{HasJob, IsSound}
+use Rattle.run_laws.specs.StandingLaws.{ClaimsNode, IsClearNode}
 use Rattle.source_pool.specs.Basis.{Basis}
 use Rattle.source_pool.specs.Course.{AreAllDone, IsActing, IsAtRest, IsDrawing, IsEnding, IsJobDone}
 use Rattle.source_pool.specs.Laws.{ActsBegin, ActsComeToRest, ActsGoOn, FirstMayAct, RoundsHaveActs, TooManyActsNeverEnd}

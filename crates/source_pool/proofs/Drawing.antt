@@ -28,11 +28,10 @@ use Rattle.commuting.specs.Clear.{IsClear, IsReady}
 use Rattle.commuting.specs.Rounds.{after_round, clear_tasks}
 use Rattle.commuting.specs.Standing.{StandsFor}
 use Rattle.commuting.specs.States.{State, after_tasks, state_of}
-use Rattle.graph_update.specs.declared.job.Done.{Done}
-use Rattle.graph_update.specs.declared.job.Job.{Job}
-use Rattle.graph_update.specs.Events.{is_clear, clear_nodes}
-use Rattle.graph_update.specs.Progress.{Progress, whole_state}
-use Rattle.graph_update.specs.Sound.{Covers, HasJob, IsSound, is_unblocked}
+use Rattle.run_laws.specs.Jobs.{Done, Job}
+use Rattle.run_laws.specs.Events.{is_clear, clear_nodes}
+use Rattle.run_laws.specs.Progress.{Progress, whole_state}
+use Rattle.run_laws.specs.Sound.{Covers, HasJob, IsSound, is_unblocked}
 use Rattle.source_pool.specs.Basis.{Basis}
 use Rattle.source_pool.specs.Course.{AreAllDone, IsJobDone, idle_count, IsDrawing, IsEnding, done_tasks}
 use Rattle.source_pool.specs.Laws.{ClaimsGoOn, ClaimsStartOne, DrawingsBegin, DrawnJobsAreTheRound, DrawnJobsDiffer, RoundsHaveJobs, StartsAreAtRest}

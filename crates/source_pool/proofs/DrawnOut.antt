@@ -1,13 +1,12 @@
 -- What is left where a claim gives no job.
 use Rattle.std.proofs.Common.{◌≡◌, ℕ, [], Some, None, ap, refl, sym, ◌∙◌}
 use Rattle.app_laws.specs.Applications.{Application}
-use Rattle.graph_update.specs.declared.answers.Claim.{Claim}
-use Rattle.graph_update.specs.declared.answers.Claim.TheVariants as claim
-use Rattle.graph_update.specs.declared.answers.OverCause.{OverCause}
-use Rattle.graph_update.specs.declared.job.Job.{Job}
-use Rattle.graph_update.specs.Answers.{IsClaimAnswer}
-use Rattle.graph_update.specs.Events.{clear_nodes}
-use Rattle.graph_update.specs.Progress.{Progress}
+use Rattle.run_laws.specs.Jobs.{Claim, Job}
+use Rattle.crew.specs.declared.answers.Claim.TheVariants as claim
+use Rattle.crew.specs.declared.answers.OverCause.{OverCause}
+use Rattle.run_laws.specs.Answers.{IsClaimAnswer}
+use Rattle.run_laws.specs.Events.{clear_nodes}
+use Rattle.run_laws.specs.Progress.{Progress}
 
 -- the execution is as it was, and no node of it is clear
 pub record IsDrawnOut {V : Type 0} (app : Application V) (old now : Progress V) : Type 0 where

@@ -10,8 +10,7 @@ use Rattle.task_order.specs.declared.key.Key.{Key}
 use Rattle.task_order.specs.Key.{key_cmp, key_cmp_total}
 use Rattle.task_order.specs.Laws.{EarlierIsConnected}
 use Rattle.task_order.specs.TaskList.{HasDistinctKeys, IsAscending, IsNewKey}
-use Rattle.graph_update.specs.declared.job.Done.{Done}
-use Rattle.graph_update.specs.declared.job.Job.{Job}
+use Rattle.run_laws.specs.Jobs.{Done, Job}
 use Rattle.source_pool.specs.Course.{HaveOwnKeys, done_tasks}
 use Rattle.source_pool.proofs.Lists.{all_at, all_from, in_map}
 

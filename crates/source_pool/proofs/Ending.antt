@@ -15,12 +15,12 @@ use Rattle.app_laws.specs.Execution.{children_from}
 use Rattle.commuting.specs.Clear.{IsClear}
 use Rattle.commuting.specs.Standing.{StandsFor}
 use Rattle.commuting.specs.States.{State, after_task, after_tasks, run_from}
-use Rattle.graph_update.specs.declared.job.Done.{Done}
-use Rattle.graph_update.specs.Engine.{IsDone}
-use Rattle.graph_update.specs.Events.{IsFinished, IsOverLimit}
-use Rattle.graph_update.specs.Finishes.{IsEnd}
-use Rattle.graph_update.specs.Progress.{Progress, whole_state}
-use Rattle.graph_update.specs.Sound.{IsSound}
+use Rattle.run_laws.specs.Jobs.{Done}
+use Rattle.run_laws.specs.Laws.{IsDone}
+use Rattle.run_laws.specs.Events.{IsFinished, IsOverLimit}
+use Rattle.run_laws.specs.Finishes.{IsEnd}
+use Rattle.run_laws.specs.Progress.{Progress, whole_state}
+use Rattle.run_laws.specs.Sound.{IsSound}
 use Rattle.source_pool.specs.Basis.{Basis}
 use Rattle.source_pool.specs.Course.{HasCome, IsEnding, IsLogged, done_tasks}
 use Rattle.source_pool.specs.Laws.{EndsComeToRest, EndsGoOn, FirstMayEnd, TooManyNeverEnd}

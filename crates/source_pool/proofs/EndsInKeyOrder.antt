@@ -10,10 +10,9 @@ use Rattle.task_order.specs.TaskList.{HasDistinctKeys}
 use Rattle.app_laws.specs.Applications.{Application}
 use Rattle.commuting.specs.Rounds.{after_round}
 use Rattle.commuting.specs.States.{State}
-use Rattle.graph_update.specs.declared.job.Done.{Done}
-use Rattle.graph_update.specs.declared.job.Job.{Job}
-use Rattle.graph_update.specs.Events.{clear_nodes}
-use Rattle.graph_update.specs.Progress.{Progress}
+use Rattle.run_laws.specs.Jobs.{Done, Job}
+use Rattle.run_laws.specs.Events.{clear_nodes}
+use Rattle.run_laws.specs.Progress.{Progress}
 use Rattle.source_pool.specs.Course.{AreAllDone, HaveOwnKeys, IsAtRest, IsDrawing, IsEnding, IsJobDone, done_tasks}
 use Rattle.source_pool.specs.Laws.{DrawnJobsAreTheRound, DrawnJobsDiffer, RoundsHaveJobs}
 use Rattle.source_pool.specs.Performing.{AreDoneInSomeTurn}

@@ -8,7 +8,7 @@ use Rattle.commuting.specs.States.{State}
 use Rattle.kdg_graph.specs.declared.node_id.NodeId.{NodeId}
 use Rattle.kdg_graph.specs.Node.{Node}
 use Rattle.kdg_graph.specs.Nodes.{least_of}
-use Rattle.graph_update.specs.Progress.{Progress, whole_state}
+use Rattle.run_laws.specs.Progress.{Progress, whole_state}
 use Rattle.source_pool.specs.Course.{IsAtRest}
 use Rattle.source_pool.specs.Laws.{WholeIsHome}
 use Rattle.source_pool.specs.Runs.{state_at_rest}

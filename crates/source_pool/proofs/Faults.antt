@@ -4,15 +4,14 @@ use Rattle.cell_store.specs.Values.{values_of}
 use Rattle.kdg_graph.specs.declared.node_id.NodeId.{NodeId}
 use Rattle.app_laws.specs.Applications.{Application}
 use Rattle.commuting.specs.States.{State}
-use Rattle.graph_update.specs.declared.answers.FinishFault.{FinishFault}
-use Rattle.graph_update.specs.declared.answers.FinishFault.TheVariants as refusal
-use Rattle.graph_update.specs.declared.answers.OverCause.{OverCause}
-use Rattle.graph_update.specs.declared.answers.OverCause.TheVariants as cause
-use Rattle.graph_update.specs.declared.job.Done.{Done}
-use Rattle.graph_update.specs.Acting.{IsActFault}
-use Rattle.graph_update.specs.Answers.{IsFinishRefusal}
-use Rattle.graph_update.specs.Faults.{cause_of}
-use Rattle.graph_update.specs.Progress.{Progress}
+use Rattle.run_laws.specs.Jobs.{FinishFault, Done}
+use Rattle.crew.specs.declared.answers.FinishFault.TheVariants as refusal
+use Rattle.crew.specs.declared.answers.OverCause.{OverCause}
+use Rattle.crew.specs.declared.answers.OverCause.TheVariants as cause
+use Rattle.run_laws.specs.Acting.{IsActFault}
+use Rattle.run_laws.specs.Answers.{IsFinishRefusal}
+use Rattle.crew.specs.Faults.{cause_of}
+use Rattle.run_laws.specs.Progress.{Progress}
 use Rattle.source_pool.specs.Course.{IsActing, IsEnding}
 use Rattle.source_pool.specs.Laws.{TooManyActsNeverEnd, TooManyNeverEnd}
 use Rattle.source_pool.specs.Runs.{IsRunFault}

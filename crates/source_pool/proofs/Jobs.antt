@@ -11,11 +11,10 @@ use Rattle.cell_store.specs.Values.{homes}
 use Rattle.rw_sets.specs.Accesses.{writes}
 use Rattle.kdg_graph.specs.Node.{Node}
 use Rattle.app_laws.specs.Applications.{Application, effect_of, set_in}
-use Rattle.graph_update.specs.declared.job.Done.{Done}
-use Rattle.graph_update.specs.declared.job.Job.{Job}
-use Rattle.graph_update.specs.Laws.{IsPerformed}
-use Rattle.graph_update.specs.Progress.{Progress, whole_state}
-use Rattle.graph_update.specs.Sound.{Covers, HasJob, IsOfNode, IsRunningAs, IsSound, IsWhole, JobsMatch, is_written}
+use Rattle.run_laws.specs.Jobs.{Done, Job}
+use Rattle.crew.specs.Jobs.{IsPerformed}
+use Rattle.run_laws.specs.Progress.{Progress, whole_state}
+use Rattle.run_laws.specs.Sound.{Covers, HasJob, IsOfNode, IsRunningAs, IsSound, IsWhole, JobsMatch, is_written}
 use Rattle.commuting.specs.Clear.{IsClear}
 use Rattle.source_pool.specs.Basis.{Basis}
 use Rattle.source_pool.specs.Course.{AreAllDone, HaveOwnKeys, IsJobDone}

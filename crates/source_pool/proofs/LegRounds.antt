@@ -6,11 +6,11 @@ use Rattle.output_log.specs.Entries.{joined_texts}
 use Rattle.app_laws.specs.declared.serial_run.Finals.{Finals}
 use Rattle.app_laws.specs.Applications.{Application}
 use Rattle.commuting.specs.Rounds.{after_round}
-use Rattle.graph_update.specs.declared.answers.OverCause.{OverCause}
-use Rattle.graph_update.specs.declared.answers.OverCause.TheVariants as cause
-use Rattle.graph_update.specs.Progress.{Progress}
-use Rattle.graph_update.specs.Renaming.{IsRenamed}
-use Rattle.graph_update.specs.Sound.{IsSound}
+use Rattle.crew.specs.declared.answers.OverCause.{OverCause}
+use Rattle.crew.specs.declared.answers.OverCause.TheVariants as cause
+use Rattle.run_laws.specs.Progress.{Progress}
+use Rattle.run_laws.specs.Renaming.{IsRenamed}
+use Rattle.run_laws.specs.Sound.{IsSound}
 use Rattle.source_pool.specs.Course.{IsAtRest, LeadsByRounds}
 use Rattle.source_pool.specs.Laws.{RestWithoutNodesIsTheEnd, RoundsAdd, RoundsAreTaken, StartsAreAtRest, WholeIsHome}
 use Rattle.source_pool.specs.Legs.{BeginsAtRest, GoesOnFrom}

@@ -15,9 +15,9 @@ use Rattle.commuting.specs.Renaming.{ComesToSame, HasSameTexts}
 use Rattle.commuting.specs.Rounds.{TakesRounds}
 use Rattle.commuting.specs.Standing.{AreUnlogged, IsLaterLog, IsRestOf}
 use Rattle.commuting.specs.States.{State, state_of, run_from}
-use Rattle.graph_update.specs.Progress.{Progress, whole_state}
-use Rattle.graph_update.specs.Renaming.{IsRenamed}
-use Rattle.graph_update.specs.Sound.{IsSound}
+use Rattle.run_laws.specs.Progress.{Progress, whole_state}
+use Rattle.run_laws.specs.Renaming.{IsRenamed}
+use Rattle.run_laws.specs.Sound.{IsSound}
 use Rattle.source_pool.specs.Basis.{Basis}
 use Rattle.source_pool.specs.Course.{IsAtRest, LeadsByRounds}
 use Rattle.source_pool.specs.Legs.{IsEndBehind, LegsBegin, LegsGoOn, RenamingsGoOn}

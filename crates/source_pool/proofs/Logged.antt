@@ -18,8 +18,8 @@ use Rattle.kdg_graph.specs.Nodes.{tasks_of}
 use Rattle.app_laws.specs.Applications.{Application}
 use Rattle.app_laws.specs.Execution.{children_from}
 use Rattle.commuting.specs.Standing.{ComeBefore}
-use Rattle.graph_update.specs.Events.{drainable, drained, undrainable}
-use Rattle.graph_update.specs.Progress.{Progress}
+use Rattle.run_laws.specs.Events.{drainable, drained, undrainable}
+use Rattle.run_laws.specs.Progress.{Progress}
 use Rattle.source_pool.specs.Basis.{Basis}
 use Rattle.source_pool.specs.Course.{IsLogged}
 use Rattle.source_pool.proofs.Lists.{all_at, all_from, all_joined, from_filter}

@@ -3,8 +3,7 @@ use Rattle.std.proofs.Common.{◌≡◌, ◌∙◌, List, [], ◌∷◌, ◌++�
 use Rattle.std.specs.List.{AllZip}
 use Rattle.std.proofs.lemmas.List.{append-nil, append_assoc}
 use Rattle.app_laws.specs.Applications.{Application}
-use Rattle.graph_update.specs.declared.job.Done.{Done}
-use Rattle.graph_update.specs.declared.job.Job.{Job}
+use Rattle.run_laws.specs.Jobs.{Done, Job}
 use Rattle.source_pool.specs.Course.{IsJobDone}
 use Rattle.source_pool.proofs.Lists.{AllZip-append}
 

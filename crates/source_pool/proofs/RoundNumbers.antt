@@ -15,8 +15,8 @@ use Rattle.app_laws.specs.Execution.{Execution}
 use Rattle.commuting.specs.Rounds.{TakesRounds, after_round}
 use Rattle.commuting.specs.Standing.{IsEndWith}
 use Rattle.commuting.specs.States.{State, run_from}
-use Rattle.graph_update.specs.Progress.{Progress, whole_state}
-use Rattle.graph_update.specs.Sound.{IsSound}
+use Rattle.run_laws.specs.Progress.{Progress, whole_state}
+use Rattle.run_laws.specs.Sound.{IsSound}
 use Rattle.source_pool.specs.Basis.{Basis}
 use Rattle.source_pool.proofs.Logged.{texts_in_all}
 use Rattle.source_pool.specs.Course.{IsAtRest, LeadsByRounds}

@@ -9,10 +9,10 @@ use Rattle.app_laws.specs.Applications.{Application, IsLawful, PathsAreIgnored}
 use Rattle.commuting.specs.Renaming.{ListedTasksComeToSame}
 use Rattle.commuting.specs.Rounds.{ClearTasksAreListed}
 use Rattle.commuting.specs.Standing.{StartsStandForThemselves, ClearTasksKeepStanding, NothingPendingIsTheEnd, RunsLogLater, RunsLogNewKeys, TooManyTasksNeverEnd}
-use Rattle.graph_update.specs.Finishes.{FinishesActOnWhole}
-use Rattle.graph_update.specs.Laws.{ClaimsKeepSound, FinishesKeepSound, MarksAndDrainsKeepSound, RecordedSetsSuffice, SomeIsClear}
-use Rattle.graph_update.specs.Renaming.{RenamingsKeepSound}
-use Rattle.graph_update.specs.StandingLaws.{ClearNodesStayClear}
+use Rattle.run_laws.specs.Finishes.{FinishesActOnWhole}
+use Rattle.run_laws.specs.Laws.{ClaimsKeepSound, FinishesKeepSound, MarksAndDrainsKeepSound, RecordedSetsSuffice, SomeIsClear}
+use Rattle.run_laws.specs.Renaming.{RenamingsKeepSound}
+use Rattle.run_laws.specs.StandingLaws.{ClearNodesStayClear}
 
 pub record Basis {V : Type 0} (app : Application V) : Type 0 where
   pub lawful : IsLawful app

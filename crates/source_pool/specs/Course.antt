@@ -12,11 +12,10 @@ use Rattle.app_laws.specs.Applications.{Application, IsEffect, set_in}
 use Rattle.commuting.specs.Rounds.{after_round}
 use Rattle.commuting.specs.Standing.{ComeBefore, StandsFor}
 use Rattle.commuting.specs.States.{State, after_tasks}
-use Rattle.graph_update.specs.declared.job.Done.{Done}
-use Rattle.graph_update.specs.declared.job.Job.{Job}
-use Rattle.graph_update.specs.Progress.{Progress, whole_state}
-use Rattle.graph_update.specs.Sound.{IsSound}
-use Rattle.graph_update.specs.StandingLaws.{IsClearNode}
+use Rattle.run_laws.specs.Jobs.{Done, Job}
+use Rattle.run_laws.specs.Progress.{Progress, whole_state}
+use Rattle.run_laws.specs.Sound.{IsSound}
+use Rattle.run_laws.specs.StandingLaws.{IsClearNode}
 
 -- the tasks of performed jobs, in order
 abbrev pub done_tasks : {V : Type 0} → List (Done V) → List Task

@@ -10,13 +10,12 @@ use Rattle.app_laws.specs.Applications.{Application}
 use Rattle.app_laws.specs.Execution.{Execution}
 use Rattle.commuting.specs.Rounds.{TakesRounds, after_round}
 use Rattle.commuting.specs.States.{State, run_from}
-use Rattle.graph_update.specs.declared.job.Done.{Done}
-use Rattle.graph_update.specs.declared.job.Job.{Job}
-use Rattle.graph_update.specs.Acting.{HasActed, IsTooMany}
-use Rattle.graph_update.specs.Engine.{IsDone, IsOfClear}
-use Rattle.graph_update.specs.Events.{IsClaimed, IsFinished, IsOverLimit, clear_nodes, drainable, drained}
-use Rattle.graph_update.specs.Progress.{Progress, whole_state}
-use Rattle.graph_update.specs.Sound.{IsSound}
+use Rattle.run_laws.specs.Jobs.{Done, Job}
+use Rattle.run_laws.specs.Acting.{HasActed, IsTooMany}
+use Rattle.run_laws.specs.Laws.{IsDone}
+use Rattle.run_laws.specs.Events.{IsOfClear, IsClaimed, IsFinished, IsOverLimit, clear_nodes, drainable, drained}
+use Rattle.run_laws.specs.Progress.{Progress, whole_state}
+use Rattle.run_laws.specs.Sound.{IsSound}
 use Rattle.source_pool.specs.Course.{AreAllDone, HaveOwnKeys, IsActing, IsAtRest, IsDrawing, IsEnding, LeadsByRounds, done_tasks, idle_count}
 
 module _ {V : Type 0} (app : Application V) where

@@ -5,8 +5,8 @@ use Rattle.output_log.specs.Entries.{with_texts}
 use Rattle.app_laws.specs.declared.serial_run.Finals.{Finals}
 use Rattle.app_laws.specs.Applications.{Application, PathsAreIgnored}
 use Rattle.commuting.specs.States.{State}
-use Rattle.graph_update.specs.Progress.{Progress}
-use Rattle.graph_update.specs.Renaming.{IsRenamed}
+use Rattle.run_laws.specs.Progress.{Progress}
+use Rattle.run_laws.specs.Renaming.{IsRenamed}
 use Rattle.source_pool.specs.Course.{IsAtRest, LeadsByRounds}
 use Rattle.source_pool.specs.Runs.{IsRoundsEnd, rest_of_run, state_at_rest}
 

@@ -8,9 +8,9 @@ use Rattle.app_laws.specs.declared.serial_run.Finals.{Finals}
 use Rattle.app_laws.specs.Execution.{Execution}
 use Rattle.commuting.specs.Rounds.{TakesRounds}
 use Rattle.commuting.specs.States.{State, run_from}
-use Rattle.graph_update.specs.declared.answers.OverCause.{OverCause}
-use Rattle.graph_update.specs.declared.answers.OverCause.TheVariants as cause
-use Rattle.graph_update.specs.Progress.{Progress, whole_state}
+use Rattle.crew.specs.declared.answers.OverCause.{OverCause}
+use Rattle.crew.specs.declared.answers.OverCause.TheVariants as cause
+use Rattle.run_laws.specs.Progress.{Progress, whole_state}
 
 -- the state of an execution in which nothing is running: its cells are those of the store
 abbrev pub state_at_rest : {V : Type 0} → Progress V → State V

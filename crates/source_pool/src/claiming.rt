@@ -3,8 +3,8 @@
 ghost use Rattle.std.specs.Prelude.{◌≡◌, [], OnOk};
 ghost use Rattle.std.specs.List.{AllByRecursion};
 ghost use Rattle.cell_store.specs.Values.{values_of};
-ghost use Rattle.graph_update.specs.Engine.{MayRun};
-ghost use Rattle.graph_update.specs.Events.{clear_nodes};
+ghost use Rattle.crew.specs.Jobs.{MayRun};
+ghost use Rattle.run_laws.specs.Events.{clear_nodes};
 ghost use Rattle.source_pool.specs.Course.{IsAtRest, RunPoint, IsDrawing};
 
 use crate::laws::drawing_laws;

@@ -2,7 +2,7 @@
 
 ghost use Rattle.std.specs.Prelude.{◌≡◌, OnOk};
 ghost use Rattle.cell_store.specs.Values.{values_of};
-ghost use Rattle.graph_update.specs.Events.{drained};
+ghost use Rattle.run_laws.specs.Events.{drained};
 ghost use Rattle.source_pool.specs.Course.{IsAtRest, RunPoint};
 
 use crate::laws::draining_laws;

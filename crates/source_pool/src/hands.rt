@@ -2,7 +2,7 @@
 
 ghost use Rattle.std.specs.Prelude.{◌≡◌, ◌≤◌, ◌<◌, ◌^◌, [], length, OnOk};
 ghost use Rattle.std.specs.List.{All, AllByRecursion, AllZip};
-ghost use Rattle.graph_update.specs.Engine.{MayRun};
+ghost use Rattle.crew.specs.Jobs.{MayRun};
 ghost use Rattle.source_pool.specs.Performing.{AreDealt, AreDoneInSomeTurn, AreEmptyHands, IsPlayed, MayPlay, gathered};
 
 use crate::performing::perform_in_turn;

@@ -5,12 +5,12 @@ ghost use Rattle.source_pool.specs.Laws.{ActsBegin, ActsComeToRest, ActsGoOn, Cl
 use app_laws::{App, lawful};
 use cell_store::value_laws;
 use commuting::{listed_tasks_come_to_same, round_laws as clear_round_laws, standing_laws};
-use graph_update::{
+use kdg_graph::laws::{node_laws, put_laws};
+use output_log::{join_laws, part_laws};
+use run_laws::{
     claim_laws, clear_laws, drain_laws, finish_state_laws, renaming_laws, sound_finish_laws,
     stay_clear_laws,
 };
-use kdg_graph::laws::{node_laws, put_laws};
-use output_log::{join_laws, part_laws};
 use rw_sets::conflict_laws;
 use task_order::{earlier_laws, key_order, put_all_laws, put_in_laws, without_laws};
 

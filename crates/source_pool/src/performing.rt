@@ -4,7 +4,7 @@ ghost use Rattle.std.specs.Prelude.{◌≡◌, ◌≢◌, ◌+◌, ◌-◌, ◌<
 ghost use Rattle.std.specs.List.{AllByRecursion, AllZip};
 ghost use Rattle.cell_store.specs.Values.{values_of};
 ghost use Rattle.commuting.specs.Rounds.{after_round};
-ghost use Rattle.graph_update.specs.Engine.{MayRun};
+ghost use Rattle.crew.specs.Jobs.{MayRun};
 ghost use Rattle.source_pool.specs.Course.{IsAtRest, IsEnding, IsJobDone, RunPoint};
 ghost use Rattle.source_pool.specs.Performing.{AreDoneInSomeTurn};
 

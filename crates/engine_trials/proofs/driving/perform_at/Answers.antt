@@ -1,6 +1,6 @@
 use Rattle.std.proofs.Common.{sym, subst}
 use Rattle.app_laws.specs.Applications.{IsEffect}
-use Rattle.graph_update.specs.Engine.{MayRun}
+use Rattle.crew.specs.Jobs.{MayRun}
 use Rattle.engine_trials.proofs.Hands.{done_beside, is_done, may_run_at}
 use Rattle.engine_trials.proofs.driving.perform_at.Goals as goal
 

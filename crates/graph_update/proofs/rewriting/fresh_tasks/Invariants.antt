@@ -1,5 +1,5 @@
 use Rattle.std.proofs.Common.{◌≡◌, ◌++◌, drop}
-use Rattle.graph_update.specs.Events.{fresh_from}
+use Rattle.run_laws.specs.Events.{fresh_from}
 use Rattle.graph_update.proofs.rewriting.fresh_tasks.Given as goal
 
 abbrev pub invariant-loop-number : goal.invariant-loop-number

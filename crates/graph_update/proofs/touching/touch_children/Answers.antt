@@ -4,7 +4,7 @@ use Rattle.task_order.specs.declared.task.Task.{Task}
 use Rattle.task_order.specs.Key.{child_key}
 use Rattle.task_order.specs.TaskList.{put_all, put_in}
 use Rattle.kdg_graph.specs.Rewrite.{fresh_tasks}
-use Rattle.graph_update.specs.Events.{fresh_from}
+use Rattle.run_laws.specs.Events.{fresh_from}
 use Rattle.graph_update.proofs.MakingFresh.{one_more_put}
 use Rattle.graph_update.proofs.touching.touch_children.Goals as goal
 

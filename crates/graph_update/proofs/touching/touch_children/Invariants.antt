@@ -3,7 +3,7 @@ use Rattle.task_order.specs.declared.key.Key.{Key}
 use Rattle.task_order.specs.declared.task.Task.{Task}
 use Rattle.task_order.specs.TaskList.{put_all}
 use Rattle.kdg_graph.specs.Rewrite.{fresh_tasks}
-use Rattle.graph_update.specs.Events.{fresh_from}
+use Rattle.run_laws.specs.Events.{fresh_from}
 use Rattle.graph_update.proofs.touching.touch_children.Given as goal
 
 -- it tells of some tasks, with which the children that are left make up what all of them make of the first

@@ -3,8 +3,8 @@ use Rattle.std.proofs.lemmas.List.{drop_all, drop_more}
 use Rattle.std.proofs.lemmas.Result.{err_from_is_err_and}
 use Rattle.cell_store.specs.Values.{values_of}
 use Rattle.kdg_graph.specs.Nodes.{HasNode}
-use Rattle.graph_update.specs.Acting.{HasActed, IsActFault}
-use Rattle.graph_update.specs.Engine.{IsOfClear}
+use Rattle.run_laws.specs.Acting.{HasActed, IsActFault}
+use Rattle.run_laws.specs.Events.{IsOfClear}
 use Rattle.source_pool.specs.Course.{IsActing}
 use Rattle.source_pool.proofs.Faults.{not_acted}
 use Rattle.source_pool.proofs.acting.act_in_turn.Goals as goal

@@ -3,8 +3,8 @@ use Rattle.std.proofs.Common.{◌≡◌, length, sym, ap, subst, ◌∙◌, arit
 use Rattle.cell_store.specs.Values.{values_of}
 use Rattle.kdg_graph.specs.Nodes.{ids_of}
 use Rattle.commuting.specs.Rounds.{after_round}
-use Rattle.graph_update.specs.Events.{clear_nodes}
-use Rattle.graph_update.specs.Progress.{EngineState}
+use Rattle.run_laws.specs.Events.{clear_nodes}
+use Rattle.graph_update.specs.Engine.{EngineState}
 use Rattle.source_pool.specs.Course.{IsActing}
 use Rattle.source_pool.proofs.Lists.{some_in}
 use Rattle.source_pool.proofs.acting.act_round.Goals as goal

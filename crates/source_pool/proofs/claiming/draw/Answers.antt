@@ -1,10 +1,11 @@
 use Rattle.std.proofs.Common.{sym, ap, subst, ◌∙◌, arith}
 use Rattle.std.specs.List.{AllByRecursion}
 use Rattle.cell_store.specs.Values.{values_of}
-use Rattle.graph_update.specs.Answers.{IsClaimAnswer}
-use Rattle.graph_update.specs.Engine.{IsToRun, MayRun}
-use Rattle.graph_update.specs.Events.{IsClaimed, clear_nodes}
-use Rattle.graph_update.specs.Progress.{Progress}
+use Rattle.run_laws.specs.Answers.{IsClaimAnswer}
+use Rattle.graph_update.specs.Engine.{IsToRun}
+use Rattle.crew.specs.Jobs.{MayRun}
+use Rattle.run_laws.specs.Events.{IsClaimed, clear_nodes}
+use Rattle.run_laws.specs.Progress.{Progress}
 use Rattle.source_pool.specs.Course.{IsDrawing}
 use Rattle.source_pool.proofs.DrawnOut.{drawn_out}
 use Rattle.source_pool.proofs.Lists.{all_turned}

@@ -1,7 +1,7 @@
 use Rattle.std.proofs.Common.{◌≡◌}
 use Rattle.std.specs.List.{AllByRecursion}
 use Rattle.cell_store.specs.Values.{values_of}
-use Rattle.graph_update.specs.Engine.{MayRun}
+use Rattle.crew.specs.Jobs.{MayRun}
 use Rattle.source_pool.specs.Course.{IsDrawing, idle_count}
 use Rattle.source_pool.proofs.claiming.draw.Given as goal
 

@@ -1,10 +1,10 @@
 use Rattle.std.proofs.Common.{◌≡◌, ◌∷◌, length, sym, ap, subst, ◌∙◌, arith}
 use Rattle.std.proofs.lemmas.Result.{err_from_is_err_and}
 use Rattle.cell_store.specs.Values.{values_of}
-use Rattle.graph_update.specs.Answers.{IsFinishRefusal}
-use Rattle.graph_update.specs.Engine.{IsDone}
-use Rattle.graph_update.specs.Events.{IsFinished, IsOverLimit}
-use Rattle.graph_update.specs.Progress.{Progress}
+use Rattle.run_laws.specs.Answers.{IsFinishRefusal}
+use Rattle.run_laws.specs.Laws.{IsDone}
+use Rattle.run_laws.specs.Events.{IsFinished, IsOverLimit}
+use Rattle.run_laws.specs.Progress.{Progress}
 use Rattle.source_pool.specs.Course.{IsEnding}
 use Rattle.source_pool.proofs.Faults.{refused}
 use Rattle.source_pool.proofs.Lists.{nothing_left}

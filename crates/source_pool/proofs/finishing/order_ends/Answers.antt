@@ -6,7 +6,7 @@ use Rattle.std.specs.VecDeque.{deque_len}
 use Rattle.std.proofs.lemmas.Fn.{always_returns_same}
 use Rattle.std.proofs.lemmas.List.Sorted.{ranks_by}
 use Rattle.task_order.specs.Key.{key_cmp, key_cmp_total}
-use Rattle.graph_update.specs.declared.job.Done.{Done}
+use Rattle.run_laws.specs.Jobs.{Done}
 use Rattle.source_pool.proofs.finishing.order_ends.Goals as goal
 
 pub returns : goal.returns

@@ -2,9 +2,8 @@ use Rattle.std.proofs.Common.{◌≡◌, ◌++◌, ◌∙◌, List, Some, ap, sy
 use Rattle.std.specs.List.{All, AllZip}
 use Rattle.std.proofs.lemmas.Result.{on_ok_weaker}
 use Rattle.app_laws.specs.Applications.{Application}
-use Rattle.graph_update.specs.Engine.{MayRun}
-use Rattle.graph_update.specs.declared.job.Done.{Done}
-use Rattle.graph_update.specs.declared.job.Job.{Job}
+use Rattle.crew.specs.Jobs.{MayRun}
+use Rattle.run_laws.specs.Jobs.{Done, Job}
 use Rattle.source_pool.specs.declared.hands.Hand.{Hand}
 use Rattle.source_pool.specs.Performing.{IsPlayed, MayPlay, dealt_jobs, gathered}
 use Rattle.source_pool.proofs.HandsPlayed.{all_played, given_back, in_each_hand}

@@ -1,7 +1,6 @@
 use Rattle.std.proofs.Common.{◌≡◌, List, get_or, length, rules, subst}
 use Rattle.app_laws.specs.Applications.{Application}
-use Rattle.graph_update.specs.declared.job.Done.{Done}
-use Rattle.graph_update.specs.declared.job.Job.{Job}
+use Rattle.run_laws.specs.Jobs.{Done, Job}
 use Rattle.source_pool.specs.declared.hands.Hand.{Hand}
 use Rattle.source_pool.specs.Performing.{IsPlayed}
 use Rattle.source_pool.proofs.HandsPlayed.{played}

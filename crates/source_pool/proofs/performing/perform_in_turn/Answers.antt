@@ -1,7 +1,7 @@
 use Rattle.std.proofs.Common.{List, arith, subst, sym}
 use Rattle.std.specs.List.{AllByRecursion}
-use Rattle.graph_update.specs.declared.job.Job.{Job}
-use Rattle.graph_update.specs.Engine.{MayRun}
+use Rattle.run_laws.specs.Jobs.{Job}
+use Rattle.crew.specs.Jobs.{MayRun}
 use Rattle.source_pool.specs.Course.{IsJobDone}
 use Rattle.source_pool.proofs.Lists.{nothing_left}
 use Rattle.source_pool.proofs.PerformedInOrder.{all_done, none_done, one_done}

@@ -1,6 +1,6 @@
 use Rattle.std.proofs.Common.{length}
 use Rattle.std.specs.List.{AllByRecursion}
-use Rattle.graph_update.specs.Engine.{MayRun}
+use Rattle.crew.specs.Jobs.{MayRun}
 use Rattle.source_pool.proofs.PerformedInOrder.{AreDoneBefore}
 use Rattle.source_pool.proofs.performing.perform_in_turn.Given as goal
 

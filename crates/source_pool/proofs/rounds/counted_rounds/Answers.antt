@@ -3,9 +3,9 @@ use Rattle.std.proofs.lemmas.Result.{err_from_is_err_and}
 use Rattle.cell_store.specs.Values.{values_of}
 use Rattle.kdg_graph.specs.Nodes.{least_of}
 use Rattle.app_laws.specs.Applications.{PathsAreIgnored}
-use Rattle.graph_update.specs.Progress.{Progress}
-use Rattle.graph_update.specs.Renaming.{IsRenamed}
-use Rattle.graph_update.specs.Sound.{IsSound}
+use Rattle.run_laws.specs.Progress.{Progress}
+use Rattle.run_laws.specs.Renaming.{IsRenamed}
+use Rattle.run_laws.specs.Sound.{IsSound}
 use Rattle.source_pool.specs.Course.{IsAtRest, LeadsByRounds}
 use Rattle.source_pool.specs.Legs.{BeginsAtRest, GoesOnFrom}
 use Rattle.source_pool.specs.Runs.{IsRunFault, state_at_rest}

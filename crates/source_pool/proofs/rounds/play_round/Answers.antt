@@ -3,7 +3,8 @@ use Rattle.std.proofs.Common.{ℕ, List, sym, ap, subst, arith}
 use Rattle.std.proofs.lemmas.Result.{err_from_is_err_and}
 use Rattle.cell_store.specs.Values.{values_of}
 use Rattle.commuting.specs.Rounds.{after_round}
-use Rattle.graph_update.specs.Progress.{EngineState, Progress}
+use Rattle.graph_update.specs.Engine.{EngineState}
+use Rattle.run_laws.specs.Progress.{Progress}
 use Rattle.source_pool.specs.Course.{IsAtRest, IsEnding}
 use Rattle.source_pool.specs.Runs.{IsRunFault}
 use Rattle.source_pool.proofs.rounds.play_round.Goals as goal

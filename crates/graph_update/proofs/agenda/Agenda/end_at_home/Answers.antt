@@ -13,52 +13,51 @@ use Rattle.output_log.specs.Entries.{IsNewEntry}
 use Rattle.app_laws.specs.declared.child.Child.{Child}
 use Rattle.app_laws.specs.Applications.{IsFitTask}
 use Rattle.graph_update.specs.Engine.{AreKnown, progress_of}
-use Rattle.graph_update.specs.Events.{fresh_from, renewals}
-use Rattle.graph_update.proofs.Performed.{children_fit, children_not_earlier, fit_task, fresh_new}
+use Rattle.run_laws.specs.Events.{fresh_from, renewals}
 use Rattle.graph_update.proofs.ReadyIds.{some_are_ready}
-use Rattle.graph_update.proofs.TaskEnds.{counted_end, entry_is_new, fit_given, fresh_is, has_node, is_finished, log_is, node_is, not_over, progress_back, stays_fixed, stays_ready, task_is}
+use Rattle.graph_update.proofs.TaskEnds.{counted_end, entry_is_new, fit_given, fresh_is, has_node, is_finished, known, log_is, node_is, not_over, progress_back, stays_fixed, stays_ready, task_is}
 use Rattle.graph_update.proofs.Touched.{tasks_after, told_of_others}
 use Rattle.graph_update.proofs.agenda.Agenda.end_at_home.Goals as goal
 
 pub task-requires : goal.task-requires
-task-requires g c = has_node (c.basis.ensures c.args.app.now) _ _ c.requires.home.is_done
+task-requires g c = has_node (c.end_basis.ensures c.args.app.now) _ _ c.requires.home.is_done
 
 pub fresh_tasks-requires-clause-not_earlier : goal.fresh_tasks-requires-clause-not_earlier
 fresh_tasks-requires-clause-not_earlier g c =
     let is = c.requires.home.is_done in
-    let basis = c.basis.ensures c.args.app.now in
+    let basis = c.end_basis.ensures c.args.app.now in
     subst (λ (children : List Child). AllByRecursion (λ child. c.task.result.now.key.prio ≤ child.prio) children) (sym c.items-children.ensures.all)
-    (subst (λ (task : Task). AllByRecursion (λ child. task.key.prio ≤ child.prio) c.args.children.now) (sym (task_is basis _ _ is c.task.result.now c.task.ensures)) (children_not_earlier basis is.sound is.performed))
+    (subst (λ (task : Task). AllByRecursion (λ child. task.key.prio ≤ child.prio) c.args.children.now) (sym (task_is basis _ _ is c.task.result.now c.task.ensures)) (known basis _ _ is).children_later)
 
 pub end_node-requires-clause-cells : goal.end_node-requires-clause-cells
 end_node-requires-clause-cells g c κs within =
-    let fit = fit_given (c.basis.ensures c.args.app.now) _ _ c.requires.home.is_done in
+    let fit = fit_given (c.end_basis.ensures c.args.app.now) _ _ c.requires.home.is_done in
     (fit.0, fit.1, subst (λ cells. AgreesWith cells fit.0) (sym c.requires.home.given) fit.2)
 
 pub end_node-requires-clause-new : goal.end_node-requires-clause-new
 end_node-requires-clause-new g c κs within =
     let is = c.requires.home.is_done in
-    let basis = c.basis.ensures c.args.app.now in
+    let basis = c.end_basis.ensures c.args.app.now in
     let fresh_are = fresh_is basis _ _ is c.task.result.now c.task.ensures c.items-children.result.now c.items-children.ensures.all c.fresh_tasks.new.fresh.items c.in-Ok-fresh_tasks.ensures in
-    subst (HaveNewKeys (tasks_of c.args.self.now.graph)) (sym fresh_are) (fresh_new basis is.sound is.performed)
+    subst (HaveNewKeys (tasks_of c.args.self.now.graph)) (sym fresh_are) (known basis _ _ is).new_keys
 
 pub touch_end-requires-clause-ended : goal.touch_end-requires-clause-ended
 touch_end-requires-clause-ended g c κs within =
     let is = c.requires.home.is_done in
-    let basis = c.basis.ensures c.args.app.now in
+    let basis = c.end_basis.ensures c.args.app.now in
     let own = task_is basis _ _ is c.in-Ok-end_node.task c.in-Ok-end_node.ensures.task in
-    (c.in-Ok-end_node.task.key.prio, subst (IsFitTask (g.A.App.meaning c.args.app.now)) (is.performed.task ∙ sym own) (fit_task basis is.sound is.performed))
+    (c.in-Ok-end_node.task.key.prio, subst (IsFitTask (g.A.App.meaning c.args.app.now)) (is.performed.task ∙ sym own) (known basis _ _ is).fit)
 
 pub touch_end-requires-clause-children : goal.touch_end-requires-clause-children
 touch_end-requires-clause-children g c κs within =
     let is = c.requires.home.is_done in
     subst (λ (children : List Child). AllByRecursion (λ child. (g.A.App.meaning c.args.app.now).is_fit_task child.prio child.body) children) (sym c.items-children.ensures.all)
-    (children_fit (c.basis.ensures c.args.app.now) is.sound is.performed)
+    (known (c.end_basis.ensures c.args.app.now) _ _ is).children_fit
 
 pub put-requires-clause-new : goal.put-requires-clause-new
 put-requires-clause-new g c =
     let is = c.requires.home.is_done in
-    let basis = c.basis.ensures c.args.app.now in
+    let basis = c.end_basis.ensures c.args.app.now in
     let own = task_is basis _ _ is c.in-Ok-end_node.task c.in-Ok-end_node.ensures.task in
     subst (λ (task : Task). IsNewEntry task.key c.reserve_for.new.self.entries) (sym own)
     (subst (IsNewEntry c.requires.home.task.key) (sym c.reserve_for.ensures.entries) (entry_is_new basis _ _ is))
@@ -66,7 +65,7 @@ put-requires-clause-new g c =
 pub returns-in-Ok-end_node-clause-ended : goal.returns-in-Ok-end_node-clause-ended
 returns-in-Ok-end_node-clause-ended g c back =
     let is = back.is_done in
-    let basis = c.basis.ensures c.args.app.now in
+    let basis = c.end_basis.ensures c.args.app.now in
     let within = not_over basis _ _ is _ refl c.requires.within in
     let fresh_are = fresh_is basis _ _ is c.task.result.now c.task.ensures c.items-children.result.now c.items-children.ensures.all c.fresh_tasks.new.fresh.items c.in-Ok-fresh_tasks.ensures in
     let log_are = log_is basis _ _ is c.in-Ok-end_node.task c.in-Ok-end_node.ensures.task c.reserve_for.new.self.entries c.reserve_for.ensures.entries c.put.new.self.entries c.put.ensures.entries in
@@ -78,7 +77,7 @@ pub returns-in-Ok-end_node-clause-known : goal.returns-in-Ok-end_node-clause-kno
 returns-in-Ok-end_node-clause-known g c =
     let app = c.args.app.now in
     let is = c.requires.home.is_done in
-    let basis = c.basis.ensures app in
+    let basis = c.end_basis.ensures app in
     let graph = is.sound.keys_and_counts.graph in
     let at = c.in-Ok-end_node.ensures.task in
     let within = not_over basis _ _ is _ refl c.requires.within in

@@ -2,9 +2,8 @@ use Rattle.std.proofs.Common.{◌≡◌, ◌+◌, ◌≤◌, Some, List, [], len
 use Rattle.kdg_graph.specs.Edges.{laters_of}
 use Rattle.kdg_graph.specs.Node.{Node}
 use Rattle.kdg_graph.specs.Nodes.{HasNode, node_at, set_at}
-use Rattle.graph_update.specs.Engine.{IsKept}
-use Rattle.graph_update.specs.Progress.{EngineState, Progress}
-use Rattle.graph_update.proofs.ActsKeep.{act_faults_keep_sound, acts_keep_sound}
+use Rattle.graph_update.specs.Engine.{IsKept, EngineState}
+use Rattle.run_laws.specs.Progress.{Progress}
 use Rattle.graph_update.proofs.ClearActs.{back_of, engine_acted, engine_fault, inside_clear, is_home, is_midway, is_node, may_act}
 use Rattle.graph_update.proofs.FixedSets.{fixed_started}
 use Rattle.graph_update.proofs.ReadyIds.{some_are_ready}
@@ -53,7 +52,7 @@ invariant_of-self-in-Ok-ended g c =
     let clear = inside_clear g.A.App.meaning _ _ c.self.view_is c.args.node c.requires.clear in
     let midway = is_midway (c.basis.ensures c.self.inside.app.now) _ c.self.invariant.0 c.args.node clear c.task-task.result.now c.task-task.ensures c.set-set.result.now c.set-set.ensures
     c.mark_running.new.self c.mark_running.ensures.marked c.in-Ok.children c.in-Ok.text c.act_at_home.new.store c.in-Ok.ensures.done in
-    let basis = c.basis-2.ensures c.self.inside.app.now in
+    let basis = c.end_basis.ensures c.self.inside.app.now in
     let within = not_over basis _ _ midway.is_done _ refl c.in-Ok-ended.ensures.within in
     (stays_kept basis _ _ midway.is_done within _ (c.in-Ok-ended.ensures.ended (back_of (g.A.App.meaning c.self.inside.app.now) midway)) (c.sound_finish_laws.ensures c.self.inside.app.now) c.self.invariant.0.limited, c.in-Ok-ended.ensures.known)
 
@@ -62,11 +61,11 @@ returns-in-Ok-ended-clause-acted g c =
     let clear = inside_clear g.A.App.meaning _ _ c.self.view_is c.args.node c.requires.clear in
     let midway = is_midway (c.basis.ensures c.self.inside.app.now) _ c.self.invariant.0 c.args.node clear c.task-task.result.now c.task-task.ensures c.set-set.result.now c.set-set.ensures
     c.mark_running.new.self c.mark_running.ensures.marked c.in-Ok.children c.in-Ok.text c.act_at_home.new.store c.in-Ok.ensures.done in
-    let within = not_over (c.basis-2.ensures c.self.inside.app.now) _ _ midway.is_done _ refl c.in-Ok-ended.ensures.within in
+    let within = not_over (c.end_basis.ensures c.self.inside.app.now) _ _ midway.is_done _ refl c.in-Ok-ended.ensures.within in
     engine_acted g.A.App.meaning _ _ c.self.view_is c.args.node _ (midway.acted within _ (c.in-Ok-ended.ensures.ended (back_of (g.A.App.meaning c.self.inside.app.now) midway)))
 
 pub returns-in-Ok-ended-clause-sound : goal.returns-in-Ok-ended-clause-sound
-returns-in-Ok-ended-clause-sound g c = acts_keep_sound (c.basis.ensures c.args.self.now.app) (c.sound_finish_laws.ensures c.args.self.now.app) (returns-in-Ok-ended-clause-acted g c)
+returns-in-Ok-ended-clause-sound g c = (c.basis.ensures c.args.self.now.app).acts _ _ _ (returns-in-Ok-ended-clause-acted g c)
 
 pub returns-in-Ok-ended-clause-steps : goal.returns-in-Ok-ended-clause-steps
 returns-in-Ok-ended-clause-steps g c =
@@ -89,7 +88,7 @@ drop_written-requires-after_bounds g c κs within =
     let midway = is_midway (c.basis.ensures c.self.inside.app.now) _ c.self.invariant.0 c.args.node clear c.task-task.result.now c.task-task.ensures c.set-set.result.now c.set-set.ensures
     c.mark_running.new.self c.mark_running.ensures.marked c.in-Ok.children c.in-Ok.text c.act_at_home.new.store c.in-Ok.ensures.done in
     let at = ap (λ (progress : Progress _). set_at progress.nodes c.args.node) (sym c.in-Err.ensures.unchanged) ∙ c.set.ensures in
-    written_home (c.basis-2.ensures c.self.inside.app.now) _ _ midway.is_done c.act_at_home.new.store midway.given c.set.result.now at
+    written_home (c.end_basis.ensures c.self.inside.app.now) _ _ midway.is_done c.act_at_home.new.store midway.given c.set.result.now at
 
 pub invariant_of-self-in-Err : goal.invariant_of-self-in-Err
 invariant_of-self-in-Err g c =
@@ -97,7 +96,7 @@ invariant_of-self-in-Err g c =
     let midway = is_midway (c.basis.ensures c.self.inside.app.now) _ c.self.invariant.0 c.args.node clear c.task-task.result.now c.task-task.ensures c.set-set.result.now c.set-set.ensures
     c.mark_running.new.self c.mark_running.ensures.marked c.in-Ok.children c.in-Ok.text c.act_at_home.new.store c.in-Ok.ensures.done in
     let at = ap (λ (progress : Progress _). set_at progress.nodes c.args.node) (sym c.in-Err.ensures.unchanged) ∙ c.set.ensures in
-    let left = dropped (c.basis-2.ensures c.self.inside.app.now) _ _ midway.is_done c.act_at_home.new.store midway.given c.set.result.now at c.drop_written.new.self c.drop_written.ensures.taken in
+    let left = dropped (c.end_basis.ensures c.self.inside.app.now) _ _ midway.is_done c.act_at_home.new.store midway.given c.set.result.now at c.drop_written.new.self c.drop_written.ensures.taken in
     let out = ap (λ (progress : Progress _). let now : Progress _ = record progress { over = Some c.in-Err.cause } in now) (with_cells _ _ c.in-Err.ensures.unchanged _ _ left) in
     (subst (IsKept (g.A.App.meaning c.self.inside.app.now)) (sym out) (midway.kept (Some c.in-Err.cause)), c.in-Err.ensures.known)
 
@@ -107,13 +106,13 @@ returns-clause-fault g c =
     let midway = is_midway (c.basis.ensures c.self.inside.app.now) _ c.self.invariant.0 c.args.node clear c.task-task.result.now c.task-task.ensures c.set-set.result.now c.set-set.ensures
     c.mark_running.new.self c.mark_running.ensures.marked c.in-Ok.children c.in-Ok.text c.act_at_home.new.store c.in-Ok.ensures.done in
     let at = ap (λ (progress : Progress _). set_at progress.nodes c.args.node) (sym c.in-Err.ensures.unchanged) ∙ c.set.ensures in
-    let left = dropped (c.basis-2.ensures c.self.inside.app.now) _ _ midway.is_done c.act_at_home.new.store midway.given c.set.result.now at c.drop_written.new.self c.drop_written.ensures.taken in
+    let left = dropped (c.end_basis.ensures c.self.inside.app.now) _ _ midway.is_done c.act_at_home.new.store midway.given c.set.result.now at c.drop_written.new.self c.drop_written.ensures.taken in
     let out = ap (λ (progress : Progress _). let now : Progress _ = record progress { over = Some c.in-Err.cause } in now) (with_cells _ _ c.in-Err.ensures.unchanged _ _ left) in
     let free = ap (λ (state : EngineState _ _). state.progress.over) c.self.view_is ∙ c.requires.not_over in
     engine_fault g.A.App.meaning _ _ c.self.view_is c.args.node _ _ c.in-Err.cause out (midway.fault free c.in-Err.cause c.in-Err.ensures.cause)
 
 pub returns-clause-refused_sound : goal.returns-clause-refused_sound
-returns-clause-refused_sound g c = act_faults_keep_sound (c.basis.ensures c.args.self.now.app) c.in-Err.cause (returns-clause-fault g c)
+returns-clause-refused_sound g c = (c.basis.ensures c.args.self.now.app).faults _ _ _ c.in-Err.cause (returns-clause-fault g c)
 
 pub returns-clause-steps : goal.returns-clause-steps
 returns-clause-steps g c =

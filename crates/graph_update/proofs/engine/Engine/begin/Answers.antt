@@ -21,11 +21,11 @@ invariant_of-result g c =
     let values = ap values_of c.in_ok-store.ensures ∙ c.value_laws.ensures.values.values_of_homes c.args.cells.items in
     let first = c.items-starts.ensures in
     let few : length c.args.first ≤ c.args.budget = subst (λ (starts : List Start). length starts ≤ c.args.budget) first c.if-asked-budget.false in (
-      begun_kept app c.args.cells.items _ c.args.first _ c.args.budget _ _ _ values first c.in_ok-store.ensures c.in_ok-graph.ensures.nodes c.new-3.ensures (c.basis.ensures c.args.app.now).lower.put_all_length
+      begun_kept app c.args.cells.items _ c.args.first _ c.args.budget _ _ _ values first c.in_ok-store.ensures c.in_ok-graph.ensures.nodes c.new-3.ensures (c.basis.ensures c.args.app.now).as_many
           (c.begin_laws.ensures.sound c.args.app.now) c.requires.fit_cells c.requires.fit_first few c.requires.budget,
       record {
         clear = some_are_ready app _ c.new.result [] c.new.ensures.ids c.new.ensures.current tt;
-        fixed = begun_fixed app c.args.cells.items _ c.args.first _ c.args.budget _ _ _ values first c.in_ok-store.ensures c.in_ok-graph.ensures.nodes c.new-3.ensures (c.basis.ensures c.args.app.now).lower.put_all_length
+        fixed = begun_fixed app c.args.cells.items _ c.args.first _ c.args.budget _ _ _ values first c.in_ok-store.ensures c.in_ok-graph.ensures.nodes c.new-3.ensures (c.basis.ensures c.args.app.now).as_many
             (c.begin_laws.ensures.sound c.args.app.now) c.requires.fit_cells c.requires.fit_first few;
         told = c.in_ok-horizon.ensures _;
       },
@@ -36,7 +36,7 @@ returns-clause-begun g c =
     let app = g.A.App.meaning c.args.app.now in
     let values = ap values_of c.in_ok-store.ensures ∙ c.value_laws.ensures.values.values_of_homes c.args.cells.items in
     let first = c.items-starts.ensures in
-    begun app c.args.cells.items _ c.args.first _ c.args.budget _ _ _ values first c.in_ok-store.ensures c.in_ok-graph.ensures.nodes c.new-3.ensures (c.basis.ensures c.args.app.now).lower.put_all_length
+    begun app c.args.cells.items _ c.args.first _ c.args.budget _ _ _ values first c.in_ok-store.ensures c.in_ok-graph.ensures.nodes c.new-3.ensures (c.basis.ensures c.args.app.now).as_many
 
 pub returns-clause-sound : goal.returns-clause-sound
 returns-clause-sound g c =
@@ -44,5 +44,5 @@ returns-clause-sound g c =
     let values = ap values_of c.in_ok-store.ensures ∙ c.value_laws.ensures.values.values_of_homes c.args.cells.items in
     let first = c.items-starts.ensures in
     let few : length c.args.first ≤ c.args.budget = subst (λ (starts : List Start). length starts ≤ c.args.budget) first c.if-asked-budget.false in
-    begun_sound app c.args.cells.items _ c.args.first _ c.args.budget _ _ _ values first c.in_ok-store.ensures c.in_ok-graph.ensures.nodes c.new-3.ensures (c.basis.ensures c.args.app.now).lower.put_all_length
+    begun_sound app c.args.cells.items _ c.args.first _ c.args.budget _ _ _ values first c.in_ok-store.ensures c.in_ok-graph.ensures.nodes c.new-3.ensures (c.basis.ensures c.args.app.now).as_many
     (c.begin_laws.ensures.sound c.args.app.now) c.requires.fit_cells c.requires.fit_first few

@@ -1,12 +1,11 @@
 use Rattle.std.proofs.Common.{◌≡◌, ◌≢◌, ◌∙◌, List, [], ◌∷◌, Option, Some, None, refl, ap, subst}
 use Rattle.std.specs.List.{remove}
-use Rattle.graph_update.specs.declared.job.Job.{Job}
-use Rattle.graph_update.specs.Engine.{MayRun, SomeRuns, progress_of}
-use Rattle.graph_update.specs.Events.{IsClaimed, clear_nodes}
-use Rattle.graph_update.specs.Progress.{EngineState}
-use Rattle.graph_update.specs.Sound.{IsSound}
-use Rattle.graph_update.proofs.ClaimedNodes.{ids_after}
-use Rattle.graph_update.proofs.ClearClaims.{claimed, has_node, kept_after, may_run, picked_home, runs_where_none, some_nodes, sound_after}
+use Rattle.run_laws.specs.Jobs.{Job}
+use Rattle.crew.specs.Jobs.{MayRun}
+use Rattle.graph_update.specs.Engine.{SomeRuns, progress_of, EngineState}
+use Rattle.run_laws.specs.Events.{IsClaimed, clear_nodes}
+use Rattle.run_laws.specs.Sound.{IsSound}
+use Rattle.graph_update.proofs.ClearClaims.{claimed, has_node, ids_after, kept_after, may_run, picked_home, runs_where_none, some_nodes, sound_after}
 use Rattle.graph_update.proofs.FixedSets.{fixed_started}
 use Rattle.graph_update.proofs.Picked.{pick_is}
 use Rattle.graph_update.proofs.ReadyIds.{all_are_ready}
@@ -55,9 +54,10 @@ invariant_of-self-2 g c = (
       c.task.ensures c.in_ok-task.ensures c.set.ensures c.in_ok-bundle.ensures.bundle c.in_ok-bundle.ensures.ok c.mark_running.ensures.marked,
   record {
     clear = all_are_ready (g.A.App.meaning c.self.inside.app.now) c.mark_running.new.self c.take-2.new.self
-        (ids_after (g.A.App.meaning c.self.inside.app.now) (c.basis.ensures c.self.inside.app.now).lower c.self.inside.agenda.graph c.self.invariant.0.sound.keys_and_counts.graph c.args.pick c.in-Some-picked.node
-        (pick_is (g.A.App.meaning c.self.inside.app.now) c.self.inside.agenda.graph c.args.pick c.look.new.self.ids.items (Some c.in-Some-picked.node) c.in_ok-look.ensures.all c.in-Some-picked.ensures.id)
-        c.look.new.self.ids.items c.take-2.new.self.ids.items c.in_ok-look.ensures.all (c.take-2.ensures.ids ∙ ap (remove c.look.new.self.ids.items) c.in-Some-picked.ensures.place) c.mark_running.new.self c.mark_running.ensures.marked);
+        (ids_after (c.basis.ensures c.self.inside.app.now) _ c.self.invariant.0 c.args.pick c.in-Some-picked.node (pick_is (g.A.App.meaning c.self.inside.app.now) c.self.inside.agenda.graph c.args.pick c.look.new.self.ids.items (Some c.in-Some-picked.node) c.in_ok-look.ensures.all c.in-Some-picked.ensures.id)
+        c.task.result.now c.in_ok-task.task c.set.result.now c.in_ok-bundle.bundle c.take.new.self c.mark_running.new.self
+        c.task.ensures c.in_ok-task.ensures c.set.ensures c.in_ok-bundle.ensures.bundle c.in_ok-bundle.ensures.ok c.mark_running.ensures.marked
+        c.look.new.self.ids.items c.take-2.new.self.ids.items c.in_ok-look.ensures.all (c.take-2.ensures.ids ∙ ap (remove c.look.new.self.ids.items) c.in-Some-picked.ensures.place));
     fixed = fixed_started (g.A.App.meaning c.self.inside.app.now) c.in-Some-picked.node c.self.inside.agenda.graph c.mark_running.new.self c.mark_running.ensures.marked c.self.invariant.1.fixed;
     told = told_started (g.A.App.tells c.self.inside.app.now c.look.new.horizon) (c.basis.ensures c.self.inside.app.now).lower.starts_keep_tasks c.in-Some-picked.node c.self.inside.agenda.graph c.mark_running.new.self c.mark_running.ensures.marked c.in_ok-look.ensures.told;
   },

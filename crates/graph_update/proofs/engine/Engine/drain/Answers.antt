@@ -1,5 +1,5 @@
 use Rattle.std.proofs.Common.{[], sym, ap}
-use Rattle.graph_update.specs.Events.{undrainable}
+use Rattle.run_laws.specs.Events.{undrainable}
 use Rattle.graph_update.proofs.Draining.{kept_by_drain, left_by_least}
 use Rattle.graph_update.proofs.engine.Engine.drain.Goals as goal
 

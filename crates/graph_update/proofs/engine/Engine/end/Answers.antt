@@ -1,8 +1,8 @@
 use Rattle.std.proofs.Common.{◌≡◌, List, [], IfOk, ap, subst, ◌∙◌}
 use Rattle.std.proofs.lemmas.Result.{err_from_is_err_and}
 use Rattle.cell_store.specs.Values.{homes}
-use Rattle.graph_update.specs.Progress.{EngineState}
-use Rattle.graph_update.specs.Sound.{IsSound}
+use Rattle.graph_update.specs.Engine.{EngineState}
+use Rattle.run_laws.specs.Sound.{IsSound}
 use Rattle.graph_update.proofs.Ending.{ends_whole}
 use Rattle.graph_update.proofs.engine.Engine.end.Goals as goal
 

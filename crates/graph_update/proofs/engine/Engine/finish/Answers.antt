@@ -1,11 +1,11 @@
 use Rattle.std.proofs.Common.{◌≡◌, ℕ, ◌+◌, ◌≤◌, ◌∙◌, Some, length, sym, ap, subst}
 use Rattle.std.specs.Option.{option_or}
 use Rattle.task_order.specs.declared.task.Task.{Task}
-use Rattle.graph_update.specs.declared.answers.OverCause.TheVariants as cause
-use Rattle.graph_update.specs.declared.job.Done.{Done}
-use Rattle.graph_update.specs.Engine.{FinishStaysSound, IsDone, IsOneStepEach}
-use Rattle.graph_update.specs.Events.{IsFinished}
-use Rattle.graph_update.specs.Progress.{EngineState}
+use Rattle.crew.specs.declared.answers.OverCause.TheVariants as cause
+use Rattle.run_laws.specs.Jobs.{Done}
+use Rattle.graph_update.specs.Engine.{FinishStaysSound, IsOneStepEach, EngineState}
+use Rattle.run_laws.specs.Laws.{IsDone}
+use Rattle.run_laws.specs.Events.{IsFinished}
 use Rattle.graph_update.proofs.NodeTasks.{own_task, same_done}
 use Rattle.graph_update.proofs.TaskEnds.{over_sound}
 use Rattle.graph_update.proofs.engine.Engine.finish.Goals as goal

@@ -1,4 +1,4 @@
-use Rattle.graph_update.specs.Acting.{task_named}
+use Rattle.run_laws.specs.Acting.{task_named}
 use Rattle.graph_update.proofs.engine.Engine.finish.Given as goal
 
 -- only what is handed over can be named here, so the task is the one that the graph has

@@ -1,7 +1,7 @@
 use Rattle.std.proofs.Common.{[], length, sym, ap, subst, ◌∙◌, arith}
 use Rattle.kdg_graph.specs.Nodes.{tasks_of}
-use Rattle.graph_update.specs.Progress.{EngineState}
-use Rattle.graph_update.specs.StandingLaws.{NoneRuns}
+use Rattle.graph_update.specs.Engine.{EngineState}
+use Rattle.run_laws.specs.StandingLaws.{NoneRuns}
 use Rattle.graph_update.proofs.ReadyIds.{some_are_ready}
 use Rattle.graph_update.proofs.Renamed.{engine_renamed, engine_stays_sound, is_renamed, own_few, own_fit, own_home, own_many, own_names, own_sound, stays_fixed, stays_kept}
 use Rattle.graph_update.proofs.engine.Engine.renamed.Goals as goal
@@ -50,12 +50,12 @@ invariant_of-result g c =
     c.in_ok-tasks.ensures.tasks c.in_ok-first.ensures c.deref.ensures.value c.naming_laws.ensures in (
       stays_kept (c.basis.ensures c.self.inside.app.now) _ c.self.invariant.0 idle c.in_ok-tasks.tasks.items c.in_ok-first.first.items c.deref.result.now
           c.in_ok-tasks.ensures.tasks c.in_ok-first.ensures c.deref.ensures.value c.in_ok-graph.graph c.new.result.entries c.in_ok-graph.ensures.nodes c.new.ensures
-          (c.renaming_laws.ensures c.self.inside.app.now),
+          (c.renaming_laws.ensures.sound c.self.inside.app.now),
       record {
         clear = some_are_ready app c.in_ok-graph.graph c.forget.new.self [] c.forget.ensures.ids c.forget.ensures.current tt;
         fixed = stays_fixed (c.basis.ensures c.self.inside.app.now) _ c.self.invariant.0 idle c.in_ok-tasks.tasks.items c.in_ok-first.first.items c.deref.result.now
             c.in_ok-tasks.ensures.tasks c.in_ok-first.ensures c.deref.ensures.value c.in_ok-graph.graph c.new.result.entries c.in_ok-graph.ensures.nodes c.new.ensures
-            (c.renaming_laws.ensures c.self.inside.app.now);
+            (c.renaming_laws.ensures.sound c.self.inside.app.now);
         told = subst (g.A.App.tells c.self.inside.app.now c.in_ok-horizon.horizon) (names.are_first ∙ sym c.in_ok-graph.ensures.nodes.tasks)
             (c.in_ok-horizon.ensures (tasks_of c.self.inside.agenda.graph) names.name names.has_name names.naming names.have_names c.self.invariant.1.told);
       },
@@ -73,7 +73,7 @@ returns-clause-sound g c =
     let idle = subst (λ (engine : EngineState _ _). NoneRuns engine.progress.nodes) (sym c.self.view_is) c.requires.idle in
     let is = is_renamed (c.basis.ensures c.self.inside.app.now) _ c.self.invariant.0 idle c.in_ok-tasks.tasks.items c.in_ok-first.first.items c.deref.result.now
     c.in_ok-tasks.ensures.tasks c.in_ok-first.ensures c.deref.ensures.value c.in_ok-graph.graph c.new.result.entries c.in_ok-graph.ensures.nodes c.new.ensures in
-    engine_stays_sound g.A.App.meaning c.self.inside.app.now _ _ c.args.self c.self.view_is (λ values sound. c.renaming_laws.ensures c.self.inside.app.now _ _ values sound is)
+    engine_stays_sound g.A.App.meaning c.self.inside.app.now _ _ c.args.self c.self.view_is (λ values sound. c.renaming_laws.ensures.sound c.self.inside.app.now _ _ values sound is)
 
 pub returns-clause-steps : goal.returns-clause-steps
 returns-clause-steps g c =

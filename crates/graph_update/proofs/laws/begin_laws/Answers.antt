@@ -1,5 +1,0 @@
-use Rattle.graph_update.proofs.Beginnings.{beginnings_are_sound}
-use Rattle.graph_update.proofs.laws.begin_laws.Goals as goal
-
-pub returns : goal.returns
-returns g c = record { sound = λ app. beginnings_are_sound (c.basis.ensures app) }

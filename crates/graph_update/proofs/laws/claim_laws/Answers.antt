@@ -1,5 +1,0 @@
-use Rattle.graph_update.proofs.Claims.{claims_keep_sound}
-use Rattle.graph_update.proofs.laws.claim_laws.Goals as goal
-
-pub returns : goal.returns
-returns g c = record { sound = λ app. claims_keep_sound (c.basis.ensures app) }

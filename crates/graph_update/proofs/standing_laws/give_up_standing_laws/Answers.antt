@@ -1,5 +1,0 @@
-use Rattle.graph_update.proofs.Standing.{giving_up_keeps_standing}
-use Rattle.graph_update.proofs.standing_laws.give_up_standing_laws.Goals as goal
-
-pub returns : goal.returns
-returns g c = record { stands = λ app. giving_up_keeps_standing (c.standing_basis.ensures app) }

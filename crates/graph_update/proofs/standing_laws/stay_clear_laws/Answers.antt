@@ -1,5 +1,0 @@
-use Rattle.graph_update.proofs.ClearStays.{clear_nodes_stay_clear}
-use Rattle.graph_update.proofs.standing_laws.stay_clear_laws.Goals as goal
-
-pub returns : goal.returns
-returns g c = record { stay = λ app. clear_nodes_stay_clear (c.standing_basis.ensures app) }

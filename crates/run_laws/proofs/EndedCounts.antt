@@ -1,0 +1,116 @@
+-- The counts, the log and the keys after the end of a task.
+use Rattle.std.proofs.Common.{◌≡◌, ◌≢◌, ℕ, suc, ◌+◌, ◌<◌, List, [], ◌∷◌, ◌++◌, length, refl, sym, ap, subst, ◌∙◌, arith}
+use Rattle.std.specs.List.{AllByRecursion}
+use Rattle.task_order.specs.declared.key.Key.{Key}
+use Rattle.task_order.specs.declared.start.Start.{Start}
+use Rattle.task_order.specs.declared.task.Task.{Task}
+use Rattle.task_order.specs.Key.{at_key}
+use Rattle.task_order.specs.TaskList.{without}
+use Rattle.output_log.specs.Entries.{Entry, IsInKeyOrder, entries_before, entries_from, with_entry}
+use Rattle.kdg_graph.specs.Nodes.{tasks_of}
+use Rattle.app_laws.specs.Applications.{Application, handed}
+use Rattle.app_laws.specs.Execution.{children_from}
+use Rattle.app_laws.specs.Order.{Pairwise}
+use Rattle.run_laws.specs.Jobs.{Done, Job}
+use Rattle.run_laws.specs.FinishBasis.{FinishBasis}
+use Rattle.run_laws.specs.Finishes.{IsEnd, FinishesKeepKeysAndCounts}
+use Rattle.run_laws.specs.Progress.{Progress}
+use Rattle.run_laws.specs.Sound.{KeysAndCounts}
+use Rattle.run_laws.proofs.Ended.{ended_node, tasks_after}
+use Rattle.run_laws.proofs.Performed.{IsUnlogged, new_entry, path_differs, restored, tasks_unlogged}
+use Rattle.run_laws.proofs.FinishTasks.{all-weaker, all-joined, all-swapped, all-filter, all-put_all, TasksApart, apart_from_put_in, all_parts, all-inserted, pairwise-inserted, length-inserted, length-mapped}
+
+pub length-children : (parent : Key) (number : ℕ) (starts : List Start) → length (children_from parent number starts) ≡ length starts
+length-children parent number [] = refl
+length-children parent number (start ∷ starts) = ap suc (length-children parent (suc number) starts)
+
+module _ {V : Type 0} {app : Application V} (basis : FinishBasis app) where
+  module _ (key : Key) (text : List ℕ) (log : List Entry) (ordered : IsInKeyOrder log) where
+    parts : log ≡ entries_before (at_key key) log ++ entries_from (at_key key) log
+    parts = basis.earlier_first (at_key key) log ordered
+
+    all-with_entry : (P : Entry → Type 0) → P (key, text) → AllByRecursion P log → AllByRecursion P (with_entry key text log)
+    all-with_entry P one all = all-inserted P (entries_before (at_key key) log) (key, text) (entries_from (at_key key) log) one (subst (AllByRecursion P) parts all)
+
+    differs-with_entry : AllByRecursion (λ entry. entry.0.path ≢ key.path) log → Pairwise (λ entry other. entry.0.path ≢ other.0.path) log
+        → Pairwise (λ entry other. entry.0.path ≢ other.0.path) (with_entry key text log)
+    differs-with_entry new pairs =
+        let front = entries_before (at_key key) log in
+        let back = entries_from (at_key key) log in
+        let both : AllByRecursion (λ (entry : Entry). entry.0.path ≢ key.path) front × AllByRecursion (λ (entry : Entry). entry.0.path ≢ key.path) back =
+        all_parts (λ (entry : Entry). entry.0.path ≢ key.path) front back (subst (AllByRecursion (λ (entry : Entry). entry.0.path ≢ key.path)) parts new) in
+        pairwise-inserted (λ (entry other : Entry). entry.0.path ≢ other.0.path) front (key, text) back both.0
+        (all-weaker (λ (entry : Entry). entry.0.path ≢ key.path) (λ (entry : Entry). key.path ≢ entry.0.path) (λ entry differ same. differ (sym same)) back both.1)
+        (subst (Pairwise (λ (entry other : Entry). entry.0.path ≢ other.0.path)) parts pairs)
+
+    pub length-with_entry : length (with_entry key text log) ≡ suc (length log)
+    length-with_entry = length-inserted (entries_before (at_key key) log) (key, text) (entries_from (at_key key) log) ∙ ap (λ (entries : List Entry). suc (length entries)) (sym parts)
+
+  module _ {old now : Progress V} {done : Done V} {job : Job V} {jobs others : List (Job V)} {values : List V} (end : IsEnd app old jobs values done job others now) where
+    pub log_is : now.log ≡ with_entry job.task.key done.effect.text old.log
+    log_is = ap (λ (progress : Progress V). progress.log) end.finished.after ∙ ap (λ (task : Task). with_entry task.key done.effect.text old.log) (sym end.performed.task)
+
+    rest_unlogged : AllByRecursion (λ task. AllByRecursion (IsUnlogged task) (with_entry job.task.key done.effect.text old.log)) (without job.task.key (tasks_of old.nodes))
+    rest_unlogged =
+        all-joined (TasksApart job.task) (λ task. AllByRecursion (IsUnlogged task) old.log) (λ task. AllByRecursion (IsUnlogged task) (with_entry job.task.key done.effect.text old.log))
+        (λ task apart all. all-with_entry job.task.key done.effect.text old.log end.sound.keys_and_counts.log_ordered (IsUnlogged task) apart.not_after all)
+        (without job.task.key (tasks_of old.nodes))
+        (apart_from_put_in job.task (without job.task.key (tasks_of old.nodes)) (subst (Pairwise TasksApart) (sym (restored basis end.sound end.performed)) end.sound.ready.apart))
+        (all-filter (λ task. AllByRecursion (IsUnlogged task) old.log) _ (tasks_of old.nodes) end.sound.keys_and_counts.unlogged)
+
+    children_unlogged : AllByRecursion (λ task. AllByRecursion (IsUnlogged task) (with_entry job.task.key done.effect.text old.log)) (children_from job.task.key 0 (app.act job.task values).children)
+    children_unlogged =
+        let starts = (app.act job.task values).children in
+        let each : AllByRecursion (λ (entry : Entry). AllByRecursion (λ (child : Task). IsUnlogged child entry) (children_from job.task.key 0 starts)) (with_entry job.task.key done.effect.text old.log) =
+        all-with_entry job.task.key done.effect.text old.log end.sound.keys_and_counts.log_ordered (λ (entry : Entry). AllByRecursion (λ (child : Task). IsUnlogged child entry) (children_from job.task.key 0 starts))
+        (basis.children_go_on job.task.key starts)
+        (all-weaker (IsUnlogged job.task) (λ (entry : Entry). AllByRecursion (λ (child : Task). IsUnlogged child entry) (children_from job.task.key 0 starts))
+        (λ entry none. basis.children_new job.task.key starts entry.0.path none) old.log (tasks_unlogged basis end.sound end.performed)) in
+        all-swapped IsUnlogged (children_from job.task.key 0 starts) (with_entry job.task.key done.effect.text old.log) each
+
+    unlogged_after : AllByRecursion (λ task. AllByRecursion (IsUnlogged task) now.log) (tasks_of now.nodes)
+    unlogged_after =
+        subst (λ log. AllByRecursion (λ task. AllByRecursion (IsUnlogged task) log) (tasks_of now.nodes)) (sym log_is)
+        (subst (AllByRecursion (λ task. AllByRecursion (IsUnlogged task) (with_entry job.task.key done.effect.text old.log))) (sym (tasks_after basis end))
+        (all-put_all (λ task. AllByRecursion (IsUnlogged task) (with_entry job.task.key done.effect.text old.log)) (children_from job.task.key 0 (app.act job.task values).children) (without job.task.key (tasks_of old.nodes)) children_unlogged rest_unlogged))
+
+    nodes_after : length now.nodes + 1 ≡ length old.nodes + length done.effect.children
+    nodes_after =
+        let starts = (app.act job.task values).children in
+        let now_is : length now.nodes ≡ length (without job.task.key (tasks_of old.nodes)) + length starts =
+        sym (length-mapped (λ node. node.task) now.nodes) ∙ ap length (tasks_after basis end)
+        ∙ basis.adds_each (children_from job.task.key 0 starts) (without job.task.key (tasks_of old.nodes))
+        ∙ ap (λ n. length (without job.task.key (tasks_of old.nodes)) + n) (length-children job.task.key 0 starts) in
+        let old_is : length (without job.task.key (tasks_of old.nodes)) + 1 ≡ length old.nodes =
+        sym (basis.puts_add_one job.task (without job.task.key (tasks_of old.nodes))) ∙ ap length (restored basis end.sound end.performed) ∙ length-mapped (λ node. node.task) old.nodes in
+        let handed_over : length done.effect.children ≡ length starts =
+        ap (λ (effect : _). length effect.children) (ended_node basis end).effect ∙ length-mapped (handed app (app.act job.task values).cells) starts in
+        omega (arith, now_is, old_is, handed_over)
+
+    counts_after : KeysAndCounts app now
+    counts_after =
+        let counts = end.sound.keys_and_counts in
+        let created_is : now.created ≡ old.created + length done.effect.children = ap (λ (progress : Progress V). progress.created) end.finished.after in
+        let ended_is : now.ended ≡ suc old.ended = ap (λ (progress : Progress V). progress.ended) end.finished.after in
+        let limit_is : now.limit ≡ old.limit = ap (λ (progress : Progress V). progress.limit) end.finished.after in
+        let logged_is : length now.log ≡ suc (length old.log) = ap length log_is ∙ length-with_entry job.task.key done.effect.text old.log counts.log_ordered in
+        let nodes_are = nodes_after in
+        let was_created = counts.created in
+        let was_logged = counts.logged in
+        let not_over : old.limit < old.created + length done.effect.children → ⊥ = end.within in
+        record {
+          graph = end.finished.graph;
+          log_ordered = subst IsInKeyOrder (sym log_is) (basis.entries_in_order job.task.key done.effect.text old.log (new_entry basis end.sound end.performed) counts.log_ordered);
+          log_differs =
+              subst (Pairwise (λ entry other. entry.0.path ≢ other.0.path)) (sym log_is)
+              (differs-with_entry job.task.key done.effect.text old.log counts.log_ordered
+              (all-weaker (IsUnlogged job.task) (λ (entry : Entry). entry.0.path ≢ job.task.key.path) (λ entry none. path_differs job.task entry none) old.log (tasks_unlogged basis end.sound end.performed))
+              counts.log_differs);
+          unlogged = unlogged_after;
+          created = omega (arith, created_is, ended_is, nodes_are, was_created);
+          within = omega (arith, created_is, limit_is, not_over);
+          logged = omega (arith, logged_is, ended_is, was_logged);
+        }
+
+  pub keeps_keys_and_counts : FinishesKeepKeysAndCounts app
+  keeps_keys_and_counts old now done job jobs others values end = counts_after end

@@ -1,0 +1,14 @@
+pub mod Acting
+pub mod Answers
+pub mod Basis
+pub mod Events
+pub mod FinishBasis
+pub mod Finishes
+pub mod Jobs
+pub mod Laws
+pub mod Progress
+pub mod Renaming
+pub mod Sound
+pub mod Standing
+pub mod StandingBasis
+pub mod StandingLaws
