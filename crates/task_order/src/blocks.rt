@@ -27,8 +27,6 @@ pub(crate) struct Blocks {
     blocks: VecDeque<Block>,
     // behind the task that was put in last; should that be another place by now, a search takes longer
     recent: (usize, usize),
-    // where the last task was that was taken out by its key, and now the next one is, in the same way
-    removed: (usize, usize),
 }
 
 impl Model for Blocks {
@@ -88,7 +86,6 @@ impl Blocks {
         Blocks {
             blocks: VecDeque::new(alloc),
             recent: (0, 0),
-            removed: (0, 0),
         }
     }
 
@@ -353,7 +350,6 @@ impl Blocks {
         if at == self.recent.0 && place < self.recent.1 {
             self.recent.1 -= 1;
         }
-        self.removed = (at, place);
         self.blocks[at].remove(place)
     }
 
@@ -388,37 +384,6 @@ impl Blocks {
         match self.get(at, place) {
             Some(task) if task.key.compare(key).is_eq() => Some((at, place)),
             _ => None,
-        }
-    }
-
-    /// The same as `find`, for a task that ends: mostly it is the first, or close behind the one that
-    /// was taken out last.
-    pub(crate) fn find_ending(&self, key: &Key) -> Option<(usize, usize)>
-        requires ascending { IsAscending (tasks_in self.now) }
-        requires gapless { IsGapless self.now }
-        ensures found { IfSome result (λ found. IsFound key.now self.now found.0 found.1) }
-        ensures absent { IfNone result (IsNewKey key.now (tasks_in self.now)) }
-    {
-        if let Some(first) = self.found_at(0, 0, key) {
-            return Some(first);
-        }
-        if let Some(next) = self.found_at(self.removed.0, self.removed.1, key) {
-            return Some(next);
-        }
-        self.find_behind_removed(key)
-    }
-
-    /// The same as `find`, first close behind the next task after the one that was taken out last.
-    fn find_behind_removed(&self, key: &Key) -> Option<(usize, usize)>
-        requires ascending { IsAscending (tasks_in self.now) }
-        requires gapless { IsGapless self.now }
-        ensures found { IfSome result (λ found. IsFound key.now self.now found.0 found.1) }
-        ensures absent { IfNone result (IsNewKey key.now (tasks_in self.now)) }
-    {
-        let (at, next) = self.removed;
-        match self.near(at, next.saturating_add(1), key) {
-            Some((at, place)) => self.found_at(at, place, key),
-            None => self.find(key),
         }
     }
 

@@ -141,7 +141,7 @@ impl TaskList {
         ensures absent { IfNone result (IsNewKey key.now self.old) }
         ensures unchanged { IfNone result (self.new ≡ self.old) }
     {
-        let (at, place) = self.blocks.find_ending(key)?;
+        let (at, place) = self.blocks.find(key)?;
         let task = self.blocks.remove(at, place);
         self.len -= 1;
         Some(task)
