@@ -14,6 +14,3 @@ pub use family::family_laws;
 pub use laws::{execution_laws, lawful, naming_laws, orderly_laws, renaming_laws};
 pub use listing::starts_by_path;
 pub use serial_run::{Finals, SerialFault, new_paths_pay, serial};
-
-#[cfg(test)]
-mod tests;

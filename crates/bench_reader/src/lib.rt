@@ -14,6 +14,3 @@ mod words;
 
 pub use deck::{Deck, Form, GateKind, Signal, SignalList, Stim, StimList};
 pub use reader::read_deck;
-
-#[cfg(test)]
-mod tests;

@@ -14,6 +14,3 @@ pub use laws::round_count_laws;
 pub use status::{Status, fault_line};
 pub use whole_run::{run, run_in_memory, run_plain};
 pub use words::{Command, Mode, Options, read_words};
-
-#[cfg(test)]
-mod tests;

@@ -18,3 +18,5 @@ mod matrices;
 mod meshes;
 #[cfg(test)]
 mod recording;
+#[cfg(test)]
+mod words;

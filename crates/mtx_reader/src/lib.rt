@@ -10,6 +10,3 @@ mod reader;
 
 pub use pattern::{Pattern, PlaceList};
 pub use reader::read_mtx;
-
-#[cfg(test)]
-mod tests;

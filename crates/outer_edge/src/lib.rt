@@ -20,6 +20,3 @@ pub use sink::{Push, Sink};
 pub use source::{Pull, Source};
 pub use whole_input::{ReadAllFault, read_all, read_all_counted};
 pub use whole_piece::{WriteAllFault, write_whole};
-
-#[cfg(test)]
-mod tests;

@@ -9,6 +9,3 @@ mod seen_entries;
 
 pub use laws::{join_laws, part_laws, put_laws};
 pub use log::Log;
-
-#[cfg(test)]
-mod tests;

@@ -320,6 +320,3 @@ fn children(alloc: Global, end: u64, task: &Task, spring: &Spring) -> Result<Chi
     }
     Ok(children)
 }
-
-#[cfg(test)]
-mod tests;

@@ -33,6 +33,3 @@ fn file_in(alloc: Global, input: &[u8]) -> Result<MeshFile, ReadFail>
     }
     draft.file(lines.number())
 }
-
-#[cfg(test)]
-mod tests;

@@ -22,6 +22,3 @@ pub use pending_tasks::PendingTasks;
 pub use start::{Start, StartList};
 pub use task::{Body, Task};
 pub use task_list::TaskList;
-
-#[cfg(test)]
-mod tests;

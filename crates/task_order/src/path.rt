@@ -180,6 +180,3 @@ impl fmt::Debug for Path {
         list.finish()
     }
 }
-
-#[cfg(test)]
-mod tests;

@@ -10,10 +10,7 @@ ghost use Rattle.std.specs.Option.{option_map};
 mod form;
 mod in_place;
 mod middle;
-mod ring;
-#[cfg(test)]
-mod tests;
-mod tier;
+mod ring;mod tier;
 mod tiers;
 
 use form::Form;

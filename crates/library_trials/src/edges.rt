@@ -1,0 +1,249 @@
+//! Sources and sinks, and whole transfers over them.
+
+ghost use Rattle.std.specs.Prelude.{◌≡◌, ◌+◌, ◌<◌, ◌++◌, length};
+
+use kdg_text::{NoRoom, Steps, Text};
+use outer_edge::*;
+use std::alloc::Global;
+use std::io;
+use std::io::{Error, ErrorKind, Read, Write};
+use std::marker::Brand;
+use std::sync::ledger::{Blank, Ledger};
+use std::test::Fail;
+use task_order::Key;
+
+fn input(alloc: Global, bytes: &[u8], fails: &[u64]) -> Result<MemSource, NoRoom> {
+    let source = MemSource::new(bytes.to_vec(alloc)?, 2, fails.to_vec(alloc)?);
+    Ok(source)
+}
+
+#[test]
+fn inputs_are_read_to_their_end(rt: HostRuntime) -> Result<(), Fail> {
+    for (bytes, limit, fails, want) in [
+        ("abcde", 5, [0].as_slice(), Ok("abcde")),
+        ("abcde", 4, [0].as_slice(), Err(ReadAllFault::TooLarge)),
+        ("abcde", 5, [2].as_slice(), Err(ReadAllFault::ReadFault)),
+        ("abcde", 5, [4].as_slice(), Err(ReadAllFault::ReadFault)),
+        ("abcde", 3, [3].as_slice(), Err(ReadAllFault::TooLarge)),
+        ("abcde", u64::MAX, [9].as_slice(), Ok("abcde")),
+        ("", 0, [9].as_slice(), Ok("")),
+        ("a", 0, [9].as_slice(), Err(ReadAllFault::TooLarge)),
+    ] {
+        let mut source = input(rt.alloc(), bytes.as_bytes(), fails)?;
+        match (read_all(rt.alloc(), &mut source, limit), want) {
+            (Ok(text), Ok(want)) => assert_eq!(rt; text.bytes(), want.as_bytes()),
+            (Err(fault), Err(want)) => assert_eq!(rt; fault, want, "{bytes} {limit}"),
+            _ => panic!(rt; "{bytes} {limit}"),
+        }
+    }
+    Ok(())
+}
+
+#[test]
+fn long_inputs_are_read_in_many_reads(rt: HostRuntime) -> Result<(), Fail> {
+    let bytes = vec![in rt.alloc(); 7; 20000]?;
+    let mut clean = CleanSource::new(bytes.clone()?, 3000);
+    let text = read_all(rt.alloc(), &mut clean, 20000)?;
+    assert_eq!(rt; text.bytes(), bytes.as_slice());
+
+    let mut reader = ReadEdge::new(bytes.as_slice());
+    let text = read_all(rt.alloc(), &mut reader, 20000)?;
+    assert_eq!(rt; text.bytes(), bytes.as_slice());
+    Ok(())
+}
+
+/// Reads an input of at most three bytes, one byte with each read, and counts the reads.
+fn read_three<L: Ledger>(alloc: Global, bytes: Vec<u8>, blank: Blank) -> Result<Text, ReadAllFault>
+    requires name { blank.name ≡ L.name }
+    requires parts { blank.parts ≡ L.parts }
+    requires some { 0 < blank.parts }
+{
+    let mut source = CleanSource::new(bytes, 1);
+    let mut steps = Steps::<L>::new(blank);
+    read_all_counted(alloc, &mut source, 3, &mut steps)
+}
+
+#[test]
+fn reads_are_counted(rt: HostRuntime) -> Result<(), Fail> {
+    let bytes = b"abc".to_vec(rt.alloc())?;
+    let text = read_three::<Brand>(rt.alloc(), bytes, Blank::new(1))?;
+    assert_eq!(rt; text.bytes(), b"abc".as_slice());
+    Ok(())
+}
+
+/// A piece that is shorter than the free room is always written.
+fn write_within_room(sink: &mut CleanSink, piece: &[u8])
+    requires { length sink.old.held + length piece.now < sink.old.room }
+    ensures { sink.new.held ≡ sink.old.held ++ piece.now }
+{
+    write_whole(sink, piece).unwrap();
+}
+
+#[test]
+fn pieces_are_written_whole(rt: HostRuntime) -> Result<(), Fail> {
+    let mut clean = CleanSink::with_room(rt.alloc(), 4, 9)?;
+    assert_eq!(rt; write_whole(&mut clean, b""), Ok(()));
+    write_within_room(&mut clean, b"1234");
+    assert_eq!(rt; write_whole(&mut clean, b"56789"), Ok(()));
+    assert_eq!(rt; clean.held(), b"123456789".as_slice());
+    assert_eq!(rt; write_whole(&mut clean, b""), Ok(()));
+    assert_eq!(rt;
+        write_whole(&mut clean, b"x"),
+        Err(WriteAllFault::WriteFault)
+    );
+    assert_eq!(rt; clean.held(), b"123456789".as_slice());
+
+    for (room, fails, want, held) in [
+        (
+            9,
+            [3].as_slice(),
+            Err(WriteAllFault::WriteFault),
+            "12345678",
+        ),
+        (9, [1].as_slice(), Err(WriteAllFault::WriteFault), ""),
+        (6, [9].as_slice(), Err(WriteAllFault::WriteFault), "123456"),
+        (9, [4].as_slice(), Ok(()), "123456789"),
+    ] {
+        let mut sink = MemSink::with_room(rt.alloc(), 4, room, fails.to_vec(rt.alloc())?)?;
+        assert_eq!(rt; write_whole(&mut sink, b"123456789"), want);
+        assert_eq!(rt; sink.held(), held.as_bytes());
+    }
+    Ok(())
+}
+
+/// A reader and a writer that goes wrong in the midst of its bytes.
+#[derive(Drop)]
+struct Flaky {
+    calls: u8,
+    zero_at: u8,
+    flushes: u8,
+    broken_flush: u8,
+}
+
+impl Read for Flaky {
+    fn read(&mut self, buf: &mut [u8]) -> io::Result<usize> {
+        self.calls = self.calls.saturating_add(1);
+        if self.calls > 2 {
+            return Err(Error::from(ErrorKind::Interrupted));
+        }
+        let count = buf.len().min(1);
+        Ok(count)
+    }
+}
+
+impl Write for Flaky {
+    fn write(&mut self, buf: &[u8]) -> io::Result<usize> {
+        self.calls = self.calls.saturating_add(1);
+        if self.calls == self.zero_at {
+            return Ok(0);
+        }
+        if self.calls > 3 {
+            return Err(Error::from(ErrorKind::Interrupted));
+        }
+        Ok(buf.len().min(1))
+    }
+
+    fn flush(&mut self) -> io::Result<()> {
+        self.flushes = self.flushes.saturating_add(1);
+        if self.flushes == self.broken_flush {
+            return Err(Error::from(ErrorKind::Interrupted));
+        }
+        Ok(())
+    }
+}
+
+impl Flaky {
+    fn new(zero_at: u8, broken_flush: u8) -> Flaky {
+        Flaky {
+            calls: 0,
+            zero_at,
+            flushes: 0,
+            broken_flush,
+        }
+    }
+}
+
+#[test]
+fn errors_of_readers_and_writers_are_handed_on(rt: HostRuntime) -> Result<(), Fail> {
+    let mut reader = ReadEdge::new(Flaky::new(0, 0));
+    let fault = read_all(rt.alloc(), &mut reader, 9).err();
+    assert_eq!(rt; fault, Some(ReadAllFault::ReadFault));
+
+    for (piece, zero_at, broken_flush, want) in [
+        ("123", 0, 0, Ok(())),
+        ("1234", 0, 0, Err(WriteAllFault::WriteFault)),
+        ("123", 2, 0, Err(WriteAllFault::WriteFault)),
+        ("123", 0, 3, Err(WriteAllFault::WriteFault)),
+    ] {
+        let mut writer = WriteEdge::new(Flaky::new(zero_at, broken_flush));
+        assert_eq!(rt; write_whole(&mut writer, piece.as_bytes()), want);
+    }
+
+    let mut bytes = Vec::new(rt.alloc());
+    let mut writer = WriteEdge::new(&mut bytes);
+    assert_eq!(rt; write_whole(&mut writer, b"ab"), Ok(()));
+    assert_eq!(rt; write_whole(&mut writer, b"c"), Ok(()));
+    assert_eq!(rt; bytes.as_slice(), b"abc".as_slice());
+    Ok(())
+}
+
+/// The first words of the demonstration in PCG's C code, whose state is 42 and whose stream is 54.
+#[test]
+fn a_seed_gives_its_words(rt: HostRuntime) -> Result<(), Fail> {
+    for (turn, word) in [
+        (0, 0xa15c02b7),
+        (1, 0x7b47f409),
+        (2, 0xba1d3330),
+        (3, 0x83d2f293),
+        (4, 0xbfa4784b),
+        (5, 0xcbed606e),
+    ] {
+        assert_eq!(rt; choice(&Seeded, 42, 54, turn), word);
+    }
+    assert_eq!(rt; choice(&Still, 42, 54, 3), 0);
+    Ok(())
+}
+
+/// A gate gives for many turns at once what it gives for each: by a body of its own, and by the one
+/// that it has from the trait.
+#[test]
+fn turns_ahead_have_their_own_words(rt: HostRuntime) {
+    assert_eq!(rt;
+        four_ahead(&Seeded, 42, 54, 1),
+        [0x7b47f409, 0xba1d3330, 0x83d2f293, 0xbfa4784b]
+    );
+    assert_eq!(rt; four_ahead(&Still, 42, 54, 1), [0, 0, 0, 0]);
+    assert_eq!(rt; four_ahead(&Turns, 42, 54, 1), [1, 2, 3, 4]);
+}
+
+/// A gate that chooses the number of the turn.
+#[derive(Clone, Copy)]
+struct Turns;
+
+impl Gate for Turns {
+    fn choose(&self, _seed: u64, _worker: u32, turn: u64) -> u64 {
+        turn
+    }
+
+    fn pass(&self, _worker: u32, _key: &Key) {}
+}
+
+/// A gate is open only where it says so.
+#[test]
+fn gates_tell_whether_they_are_open(rt: HostRuntime) {
+    assert!(rt; opens(&Still) && opens(&Seeded) && !opens(&Turns));
+}
+
+fn opens<G: Gate>(gate: &G) -> bool {
+    gate.is_open()
+}
+
+fn four_ahead<G: Gate>(gate: &G, seed: u64, worker: u32, turn: u64) -> [u64; 4] {
+    let mut picks = [9; 4];
+    gate.choose_ahead(seed, worker, turn, &mut picks);
+    picks
+}
+
+fn choice<G: Gate>(gate: &G, seed: u64, worker: u32, turn: u64) -> u64 {
+    gate.choose(seed, worker, turn)
+}

@@ -1,0 +1,184 @@
+//! Keys, and lists of tasks in their order.
+
+ghost use Rattle.std.specs.Bool.{OnTrue};
+ghost use Rattle.task_order.specs.TaskList.{IsNewKey};
+
+use kdg_text::NoRoom;
+use std::alloc::Global;
+use std::process::Abort;
+use std::test::Fail;
+use task_order::{Body, Key, Path, Start, StartList, Task, TaskList};
+
+const BODY: Body = Body {
+    kind: 2,
+    at: 70_000,
+    arg: 5_000_000_000,
+};
+
+/// The path with these numbers.
+fn path(alloc: Global, first: u32, rest: &[u32]) -> Result<Path, NoRoom> {
+    let mut path = Path::root(alloc, first)?;
+    for number in rest {
+        path = path.child(*number)?;
+    }
+    Ok(path)
+}
+
+/// Whether no task of the list has the key.
+fn is_new(tasks: &TaskList, key: &Key) -> bool
+    ensures { OnTrue result (IsNewKey key.now tasks.now) }
+{
+    for task in tasks.iter() {
+        if task.key.compare(key).is_eq() {
+            return false;
+        }
+    }
+    true
+}
+
+/// Puts a task into the list.
+fn put(rt: &impl Abort, tasks: &mut TaskList, task: Task) -> Result<(), NoRoom> {
+    assert!(rt; is_new(tasks, &task.key));
+    tasks.insert(task).map_err(|_| NoRoom)
+}
+
+#[test]
+fn paths_and_keys_grow(rt: HostRuntime) -> Result<(), Fail> {
+    let root = Path::root(rt.alloc(), 2)?;
+    let child = root.child(1)?;
+    let parent = Key {
+        prio: 3,
+        path: root,
+    };
+    let key = parent.child(1, 3)?;
+    assert_eq!(rt; format!(in rt.alloc(); "{child:?}")?.as_str(), "[2, 1]");
+    assert_eq!(rt;
+        format!(in rt.alloc(); "{parent:?}")?.as_str(),
+        "Key { prio: 3, path: [2] }"
+    );
+    assert_eq!(rt;
+        key,
+        Key {
+            prio: 3,
+            path: child
+        }
+    );
+    assert_eq!(rt; key.copy()?, key);
+    let task = Task { key, body: BODY };
+    assert_eq!(rt; task.copy()?, task);
+    Ok(())
+}
+
+#[test]
+fn first_tasks_are_listed(rt: HostRuntime) -> Result<(), Fail> {
+    let start = Start {
+        prio: 4,
+        body: BODY,
+    };
+    let mut starts = StartList::new(rt.alloc());
+    starts.push(start)?;
+    assert_eq!(rt; starts.items(), [start].as_slice());
+    Ok(())
+}
+
+/// A list of five tasks, put in out of order.
+fn five_tasks(rt: &impl Abort, alloc: Global) -> Result<TaskList, NoRoom> {
+    let keys: [(u64, u32, &[u32]); 5] = [
+        (4, 0, &[]),
+        (3, 3, &[]),
+        (3, 2, &[1]),
+        (3, 2, &[0]),
+        (3, 2, &[]),
+    ];
+    let mut tasks = TaskList::new(alloc);
+    for (prio, first, rest) in keys {
+        let path = path(alloc, first, rest)?;
+        let key = Key { prio, path };
+        put(rt, &mut tasks, Task { key, body: BODY })?;
+    }
+    Ok(tasks)
+}
+
+const IN_ORDER: [&str; 5] = [
+    "Key { prio: 3, path: [2] }",
+    "Key { prio: 3, path: [2, 0] }",
+    "Key { prio: 3, path: [2, 1] }",
+    "Key { prio: 3, path: [3] }",
+    "Key { prio: 4, path: [0] }",
+];
+
+#[test]
+fn tasks_are_walked_in_key_order(rt: HostRuntime) -> Result<(), Fail> {
+    let tasks = five_tasks(&rt, rt.alloc())?;
+    let mut place = 0;
+    for task in tasks.iter() {
+        assert!(rt; place < tasks.len());
+        assert!(rt; place < IN_ORDER.len());
+        assert_eq!(rt;
+            format!(in rt.alloc(); "{:?}", task.key)?.as_str(),
+            IN_ORDER[place]
+        );
+        assert_eq!(rt; task, tasks.at(place));
+        place += 1;
+    }
+    assert_eq!(rt; place, 5);
+    Ok(())
+}
+
+#[test]
+fn tasks_come_out_in_key_order(rt: HostRuntime) -> Result<(), Fail> {
+    let mut tasks = five_tasks(&rt, rt.alloc())?;
+    assert!(rt; !tasks.is_empty());
+    for key in IN_ORDER {
+        let task = tasks.take_first().ok_or("none is left")?;
+        assert_eq!(rt; format!(in rt.alloc(); "{:?}", task.key)?.as_str(), key);
+    }
+    assert!(rt; tasks.is_empty());
+    assert_eq!(rt; tasks.take_first(), None);
+    Ok(())
+}
+
+#[test]
+fn tasks_are_found_by_key(rt: HostRuntime) -> Result<(), Fail> {
+    let alloc = rt.alloc();
+    let mut tasks = five_tasks(&rt, alloc)?;
+    let present = Key {
+        prio: 3,
+        path: path(alloc, 3, &[])?,
+    };
+    let absent = Key {
+        prio: 3,
+        path: path(alloc, 9, &[])?,
+    };
+    assert_eq!(rt; tasks.rank(&present), 3);
+    let found = tasks.get(&present).ok_or("the task is not there")?;
+    assert_eq!(rt; found.key, present);
+    assert_eq!(rt; found.body, BODY);
+    assert!(rt; tasks.get(&absent).is_none());
+    assert_eq!(rt; tasks.remove(&absent), None);
+    assert_eq!(rt; tasks.len(), 5);
+    let first = tasks.first().ok_or("none is there")?;
+    assert_eq!(rt; format!(in alloc; "{:?}", first.key)?.as_str(), IN_ORDER[0]);
+    let removed = tasks.remove(&present).ok_or("the task is not there")?;
+    assert_eq!(rt; removed.key, present);
+    assert!(rt; tasks.get(&present).is_none());
+    let taken = tasks.take_first().ok_or("none is left")?;
+    assert_eq!(rt; format!(in alloc; "{:?}", taken.key)?.as_str(), IN_ORDER[0]);
+    assert_eq!(rt; tasks.len(), 3);
+    Ok(())
+}
+
+#[test]
+fn keys_are_sorted_by_priority_and_path(rt: HostRuntime) -> Result<(), Fail> {
+    let mut keys = Vec::new(rt.alloc());
+    for (prio, first) in [(3, 1), (2, 7), (3, 0)] {
+        let path = Path::root(rt.alloc(), first)?;
+        keys.push(Key { prio, path })?;
+    }
+    keys.sort()?;
+    assert_eq!(rt;
+        format!(in rt.alloc(); "{keys:?}")?.as_str(),
+        "[Key { prio: 2, path: [7] }, Key { prio: 3, path: [0] }, Key { prio: 3, path: [1] }]"
+    );
+    Ok(())
+}

@@ -1,4 +1,0 @@
-use Rattle.outer_edge.proofs.tests.reads_are_counted.Given as goal
-
-abbrev pub ghosts-read_three : goal.ghosts-read_three
-ghosts-read_three g a = record { name = a.blank.name; parts = a.blank.parts }
