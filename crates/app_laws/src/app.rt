@@ -86,10 +86,10 @@ pub trait App {
         false
     }
 
-    /// Whether a task has so little to do that it is performed sooner than it is handed to another
-    /// thread. No contract rests on it.
-    fn tasks_are_light(&self) -> bool {
-        false
+    /// About how many nanoseconds a task has to do, where the application knows: an executor starts
+    /// threads where they save time. No contract rests on it.
+    fn task_nanos(&self) -> Option<u64> {
+        None
     }
 
     /// A horizon that knows nothing.

@@ -33,8 +33,8 @@ pub(crate) fn act_round<A: App, L: Ledger>(
 {
     acting_laws::<A>();
     engine.find_clear(&mut lists.ids)?;
-    let cells = act_in_turn(engine, &lists.ids, !lists.are_light, steps)?;
-    lists.most_cells = lists.most_cells.max(Some(cells));
+    let cells = act_in_turn(engine, &lists.ids, lists.work.goes_by_cells(), steps)?;
+    lists.work.note_round(lists.ids.len(), cells);
     Ok(())
 }
 

@@ -10,6 +10,7 @@ pub mod laws;
 mod performing;
 mod round_lists;
 mod rounds;
+mod work;
 
 pub use graph_update::OverCause as RunFault;
 pub use rounds::run_rounds;

@@ -23,13 +23,6 @@ use std::ops::Range;
 use std::thread::Threads;
 use task_order::{ascending_laws, earlier_laws};
 
-/// From so many cells on, which the jobs of a round have in all, a thread is started for each worker.
-/// A start took 21, 39 and 57 microseconds for 2, 3 and 4 workers, but each job and what was done also
-/// go to another processor and back. In rounds of 3,500 to 8,192 cells four workers took from nothing
-/// (matrices) to a tenth (pairs of nodes) longer than one, and in rounds of 16,400 cells as long or a
-/// twentieth less.
-const MANY_CELLS: usize = 16_384;
-
 /// Draws the jobs of all clear tasks, has them performed, and puts what was done in the order of its
 /// keys: job number `i` is worker `i mod workers`'s, and each worker performs its jobs in order. What
 /// was in the lists is dropped.
@@ -58,16 +51,6 @@ pub(crate) fn perform_round<R: Threads + Sync, A: App + Sync, G: Gate + Sync>(
     Ok(())
 }
 
-/// Whether no thread is to start in a round, or is likely to, by the most cells that a round had so far.
-pub(crate) fn stays_alone(workers: u32, are_light: bool, most_cells: Option<usize>) -> bool {
-    !threads_pay(workers, are_light, most_cells.unwrap_or(usize::MAX))
-}
-
-/// Whether it pays to start a thread for each worker in a round whose jobs have so many cells.
-fn threads_pay(workers: u32, are_light: bool, cells: usize) -> bool {
-    workers > 1 && !are_light && cells >= MANY_CELLS
-}
-
 /// Performs the jobs that were drawn, each by its worker. Where threads don't pay, the caller performs
 /// all jobs in order.
 fn perform_drawn<R: Threads + Sync, A: App + Sync, G: Gate + Sync>(
@@ -82,8 +65,8 @@ fn perform_drawn<R: Threads + Sync, A: App + Sync, G: Gate + Sync>(
     ensures { OnOk result (AreDoneInSomeTurn (A.meaning app.now) lists.old.jobs.items lists.new.dones.items) }
 {
     let cells = cells_in(&lists.jobs);
-    lists.most_cells = lists.most_cells.max(Some(cells));
-    if threads_pay(workers, lists.are_light, cells) {
+    let is_enough = lists.work.note_round(lists.jobs.len(), cells);
+    if workers > 1 && is_enough {
         perform_together(rt, app, gate, workers, lists)
     } else {
         perform_in_turn(app, gate, 0..workers, &mut lists.jobs, &mut lists.dones)

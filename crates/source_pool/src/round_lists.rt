@@ -3,6 +3,7 @@
 ghost use Rattle.std.specs.Prelude.{◌≡◌, []};
 
 use crate::hands::Hand;
+use crate::work::Work;
 use cell_store::Held;
 use graph_update::{Done, Job};
 use kdg_graph::NodeId;
@@ -20,16 +21,13 @@ pub(crate) struct RoundLists<V: Held> {
     pub(crate) ids: Vec<NodeId>,
     /// What each worker has in hand, where the round is performed by threads.
     pub(crate) hands: Vec<Hand<Job<V>, Done<V>>>,
-    /// The most cells that the jobs of a round had in all so far, a hint for the next round. Before the
-    /// first one it isn't known, and those of light tasks needn't be counted.
-    pub(crate) most_cells: Option<usize>,
-    /// Whether tasks are too light for threads.
-    pub(crate) are_light: bool,
+    /// What is known of the work in rounds, by which threads start.
+    pub(crate) work: Work,
 }
 
 impl<V: Held> RoundLists<V> {
-    /// Lists without room, for tasks that may be too light for threads.
-    pub(crate) fn new(alloc: Global, are_light: bool) -> RoundLists<V>
+    /// Lists without room, for tasks of which this is known.
+    pub(crate) fn new(alloc: Global, work: Work) -> RoundLists<V>
         ensures { result.jobs.items ≡ [] }
     {
         RoundLists {
@@ -37,8 +35,7 @@ impl<V: Held> RoundLists<V> {
             dones: VecDeque::new(alloc),
             ids: Vec::new(alloc),
             hands: Vec::new(alloc),
-            most_cells: None,
-            are_light,
+            work,
         }
     }
 }

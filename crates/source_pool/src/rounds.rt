@@ -15,8 +15,9 @@ use crate::claiming::Picks;
 use crate::draining::drain;
 use crate::finishing::end_all;
 use crate::laws::{drawing_laws, leg_laws, rounds_laws};
-use crate::performing::{perform_round, stays_alone};
+use crate::performing::perform_round;
 use crate::round_lists::RoundLists;
+use crate::work::Work;
 use app_laws::{App, Finals, new_paths_pay};
 use graph_update::Engine;
 use kdg_text::{NoRoom, Steps, Text};
@@ -89,7 +90,7 @@ fn counted_rounds<'a, R: Threads + Sync, A: App + Sync, G: Gate + Sync, L: Ledge
     rounds_laws::<A>();
     let mut steps = Steps::<L>::new(blank);
     let mut picks = Picks::new(gate, seed);
-    let mut lists = RoundLists::new(alloc, engine.app().tasks_are_light());
+    let mut lists = RoundLists::new(alloc, Work::new(engine.app().task_nanos()));
     let mut text = Text::new(alloc);
     let mut rounds = 0u64;
     loop {
@@ -210,7 +211,7 @@ fn play_round<R: Threads + Sync, A: App + Sync, G: Gate + Sync, L: Ledger>(
     ensures ended { OnOk result (engine.old.progress.ended < engine.new.progress.ended) }
     ensures fault { IfErr result (IsRunFault (A.meaning engine.old.app) from.start) }
 {
-    if picks.gate().is_open() && stays_alone(workers, lists.are_light, lists.most_cells) {
+    if picks.gate().is_open() && lists.work.stays_alone(workers) {
         act_round(engine, lists, steps)?;
     } else {
         perform_round(rt, engine, picks, workers, lists)?;

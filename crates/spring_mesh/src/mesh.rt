@@ -221,8 +221,8 @@ impl App for Mesh {
         true
     }
 
-    fn tasks_are_light(&self) -> bool {
-        true
+    fn task_nanos(&self) -> Option<u64> {
+        Some(100)
     }
 
     fn horizon(&self, _alloc: Global) -> Result<(), NoRoom> {
