@@ -1,7 +1,9 @@
 ghost use Rattle.std.specs.Prelude.{◌≡◌, ℕ, ◌<◌, ◌^◌, length, map, slice_set, vec_len, IsTrue, IfOk, OnOk, OnErr};
+ghost use Rattle.std.specs.Borrow.{sem};
 ghost use Rattle.rw_sets.specs.Accesses.{IsAscending, writes};
 ghost use Rattle.cell_store.specs.declared.cell.Cell.TheVariants.{Home};
 ghost use Rattle.cell_store.specs.Home.{IsHome, cell_seen};
+ghost use Rattle.cell_store.specs.Lends.{LendsHome};
 ghost use Rattle.cell_store.specs.Storage.{cells_of};
 ghost use Rattle.cell_store.specs.Cells.{cell_at, AreHome, AreWrittenHome, AreWrittenOut, IsBundle, part_of, cells_taken, cells_given, shell_of, bundle_of, read_copy, with_written};
 
@@ -70,6 +72,16 @@ impl<V: Held> Store<V> {
         ensures { cell_at self.now loc ≡ Home result.now }
     {
         self.cells[loc as usize].value()
+    }
+
+    /// The value of a cell that is home, to be changed where it is.
+    #[inline(always)]
+    pub fn value_mut(&mut self, loc: u32) -> &mut V
+        requires { IsHome (cell_at self.old loc) }
+        ensures* lends { sem 𝓛 (LendsHome V.row self.entry loc result) }
+        ensures value { cell_at self.old loc ≡ Home result.now }
+    {
+        self.cells[loc as usize].value_mut()
     }
 
     /// Puts another value into a cell, where it is. What the cell had is dropped.

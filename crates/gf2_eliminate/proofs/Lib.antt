@@ -1,7 +1,8 @@
 pub mod Words
 pub mod Listing
-pub mod Planning
 pub mod Held
+pub mod Adding
+pub mod AtHome
 pub mod Effects
 pub mod Marking
 pub mod Finding

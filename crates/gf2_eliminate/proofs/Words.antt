@@ -1,12 +1,12 @@
 -- Sets of places as words, and what changes of bits make of them.
-use Rattle.std.specs.Prelude.{◌≡◌, ℕ, zero, suc, ◌+◌, ◌*◌, ◌/◌, ◌%◌, ◌^◌, ◌<◌, ◌≤◌, Bool, true, false, not, ◌&&◌, ◌||◌, ◌==◌, List, [], ◌∷◌, ◌++◌, length, filter, slice_set, max, bit_and, bit_or, bit_xor, refl}
+use Rattle.std.specs.Prelude.{◌≡◌, ℕ, zero, suc, ◌+◌, ◌*◌, ◌/◌, ◌%◌, ◌^◌, ◌<◌, ◌≤◌, Bool, true, false, not, ◌&&◌, ◌||◌, ◌==◌, List, [], ◌∷◌, ◌++◌, length, filter, take, slice_set, max, bit_and, bit_or, bit_xor, refl}
 use Rattle.std.specs.Int.{bit_at, bit_not}
 use Rattle.std.specs.List.{AllByRecursion}
 use Rattle.std.specs.Ordering.{nat_cmp}
 use Rattle.std.specs.declared.cmp.Ordering.TheVariants.{Less}
 use Rattle.std.proofs.Common.{◌⊎◌, inl, inr, arith, sym, ap, ◌∙◌, get_or, w64}
-use Rattle.std.proofs.lemmas.Bool.{and_parts, and_from, and_right, cases_eq, cases_lt, eq-eqb, ne_eqb, or_right, true≢false}
-use Rattle.std.proofs.lemmas.List.{get_or-set_other, get_or-set_same, get_or_past}
+use Rattle.std.proofs.lemmas.Bool.{and_parts, and_from, and_right, cases_eq, cases_lt, eq-eqb, ne_eqb, or_right, true≢false, false_from_ne_true}
+use Rattle.std.proofs.lemmas.List.{get_or-set_other, get_or-set_same, get_or-take, get_or_past, length-take}
 use Rattle.std.proofs.lemmas.Nat.Bits.{bit_at-lt, bit_at-zero, bit_at_clear_other, bit_at_clear_same, bit_at_or, bit_at_set_other, bit_at_set_same, bit_at_xor, same_from_bits}
 use Rattle.mtx_reader.specs.Ascending.{IsAscendingBy, numbers_from, all_in, all_from_in, in_filter, from_filter, in_numbers, ascending_filter, ascending_numbers, ascending_push, nat_less, same_numbers}
 use Rattle.gf2_eliminate.specs.Ones.{has_bit, places_of}
@@ -185,20 +185,14 @@ module _ (left right words : List ℕ) (bound : ℕ) (in-left : IsListTo bound (
       })
       (λ n below. has_sum (suc n))
 
-exactly_one-comm : (a b : Bool) → exactly_one a b ≡ exactly_one b a
-exactly_one-comm true true = refl
-exactly_one-comm true false = refl
-exactly_one-comm false true = refl
-exactly_one-comm false false = refl
-
 -- the words below a place are changed by those of others
 pub record IsChanged (f : ℕ → ℕ → ℕ) (start others words : List ℕ) (at : ℕ) : Type 0 where
   pub done : (k : ℕ) → k < at → get_or words k 0 ≡ f (get_or start k 0) (get_or others k 0)
   pub rest : (k : ℕ) → at ≤ k → get_or words k 0 ≡ get_or start k 0
 
 module _ (f : ℕ → ℕ → ℕ) where
-  pub changed_none : (start others : List ℕ) → IsChanged f start others start 0
-  changed_none start others = record { done = λ k below. absurd (omega (arith, below)); rest = λ k above. refl }
+  pub changed_none : ((x : ℕ) → f x 0 ≡ x) → (start others : List ℕ) (first : ℕ) → ((k : ℕ) → k < first → get_or others k 0 ≡ 0) → IsChanged f start others start first
+  changed_none none start others first before = record { done = λ k below. sym (ap (f (get_or start k 0)) (before k below) ∙ none (get_or start k 0)); rest = λ k above. refl }
 
   pub changed_more : (start others words : List ℕ) (at : ℕ) → at < length words → IsChanged f start others words at
       → IsChanged f start others (slice_set words at (f (get_or words at 0) (get_or others at 0))) (at + 1)
@@ -212,10 +206,11 @@ module _ (f : ℕ → ℕ → ℕ) where
     rest = λ k above. get_or-set_other words at k (f (get_or words at 0) (get_or others at 0)) 0 (λ here. omega (arith, here, above)) ∙ before.rest k (omega (arith, above));
   }
 
-  pub changed_all : ((x : ℕ) → f x 0 ≡ x) → (start others words : List ℕ) (at : ℕ) → length others ≤ at → IsChanged f start others words at → (k : ℕ) → get_or words k 0 ≡ f (get_or start k 0) (get_or others k 0)
-  changed_all none start others words at past changed k = elim (cases_lt k at) [
+  pub changed_all : ((x : ℕ) → f x 0 ≡ x) → (start others words : List ℕ) (at : ℕ) → ((k : ℕ) → at ≤ k → get_or others k 0 ≡ 0) → IsChanged f start others words at
+      → (k : ℕ) → get_or words k 0 ≡ f (get_or start k 0) (get_or others k 0)
+  changed_all none start others words at behind changed k = elim (cases_lt k at) [
     | inl below ↦ changed.done k below
-    | inr above ↦ changed.rest k above ∙ sym (none (get_or start k 0)) ∙ ap (f (get_or start k 0)) (sym (get_or_past others k 0 (omega (arith, past, above))))
+    | inr above ↦ changed.rest k above ∙ sym (none (get_or start k 0)) ∙ ap (f (get_or start k 0)) (sym (behind k above))
   ]
 
 pub bit_or_none : (x : ℕ) → bit_or x 0 ≡ x
@@ -224,12 +219,22 @@ bit_or_none x = same_from_bits (bit_or x 0) x (λ i. omega (arith, bit_at_or x 0
 pub bit_xor_none : (x : ℕ) → bit_xor x 0 ≡ x
 bit_xor_none x = same_from_bits (bit_xor x 0) x (λ i. omega (arith, bit_at_xor x 0 i, bit_at-zero i, bit_at-lt x i))
 
--- whichever has the more words
 pub sum_is : (left right words : List ℕ) (bound : ℕ) → IsListTo bound (places_of left) → IsListTo bound (places_of right) → ((k : ℕ) → get_or words k 0 ≡ bit_xor (get_or left k 0) (get_or right k 0))
     → places_of words ≡ sum_to bound (places_of left) (places_of right)
 sum_is left right words bound in-left in-right each = summed left right words bound in-left in-right (turned left right words each)
 
-pub sum_is_back : (left right words : List ℕ) (bound : ℕ) → IsListTo bound (places_of left) → IsListTo bound (places_of right) → ((k : ℕ) → get_or words k 0 ≡ bit_xor (get_or right k 0) (get_or left k 0))
-    → places_of words ≡ sum_to bound (places_of left) (places_of right)
-sum_is_back left right words bound in-left in-right each =
-    summed left right words bound in-left in-right (λ n. turned right left words each n ∙ exactly_one-comm (has_bit right n) (has_bit left n))
+-- a set with a place has words
+pub some_words : (words : List ℕ) → 0 < length (places_of words) → 0 < length words
+some_words [] some = some
+some_words (word ∷ words) some = omega arith
+
+-- the first words have the places below their end
+pub places_within : (words : List ℕ) (count : ℕ) → AllByRecursion (λ place. place < 64 * count) (places_of words) → places_of (take count words) ≡ places_of words
+places_within words count within = places_are (take count words) (places_of words) (ascending_places words) (λ n. elim (cases_lt (n / 64) count) [
+  | inl below ↦ ap (λ word. bit_at word (n % 64) == 1) (get_or-take count words (n / 64) 0 below) ∙ sym (has_places words n)
+  | inr past ↦
+      let few : length (take count words) ≤ n / 64 = omega (arith, length-take count words, past) in
+      let none : has (places_of words) n ≡ false = false_from_ne_true (has (places_of words) n) (λ there.
+      let below = all_in (λ place. place < 64 * count) (places_of words) n within (in_has (places_of words) n there) in omega (arith, below, past)) in
+      ap (λ word. bit_at word (n % 64) == 1) (get_or_past (take count words) (n / 64) 0 few) ∙ ap (λ b. b == 1) (bit_at-zero (n % 64)) ∙ sym none
+])

@@ -1,5 +1,5 @@
 -- Sets of places as words of 64 bits, of which each place has one.
-use Rattle.std.specs.Prelude.{ℕ, ◌*◌, ◌/◌, ◌%◌, Bool, ◌==◌, List, length, filter, slice_index}
+use Rattle.std.specs.Prelude.{◌≡◌, ℕ, ◌*◌, ◌/◌, ◌%◌, ◌^◌, ◌<◌, ◌≤◌, Bool, ◌==◌, List, length, filter, slice_index}
 use Rattle.std.specs.Int.{bit_at}
 use Rattle.mtx_reader.specs.Ascending.{numbers_from}
 
@@ -14,3 +14,23 @@ places_of words = filter (has_bit words) (numbers_from 0 (64 * length words))
 -- the bits of a word that are set
 abbrev pub bits_of : ℕ → List ℕ
 bits_of word = filter (λ bit. bit_at word bit == 1) (numbers_from 0 64)
+
+-- enough words for the places of the longest line
+abbrev pub least_words : ℕ
+least_words = 65
+
+-- the words of a set: so few that each place is less than 2^32, and enough for every line where there are any
+pub record AreWords (words : List ℕ) : Type 0 where
+  pub few : length words ≤ 2 ^ 26
+  pub roomy : 0 < length words → least_words ≤ length words
+
+-- no word before the first and none from the end on has a bit
+pub record HasNothingOutside (words : List ℕ) (first end : ℕ) : Type 0 where
+  pub before : (k : ℕ) → k < first → slice_index words k ≡ 0
+  pub behind : (k : ℕ) → end ≤ k → slice_index words k ≡ 0
+
+-- words that every set with a place has too, and those among them that have bits
+pub record IsSpan (words : List ℕ) (first end : ℕ) : Type 0 where
+  pub short : length words ≤ least_words
+  pub within : end ≤ length words
+  pub nothing : HasNothingOutside words first end

@@ -5,6 +5,7 @@ mod blocks;
 mod finals;
 mod laws;
 mod line;
+mod lines;
 mod matrix;
 mod ones;
 mod start;

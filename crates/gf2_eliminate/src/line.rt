@@ -1,9 +1,11 @@
-ghost use Rattle.std.specs.Prelude.{◌≡◌, ◌<◌, OnOk};
+ghost use Rattle.std.specs.Prelude.{◌≡◌, ℕ, ◌<◌, length, OnOk};
 ghost use Rattle.std.specs.List.{AllByRecursion};
-ghost use Rattle.gf2_eliminate.specs.Lines.{is_used, numbers_in};
+ghost use Rattle.gf2_eliminate.specs.Lines.{is_used, numbers_in, IsListTo};
+ghost use Rattle.gf2_eliminate.specs.Plans.{as_used, with_sum};
 ghost use Rattle.gf2_eliminate.specs.Start.{with_number};
 
 use crate::OneSet;
+use crate::ones::Addend;
 use cell_store::Held;
 use kdg_text::NoRoom;
 
@@ -66,6 +68,28 @@ impl Line2 {
         match self {
             Line2::Row { cols, .. } => cols.push(number),
             Line2::Col { rows } => rows.push(number),
+        }
+    }
+
+    /// Adds ones over two elements. The line has a one before.
+    #[inline(always)]
+    pub(crate) fn add(&mut self, added: &Addend)
+        requires { 0 < length (numbers_in self.old) }
+        ensures { (bound : ℕ) → IsListTo bound (numbers_in self.old) → IsListTo bound added.now → self.new ≡ with_sum bound added.now self.old }
+    {
+        match self {
+            Line2::Row { cols, .. } => cols.add(added),
+            Line2::Col { rows } => rows.add(added),
+        }
+    }
+
+    /// From now on it was the pivot of a column, if it is a row.
+    pub(crate) fn mark_used(&mut self)
+        ensures { self.new ≡ as_used self.old }
+    {
+        match self {
+            Line2::Row { used, .. } => *used = true,
+            Line2::Col { .. } => {}
         }
     }
 }

@@ -9,10 +9,10 @@ ghost use Rattle.gf2_eliminate.specs.Start.{finals_of, start_cells, start_tasks}
 use crate::Line2;
 use crate::finals::finals;
 use crate::start::{first_cells, first_tasks};
-use crate::step::{Change, plan, write_lines};
+use crate::step::eliminate;
 use crate::touched::{first_out, touched};
 use app_laws::{App, ChildList, Effect, SetAnswer};
-use cell_store::{Bundle, Seen, Store, location_laws, value_laws};
+use cell_store::{Bundle, Seen, Store, home_laws, location_laws, return_laws, value_laws};
 use kdg_text::{NoRoom, Steps, Text};
 use mtx_reader::Pattern;
 use rw_sets::RwSet;
@@ -147,17 +147,31 @@ impl App for Matrix {
         location_laws::<Line2>();
         value_laws::<Line2>();
         let mut bundle = bundle;
-        match plan(self.alloc, self.pattern.rows, task.body.at, &bundle) {
+        match eliminate(self.alloc, self.pattern.rows, task.body.at, &mut bundle) {
             Err(_) => Err(bundle),
-            Ok(Change { lines, text }) => {
-                write_lines(&mut bundle, lines);
-                Ok(Effect {
-                    bundle,
-                    children: ChildList::new(self.alloc),
-                    text,
-                })
-            }
+            Ok(text) => Ok(Effect {
+                bundle,
+                children: ChildList::new(self.alloc),
+                text,
+            }),
         }
+    }
+
+    fn works_at_home(&self) -> bool {
+        true
+    }
+
+    fn run_at_home(
+        &self,
+        task: &Task,
+        store: &mut Store<Line2>,
+    ) -> Result<(ChildList, Text), NoRoom> {
+        location_laws::<Line2>();
+        value_laws::<Line2>();
+        return_laws::<Line2>();
+        home_laws::<Line2>();
+        let text = eliminate(self.alloc, self.pattern.rows, task.body.at, store)?;
+        Ok((ChildList::new(self.alloc), text))
     }
 
     ghost lawful = { λ pattern. lawful.are_lawful pattern.rows pattern.cols };

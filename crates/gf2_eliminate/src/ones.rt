@@ -1,10 +1,14 @@
 ghost use Rattle.std.specs.Prelude.{◌≡◌, ℕ, ◌+◌, ◌≤◌, ◌<◌, ◌^◌, [], ◌∷◌, ◌++◌, not, ◌==◌, length, map, filter, slice_index, max, bit_or, bit_xor, IfOk, OnOk, OnErr};
 ghost use Rattle.std.specs.List.{AllByRecursion};
-ghost use Rattle.gf2_eliminate.specs.Ones.{bits_of};
+ghost use Rattle.gf2_eliminate.specs.Ones.{bits_of, HasNothingOutside};
 
 use kdg_text::NoRoom;
 use std::alloc::Global;
 use std::marker::Model;
+
+/// How many words a set has at least where it has any, which is enough for the places of the longest
+/// line. So a sum of two lines takes no memory.
+pub(crate) const LEAST_WORDS: usize = 65;
 
 /// The places of a line at which it has a one. A place has a bit, and a word those of 64 places.
 #[derive(Drop)]
@@ -13,15 +17,14 @@ pub struct OneSet {
 }
 
 impl Model for OneSet {
-    ghost use Rattle.std.specs.Prelude.{List, ℕ, ◌≤◌, ◌^◌, length};
-    ghost use Rattle.gf2_eliminate.specs.Ones.{places_of};
+    ghost use Rattle.std.specs.Prelude.{List, ℕ};
+    ghost use Rattle.gf2_eliminate.specs.Ones.{places_of, AreWords};
 
     ghost Value = { List ℕ };
 
     ghost view = { λ s. places_of s.words.items };
 
-    // So each place is less than 2^32.
-    ghost invariant = { λ s. length s.words.items ≤ 2 ^ 26 };
+    ghost invariant = { λ s. AreWords s.words.items };
 }
 
 impl OneSet {
@@ -68,7 +71,7 @@ impl OneSet {
         ensures err { OnErr result (self.new ≡ self.old) }
     {
         let (at, bit) = ((place / u64::BITS) as usize, place % u64::BITS);
-        lengthen(&mut self.words, at + 1)?;
+        lengthen(&mut self.words, (at + 1).max(LEAST_WORDS))?;
         self.words[at] |= 1 << bit;
         Ok(())
     }
@@ -83,20 +86,13 @@ impl OneSet {
         Ok(())
     }
 
-    /// The sum over two elements: the places that are in exactly one of the two sets.
-    pub(crate) fn sum(&self, other: &OneSet) -> Result<OneSet, NoRoom>
-        ensures { (bound : ℕ) → IsListTo bound self.now → IsListTo bound other.now →
-            IfOk result (λ sum. sum ≡ sum_to bound self.now other.now) }
+    /// Adds places over two elements, where they are: the set then has those that exactly one of the two
+    /// had. It has a place before, and so enough words.
+    pub(crate) fn add(&mut self, added: &Addend)
+        requires { 0 < length self.old }
+        ensures { (bound : ℕ) → IsListTo bound self.old → IsListTo bound added.now → self.new ≡ sum_to bound self.old added.now }
     {
-        if self.words.len() < other.words.len() {
-            let mut words = other.words.clone()?;
-            turn_bits(&mut words, &self.words);
-            Ok(OneSet { words })
-        } else {
-            let mut words = self.words.clone()?;
-            turn_bits(&mut words, &other.words);
-            Ok(OneSet { words })
-        }
+        turn_bits(&mut self.words, &added.words, (added.first, added.end));
     }
 
     /// The places but for one.
@@ -123,11 +119,77 @@ impl OneSet {
     }
 }
 
+/// Places that are added to several sets, and which words they are in.
+#[derive(Drop)]
+pub(crate) struct Addend {
+    words: Vec<u64>,
+    // behind the words without a bit at the beginning
+    first: usize,
+    // before the words without a bit at the end
+    end: usize,
+}
+
+impl Model for Addend {
+    ghost use Rattle.std.specs.Prelude.{List, ℕ};
+    ghost use Rattle.gf2_eliminate.specs.Ones.{places_of, IsSpan};
+
+    ghost Value = { List ℕ };
+
+    ghost view = { λ a. places_of a.words.items };
+
+    ghost invariant = { λ a. IsSpan a.words.items a.first a.end };
+}
+
+impl Addend {
+    ghost use Rattle.std.specs.Prelude.{◌*◌};
+    ghost use Rattle.gf2_eliminate.specs.Ones.{least_words};
+
+    /// The places of a set, which a line can have.
+    pub(crate) fn new(ones: OneSet) -> Addend
+        requires { AllByRecursion (λ place. place < 64 * least_words) ones }
+        ensures { result ≡ ones }
+    {
+        let OneSet { mut words } = ones;
+        words.truncate(LEAST_WORDS);
+        let first = first_word(&words);
+        let end = end_of_words(&words);
+        Addend { words, first, end }
+    }
+}
+
+/// The first word that has a bit, or the end where none has one.
+fn first_word(words: &[u64]) -> usize
+    ensures { (k : ℕ) → k < result → slice_index words.now k ≡ 0 }
+{
+    for (at, word) in words.iter().enumerate() {
+        if *word != 0 {
+            return at;
+        }
+    }
+    words.len()
+}
+
+/// The end of the words behind the last one that has a bit.
+fn end_of_words(words: &[u64]) -> usize
+    ensures within { result ≤ length words.now }
+    ensures none { (k : ℕ) → result ≤ k → slice_index words.now k ≡ 0 }
+{
+    let mut end = words.len();
+    while end > 0 {
+        if words[end - 1] != 0 {
+            return end;
+        }
+        end -= 1;
+    }
+    end
+}
+
 /// Makes them at least so many words, by words without a bit.
 fn lengthen(words: &mut Vec<u64>, len: usize) -> Result<(), NoRoom>
     ensures long { OnOk result (len ≤ length words.new.items) }
     ensures err { OnErr result (words.new.items ≡ words.old.items) }
     ensures few { length words.new.items ≤ max (length words.old.items) len }
+    ensures kept { length words.old.items ≤ length words.new.items }
     ensures same { (k : ℕ) → slice_index words.new.items k ≡ slice_index words.old.items k }
 {
     if words.len() < len {
@@ -146,12 +208,15 @@ fn set_bits(words: &mut [u64], others: &[u64])
     }
 }
 
-/// Turns the bits that are set in the others, of which there are no more.
-fn turn_bits(words: &mut [u64], others: &[u64])
-    requires { length others.now ≤ length words.old }
+/// Turns the bits that are set in the others, which have none outside of a span.
+fn turn_bits(words: &mut [u64], others: &[u64], span: (usize, usize))
+    requires within { span.1 ≤ length words.old }
+    requires in_others { span.1 ≤ length others.now }
+    requires nothing { HasNothingOutside others.now span.0 span.1 }
     ensures { (k : ℕ) → slice_index words.new k ≡ bit_xor (slice_index words.old k) (slice_index others.now k) }
 {
-    for at in 0..others.len() {
+    let (first, end) = span;
+    for at in first..end {
         words[at] ^= others[at];
     }
 }
