@@ -5,6 +5,8 @@
 #[cfg(test)]
 mod decks;
 #[cfg(test)]
+mod eliminations;
+#[cfg(test)]
 mod meshes;
 #[cfg(test)]
 mod patterns;

@@ -17,6 +17,3 @@ pub use laws::elimination_laws;
 pub use line::Line2;
 pub use matrix::Matrix;
 pub use ones::OneSet;
-
-#[cfg(test)]
-mod tests;

@@ -1,6 +1,6 @@
 use Rattle.std.proofs.Common.{ap, sym, ◌∙◌}
 use Rattle.cell_store.specs.Values.{homes, values_of}
-use Rattle.gf2_eliminate.proofs.tests.prints.Goals as goal
+use Rattle.format_trials.proofs.eliminations.prints.Goals as goal
 
 -- what a serial run leaves is the cells of its end, all home
 pub print_finals-requires-clause-home : goal.print_finals-requires-clause-home
