@@ -1,8 +1,9 @@
 -- The nodes that are left behind the one that was looked at last, and which of them are sources.
-use Rattle.std.proofs.Common.{◌≡◌, Bool, true, false, not, cond, List, [], ◌∷◌, Option, Some, refl, ◌∙◌, ap, unwrap_or, filter, option_map, ℕ, zero, suc, ◌+◌, ◌<◌, ◌^◌, ◌==◌, ◌||◌, ◌&&◌, ◌++◌, drop, get_or, length, take, None, sym, subst, arith, Contains, IfSome, slice_get, is_lt, true≢false, append_assoc}
+use Rattle.std.proofs.Common.{◌≡◌, Bool, true, false, not, cond, List, [], ◌∷◌, Option, Some, refl, ◌∙◌, ap, unwrap_or, filter, option_map, ℕ, zero, suc, ◌+◌, ◌<◌, ◌^◌, ◌==◌, ◌||◌, ◌&&◌, ◌++◌, drop, get_or, length, take, None, sym, subst, arith, Contains, IfSome, MatchOption, slice_get, is_lt, true≢false, append_assoc, append-nil, eq-eqb, eqb-true}
 use Rattle.std.proofs.Math.Bool.{and_assoc, and-true}
+use Rattle.std.proofs.lemmas.List.Elements.{filter_more}
 use Rattle.std.specs.Int.{from_bool}
-use Rattle.kdg_graph.proofs.Common.{AllByRecursion, NodeId, Node, IsGraph, ids_of, node_at, sources_of, is_unblocked, not_running, runs, unblocked_of, from_filter, option_eq, false_from_ne_true, map-append, take_more, Contains-get_or, get_or_from_slice_get, slice_get_within, key_cmp_total, IsAscending, Arrival, is_id, is_id_at, HasNode, is_at, least_of, tasks_of, AreLeft, IsArrival, IsInOrder, IsLeft, MarkedIds, arrived, ids_in, is_among, is_behind, is_later, is_left, left_in, listed_in, all_at, here, filter-map}
+use Rattle.kdg_graph.proofs.Common.{AllByRecursion, NodeId, Node, IsGraph, ids_of, node_at, sources_of, is_unblocked, not_running, runs, unblocked_of, from_filter, option_eq, false_from_ne_true, map-append, Contains-get_or, key_cmp_total, IsAscending, Absent, Arrival, Standing, is_id, is_id_at, HasNode, is_at, least_of, tasks_of, AreLeft, AreSome, IsInOrder, IsLeft, IsNext, MarkedIds, arrived, has_number, ids_in, is_recent, recent_among, recent_in, settled_among, settled_from, settled_in, is_among, is_behind, is_later, is_left, left_in, listed_in, all_at, from_map, here, in_filter, filter-map}
 use Rattle.kdg_graph.proofs.Blocking.{any_from, found_some, same_found}
 use Rattle.kdg_graph.proofs.Fronting.{some_first}
 use Rattle.kdg_graph.proofs.KeyOrder.{filter_twice, filters_commute, ascending_filtered, dropped, kept, same_filter, Less_from_test, all_later, filter-all, not_itself, is_past}
@@ -49,18 +50,27 @@ only_at (first ∷ nodes) id node test found passes =
 
 -- ---- one arrival more
 
--- it is a node of the graph
-pub arrival_there : (nodes : List Node) (recent items : List Arrival) (i : ℕ) (d : Arrival) → IsGraph nodes → AllByRecursion (IsArrival nodes) recent → items ≡ recent → i < length items → HasNode nodes (get_or items i d).id
-arrival_there nodes recent items i d graph all same inside =
-    let arrival : IsArrival nodes (get_or items i d) = all_at (IsArrival nodes) items (get_or items i d) (subst (AllByRecursion (IsArrival nodes)) (sym same) all) (Contains-get_or items i d inside) in
-    found_some nodes (get_or items i d).id arrival.node graph arrival.there arrival.id_is
+-- it is a node of the graph, where it is marked as having come
+pub arrival_there : (nodes : List Node) (some : MarkedIds) (items : List Arrival) (i : ℕ) (d : Arrival) → AreSome nodes some → items ≡ some.arrivals → i < length items → is_recent (get_or some.standings (get_or items i d).id.at Absent) ≡ true → HasNode nodes (get_or items i d).id
+arrival_there nodes some items i d are same inside marked =
+    let came : Contains some.arrivals (get_or items i d) = subst (λ (l : List Arrival). Contains l (get_or items i d)) same (Contains-get_or items i d inside) in
+    all_at (λ (a : Arrival). HasNode nodes a.id) (recent_in some) (get_or items i d) are.recent (in_filter (λ (a : Arrival). is_recent (get_or some.standings a.id.at Absent)) some.arrivals (get_or items i d) came marked)
 
--- its id stands last
-pub arrived_more : (ids : List NodeId) (recent : List Arrival) (i : ℕ) (d : Arrival) → i < length recent → ids ++ arrived (take (i + 1) recent) ≡ (ids ++ arrived (take i recent)) ++ (get_or recent i d).id ∷ []
-arrived_more ids recent i d inside =
-    ap (λ (l : List Arrival). ids ++ arrived l) (take_more recent i d inside)
-    ∙ ap (λ l. ids ++ l) (map-append (λ (arrival : Arrival). arrival.id) (take i recent) (get_or recent i d ∷ []))
-    ∙ sym (append_assoc ids (arrived (take i recent)) ((get_or recent i d).id ∷ []))
+-- then its id stands last
+pub arrived_more : (ids : List NodeId) (standings : List Standing) (arrivals : List Arrival) (i : ℕ) (d : Arrival) → i < length arrivals → is_recent (get_or standings (get_or arrivals i d).id.at Absent) ≡ true
+    → ids ++ arrived (recent_among standings (take (i + 1) arrivals)) ≡ (ids ++ arrived (recent_among standings (take i arrivals))) ++ (get_or arrivals i d).id ∷ []
+arrived_more ids standings arrivals i d inside marked =
+    let came : Arrival → Bool = λ arrival. is_recent (get_or standings arrival.id.at Absent) in
+    let arrival : Arrival = get_or arrivals i d in
+    ap (λ (l : List Arrival). ids ++ arrived l) (filter_more came arrivals i d inside ∙ ap (λ b. recent_among standings (take i arrivals) ++ cond b (arrival ∷ []) []) marked)
+    ∙ ap (λ l. ids ++ l) (map-append (λ (a : Arrival). a.id) (recent_among standings (take i arrivals)) (arrival ∷ []))
+    ∙ sym (append_assoc ids (arrived (recent_among standings (take i arrivals))) (arrival.id ∷ []))
+
+-- one that is marked otherwise adds nothing
+pub arrived_no_more : (standings : List Standing) (arrivals : List Arrival) (i : ℕ) (d : Arrival) → i < length arrivals → is_recent (get_or standings (get_or arrivals i d).id.at Absent) ≡ false → recent_among standings (take (i + 1) arrivals) ≡ recent_among standings (take i arrivals)
+arrived_no_more standings arrivals i d inside other =
+    let came : Arrival → Bool = λ arrival. is_recent (get_or standings arrival.id.at Absent) in
+    filter_more came arrivals i d inside ∙ ap (λ b. recent_among standings (take i arrivals) ++ cond b (get_or arrivals i d ∷ []) []) other ∙ append-nil (recent_among standings (take i arrivals))
 
 -- where its node is left, that is left besides the others
 pub one_more : (nodes : List Node) (ids : List NodeId) (last : Option NodeId) (id : NodeId) → filter (λ node. is_left nodes ids last node || (is_at id node && is_behind nodes last node)) nodes ≡ filter (is_left nodes (ids ++ id ∷ []) last) nodes
@@ -151,27 +161,16 @@ seen_next nodes ids last id node running graph is found test =
 
 -- ---- those in order
 
--- the list from a place on, by the id there
-first_dropped : (ids : List NodeId) (place : ℕ) (first : NodeId) (rest : List NodeId) → drop place ids ≡ first ∷ rest → (slice_get ids place ≡ Some first) × (drop (suc place) ids ≡ rest)
-first_dropped [] zero first rest is = cc
-first_dropped [] (suc place) first rest is = cc
-first_dropped (id ∷ ids) zero first rest is = (cc, cc)
-first_dropped (id ∷ ids) (suc place) first rest is = first_dropped ids place first rest is
-
-none_there : (ids : List NodeId) (place : ℕ) → drop place ids ≡ [] → slice_get ids place ≡ None
-none_there [] zero is = refl
-none_there [] (suc place) is = refl
-none_there (id ∷ ids) zero is = cc
-none_there (id ∷ ids) (suc place) is = none_there ids place is
-
--- where those from a place on are the ids of some nodes, the one at the place is that of the first
-first_at : (ids : List NodeId) (place : ℕ) (some : List Node) → drop place ids ≡ ids_of some → slice_get ids place ≡ least_of some
-first_at ids place [] is = none_there ids place is
-first_at ids place (node ∷ some) is = (first_dropped ids place node.id (ids_of some) is).0
+-- where it is the first of some ids, it is that of the first of the nodes that have these
+heads : (found : Option NodeId) (ids rest : List NodeId) (some : List Node) → MatchOption found (ids ≡ []) (λ id. ids ≡ id ∷ rest) → ids ≡ ids_of some → found ≡ least_of some
+heads None ids rest [] next is = refl
+heads None ids rest (node ∷ some) next is = cc
+heads (Some id) ids rest [] next is = cc
+heads (Some id) ids rest (node ∷ some) next is = cc
 
 -- so the id at the place is that of the first that is left
-pub settled_first : (nodes : List Node) (ids : List NodeId) (place : ℕ) (last : Option NodeId) → IsLeft nodes ids place last → slice_get ids place ≡ least_of (filter (is_left nodes ids last) nodes)
-settled_first nodes ids place last left = first_at ids place (filter (is_left nodes ids last) nodes) left
+pub settled_first : (nodes : List Node) (some : MarkedIds) (place : ℕ) (last : Option NodeId) → IsLeft nodes some place last → IsNext some place → slice_get some.entries place ≡ least_of (filter (is_left nodes (settled_in some) last) nodes)
+settled_first nodes some place last left next = heads (slice_get some.entries place) (settled_from some place) (settled_from some (place + 1)) (filter (is_left nodes (settled_in some) last) nodes) next left
 
 -- of all that are left they are those among the ids
 left_among : (nodes : List Node) (ids more : List NodeId) (last : Option NodeId) → filter (is_left nodes ids last) nodes ≡ filter (is_among ids) (filter (is_left nodes (ids ++ more) last) nodes)
@@ -187,39 +186,47 @@ left_among nodes ids more last =
     by_tests false true false = refl
     by_tests false false behind = refl
 
--- an id at a place is among the ids
-not_there : (ids : List NodeId) (place : ℕ) (id : NodeId) (node : Node) → node.id ≡ id → is_among ids node ≡ false → is_id_at id ids place ≡ false
-not_there ids place id node same apart = false_from_ne_true _ (λ here.
-    let at : slice_get ids place ≡ Some id = id_at ids place id here in
-    let has : Contains ids id = (place, slice_get_within ids place id at, get_or_from_slice_get ids place id id at) in
-    true≢false (sym (any_from (λ (other : NodeId). is_at other node) ids id has (is_at-same id node same)) ∙ apart))
+-- of two that may be the first of some ids this one is, if the first of the nodes is among them
+step : (some : MarkedIds) (place : ℕ) (id : NodeId) (head : Node) (rest : List Node) (found : Option NodeId) (among : Bool) → head.id ≡ id → is_among (settled_in some) head ≡ among
+    → MatchOption found (settled_from some place ≡ []) (λ first. settled_from some place ≡ first ∷ settled_from some (place + 1)) → settled_from some place ≡ ids_of (cond among (head ∷ filter (is_among (settled_in some)) rest) (filter (is_among (settled_in some)) rest))
+    → settled_from some (place + from_bool (is_id id found)) ≡ ids_of (filter (is_among (settled_in some)) rest)
+step some place id head rest None true same among next is = cc
+step some place id head rest (Some first) true same among next is =
+    let its : first ≡ head.id = cc in
+    let others : settled_from some (place + 1) ≡ ids_of (filter (is_among (settled_in some)) rest) = cc in
+    ap (λ b. settled_from some (place + from_bool b)) (eq-eqb first.at id.at (ap (λ (i : NodeId). i.at) (its ∙ same))) ∙ others
+step some place id head rest None false same apart next is =
+    let stays : place + from_bool false ≡ place = omega arith in
+    ap (settled_from some) stays ∙ is
+step some place id head rest (Some first) false same apart next is =
+    let stays : place + from_bool false ≡ place = omega arith in
+    let other : is_id id (Some first) ≡ false = false_from_ne_true _ (λ at.
+    let has : Contains (ids_of (filter (is_among (settled_in some)) rest)) first = subst (λ (l : List NodeId). Contains l first) (sym next ∙ is) (here first (settled_from some (place + 1))) in
+    let one : (n : Node) × Contains (filter (is_among (settled_in some)) rest) n × (n.id ≡ first) = from_map (λ (n : Node). n.id) (filter (is_among (settled_in some)) rest) first has in
+    let passes : is_among (settled_in some) one.0 ≡ true = (from_filter (is_among (settled_in some)) rest one.0 one.1).1 in
+    let number : one.0.id.at ≡ head.id.at = ap (λ (i : NodeId). i.at) one.2 ∙ eqb-true first.at id.at at ∙ ap (λ (i : NodeId). i.at) (sym same) in
+    true≢false (sym passes ∙ ap (λ n. has_number n (settled_in some)) number ∙ apart)) in
+    ap (λ b. settled_from some (place + from_bool b)) other ∙ ap (settled_from some) stays ∙ is
 
 -- where the first of all that are left is the one at the place, those behind it begin at the next place
-settled_left : (nodes : List Node) (ids more : List NodeId) (place : ℕ) (last : Option NodeId) (id : NodeId) → IsGraph nodes → IsLeft nodes ids place last → Some id ≡ least_of (filter (is_left nodes (ids ++ more) last) nodes)
-    → IsLeft nodes ids (place + from_bool (is_id_at id ids place)) (Some id)
-settled_left nodes ids more place last id graph left is =
+settled_left : (nodes : List Node) (some : MarkedIds) (place : ℕ) (last : Option NodeId) (id : NodeId) → IsGraph nodes → IsLeft nodes some place last → IsNext some place → Some id ≡ least_of (filter (is_left nodes (ids_in some) last) nodes)
+    → IsLeft nodes some (place + from_bool (is_id_at id some.entries place)) (Some id)
+settled_left nodes some place last id graph left next is =
+    let ids : List NodeId = settled_in some in
+    let more : List NodeId = arrived (recent_in some) in
     let first = first_left nodes (ids ++ more) last id graph is in
-    let head : Node = first.0 in
-    let before : drop place ids ≡ ids_of (filter (is_among ids) (head ∷ first.1)) = left ∙ ap ids_of (left_among nodes ids more last ∙ ap (filter (is_among ids)) first.2) in
+    let before : settled_from some place ≡ ids_of (filter (is_among ids) (first.0 ∷ first.1)) = left ∙ ap ids_of (left_among nodes ids more last ∙ ap (filter (is_among ids)) first.2) in
     let after : left_in nodes ids (Some id) ≡ ids_of (filter (is_among ids) first.1) = ap ids_of (left_among nodes ids more (Some id) ∙ ap (filter (is_among ids)) first.4) in
-    let by_case : (among : Bool) → is_among ids head ≡ among → IsLeft nodes ids (place + from_bool (is_id_at id ids place)) (Some id) = elim [
-      | true ↦ λ among.
-          let at = first_dropped ids place head.id (ids_of (filter (is_among ids) first.1)) (before ∙ ap ids_of (kept (is_among ids) head first.1 among)) in
-          let goes_on : place + from_bool true ≡ suc place = omega arith in
-          ap (λ b. drop (place + from_bool b) ids) (ap (is_id id) at.0 ∙ is_at-same id head first.3) ∙ ap (λ n. drop n ids) goes_on ∙ at.1 ∙ sym after
-      | false ↦ λ apart.
-          let stays : place + from_bool false ≡ place = omega arith in
-          ap (λ b. drop (place + from_bool b) ids) (not_there ids place id head first.3 apart) ∙ ap (λ n. drop n ids) stays ∙ before ∙ ap ids_of (dropped (is_among ids) head first.1 apart) ∙ sym after
-    ] in
-    by_case (is_among ids head) refl
+    step some place id first.0 first.1 (slice_get some.entries place) (is_among ids first.0) first.3 refl next before ∙ sym after
 
 -- the first of all that are left is looked at
-pub left_next : (nodes : List Node) (some : MarkedIds) (place next : ℕ) (last : Option NodeId) (id : NodeId) → AreLeft nodes some place last → Some id ≡ least_of (filter (is_left nodes (ids_in some) last) nodes) → next ≡ place + from_bool (is_id_at id some.ids place) → AreLeft nodes some next (Some id)
-left_next nodes some place next last id left is at = record {
+pub left_next : (nodes : List Node) (some : MarkedIds) (start place next : ℕ) (last : Option NodeId) (id : NodeId) → AreLeft nodes some start last → settled_from some place ≡ settled_from some start → IsNext some place → Some id ≡ least_of (filter (is_left nodes (ids_in some) last) nodes)
+    → next ≡ place + from_bool (is_id_at id some.entries place) → AreLeft nodes some next (Some id)
+left_next nodes some start place next last id left same first is at = record {
   graph = left.graph;
   some_are = left.some_are;
   last_there = least_there nodes (is_left nodes (ids_in some) last) (Some id) left.graph is;
-  place_is = subst (λ n. IsLeft nodes some.ids n (Some id)) (sym at) (settled_left nodes some.ids (arrived some.recent) place last id left.graph left.place_is is);
+  place_is = subst (λ n. IsLeft nodes some n (Some id)) (sym at) (settled_left nodes some place last id left.graph (same ∙ left.place_is) first is);
 }
 
 -- ids are one where their numbers are
@@ -251,11 +258,14 @@ drop-nothing [] = refl
 drop-nothing (id ∷ ids) = refl
 
 -- and those in order begin at the first place
-pub left_at_start : (nodes : List Node) (ids : List NodeId) → IsInOrder nodes ids → IsLeft nodes ids 0 None
-left_at_start nodes ids is = drop-nothing ids ∙ is ∙ sym (all_left nodes ids)
+pub left_at_start : (nodes : List Node) (some : MarkedIds) → IsInOrder nodes (settled_in some) → IsLeft nodes some 0 None
+left_at_start nodes some is = ap (settled_among some.standings) (drop-nothing some.entries) ∙ is ∙ sym (all_left nodes (settled_in some))
 
 -- the first unblocked node is the first of all
 pub least_left : (nodes : List Node) (some : MarkedIds) → IsGraph nodes → listed_in nodes some ≡ unblocked_of nodes → least_of (filter (is_left nodes (ids_in some) None) nodes) ≡ least_of nodes
 least_left nodes some graph is =
-    let all : List NodeId = left_in nodes (ids_in some) None in
-    sym (first_at all 0 (filter (is_left nodes (ids_in some) None) nodes) (drop-nothing all)) ∙ first_unblocked nodes all graph (all_left nodes (ids_in some) ∙ is)
+    first_id (filter (is_left nodes (ids_in some) None) nodes) ∙ first_unblocked nodes (left_in nodes (ids_in some) None) graph (all_left nodes (ids_in some) ∙ is)
+  where
+    first_id : (some : List Node) → least_of some ≡ slice_get (ids_of some) 0
+    first_id [] = refl
+    first_id (node ∷ some) = refl

@@ -10,6 +10,7 @@ pub mod Stored
 pub mod Rooms
 pub mod Selecting
 pub mod Listed
+pub mod Marks
 pub mod Left
 pub mod Settling
 pub mod Filing

@@ -1,13 +1,13 @@
 -- Ids of nodes, some in key order and others that came since, where a node or an id changes.
-use Rattle.std.proofs.Common.{◌≡◌, inl, inr, ℕ, ◌<◌, ◌||◌, Bool, true, false, not, cond, List, [], ◌∷◌, ◌++◌, length, get_or, set, refl, sym, ◌∙◌, ap, eqb-true, eq-eqb, ◌==◌, ne_eqb, true≢false, get_or-set_other, IsPermutation, ◌≤◌, append-nil, Some, subst, Contains, IfSome, filter, is_lt, ◌≢◌, ◌+◌, drop, Option, arith, get_or-drop, length-drop, slice_get, option_map, nat_cmp, Ordering, Less, Equal, Greater, map}
+use Rattle.std.proofs.Common.{◌≡◌, inl, inr, ℕ, ◌<◌, ◌||◌, Bool, true, false, not, cond, List, [], ◌∷◌, ◌++◌, length, get_or, set, refl, sym, ◌∙◌, ap, eqb-true, eq-eqb, ◌==◌, ne_eqb, true≢false, get_or-set_other, IsPermutation, ◌≤◌, append-nil, Some, subst, Contains, IfSome, IsSome, None, filter, is_lt, ◌≢◌, ◌+◌, drop, Option, arith, get_or-drop, length-drop, slice_get, option_map, nat_cmp, Ordering, Less, Equal, Greater, map}
 use Rattle.std.proofs.Math.Bool.{or-true}
 use Rattle.std.proofs.lemmas.Cmp.{nat_cmp_total, on_total, then_total, ranked}
 use Rattle.std.proofs.lemmas.List.MinMax.{IsStrictWeakOrder-flip, ranks_by}
 use Rattle.std.specs.Cmp.Lexicographic.{options_total, nat_list_cmp_total, slice_cmp}
 use Rattle.task_order.specs.PathCode.{path_beginning, CanCode}
-use Rattle.kdg_graph.proofs.Common.{cases_eq, get_or-set_at, list_any-append, IsPermutation-map, list_any-IsPermutation, Arrival, NodeId, Standing, Absent, Node, ids_of, is_at, put_node, without, AreMarked, arrived, has_number, is_recent, is_settled, IsStrictWeakOrder, IsTotalOrder, AllByRecursion, All-from_recursion, recursion_from_All, All-permutation, key_cmp_total, HasNode, IsGraph, node_at, IsLaneAmong, AreSelected, HaveMarks, IsInOrder, MarkedIds, arrival_cmp, forgotten, ids_in, is_among, key_at, listed_in, retested, all_at, in_map, option_cmp, ordering_reverse, ordering_then, get_or_default, Contains-get_or, sorted_far, get_or_from_slice_get, slice_get_within, Key, key_cmp, LowerBeginningsComeFirst, Settled, Recent, AreLater, AreInTurn, IsArrival, all_from, false_from_ne_true, length-map, Task, SetChange, HaveOwnIds, started, with_sets, AreSome, from_filter, from_map, in_filter, none_any, filter-map}
+use Rattle.kdg_graph.proofs.Common.{cases_eq, get_or-set_at, list_any-append, IsPermutation-map, list_any-IsPermutation, Arrival, NodeId, Standing, Absent, Node, ids_of, is_at, put_node, without, AreMarked, arrived, has_number, is_recent, is_settled, IsStrictWeakOrder, IsTotalOrder, AllByRecursion, All-from_recursion, recursion_from_All, All-permutation, key_cmp_total, HasNode, IsGraph, node_at, IsLaneAmong, AreSelected, HaveMarks, IsInOrder, MarkedIds, arrival_cmp, forgotten, ids_in, is_among, key_at, listed_in, recent_in, retested, settled_in, all_at, in_map, option_cmp, ordering_reverse, ordering_then, get_or_default, Contains-get_or, sorted_far, get_or_from_slice_get, slice_get_within, Key, key_cmp, LowerBeginningsComeFirst, Settled, Recent, AreLater, AreInTurn, IsArrival, all_from, false_from_ne_true, length-map, Task, SetChange, HaveOwnIds, started, with_sets, AreSome, from_filter, from_map, in_filter, none_any, none_found, filter-map}
 use Rattle.kdg_graph.proofs.Blocking.{any_from, found_some}
-use Rattle.kdg_graph.proofs.Keeping.{changed, ids-map, start, start_keeps_id, start_keeps_task}
+use Rattle.kdg_graph.proofs.Keeping.{changed, ids-map, start, start_keeps_id}
 use Rattle.kdg_graph.proofs.KeyOrder.{is_before, same_filter, put_dropped, put_without}
 use Rattle.kdg_graph.proofs.LookUps.{ids_find_nodes, nodes_have_ids, is_at-same, not_at, same_id}
 use Rattle.kdg_graph.proofs.Ordered.{length-without}
@@ -67,35 +67,9 @@ pub set_by_arrival : (recent : List Arrival) (arrival : Arrival) (id : NodeId) �
 set_by_arrival [] arrival id same at = or_cond (at == arrival.id.at) false ∙ ap (λ (i : NodeId). cond (at == i.at) true false) same
 set_by_arrival (first ∷ recent) arrival id same at = ap (λ b. (at == first.id.at) || b) (set_by_arrival recent arrival id same at) ∙ or_first (at == first.id.at) (at == id.at) (has_number at (arrived recent))
 
--- ---- one id less
-
-has_without : (id : NodeId) (nodes : List Node) → IsSetIn false id (ids_of nodes) (ids_of (without id nodes))
-has_without id [] at = elim (at == id.at) as (λ b. false ≡ cond b false false) [ true ↦ refl | false ↦ refl ]
-has_without id (node ∷ nodes) at =
-    let rest : has_number at (ids_of (without id nodes)) ≡ cond (at == id.at) false (has_number at (ids_of nodes)) = has_without id nodes at in
-    let by_case : (is : Bool) → is_at id node ≡ is → has_number at (ids_of (cond (not is) (node ∷ without id nodes) (without id nodes))) ≡ cond (at == id.at) false ((at == node.id.at) || has_number at (ids_of nodes)) = elim [
-      | true ↦ λ is. rest ∙ taken (at == id.at) (has_number at (ids_of nodes)) ∙ ap (λ n. cond (at == id.at) false ((at == n) || has_number at (ids_of nodes))) (sym (eqb-true node.id.at id.at is))
-      | false ↦ λ apart.
-          ap (λ b. (at == node.id.at) || b) rest
-          ∙ left (at == node.id.at) (at == id.at) (has_number at (ids_of nodes)) (λ here there. true≢false (sym (eq-eqb node.id.at id.at (sym (eqb-true at node.id.at here) ∙ eqb-true at id.at there)) ∙ apart))
-    ] in
-    by_case (is_at id node) refl
-  where
-    taken : (here more : Bool) → cond here false more ≡ cond here false (here || more)
-    taken true more = refl
-    taken false more = refl
-
-    left : (first here more : Bool) → (first ≡ true → here ≡ true → ⊥) → (first || cond here false more) ≡ cond here false (first || more)
-    left true true more apart = absurd (apart refl refl)
-    left false true more apart = refl
-    left first false more apart = refl
-
-pub set_by_without : (id : NodeId) (some : List Node) (before ids : List NodeId) → before ≡ ids_of some → ids ≡ ids_of (without id some) → IsSetIn false id before ids
-set_by_without id some before ids was is at = ap (has_number at) is ∙ has_without id some at ∙ ap (λ (l : List NodeId). cond (at == id.at) false (has_number at l)) (sym was)
-
 -- ---- the marks
 
-mark_set : (is : Standing → Bool) (standings : List Standing) (place at : ℕ) (standing : Standing) → place < length standings → is (get_or (set standings place standing) at Absent) ≡ cond (at == place) (is standing) (is (get_or standings at Absent))
+pub mark_set : (is : Standing → Bool) (standings : List Standing) (place at : ℕ) (standing : Standing) → place < length standings → is (get_or (set standings place standing) at Absent) ≡ cond (at == place) (is standing) (is (get_or standings at Absent))
 mark_set is standings place at standing inside = elim (cases_eq at place) [
   | inl equal ↦ ap is (get_or-set_at standings place at standing Absent equal inside) ∙ sym (ap (λ b. cond b (is standing) (is (get_or standings at Absent))) (eq-eqb at place equal))
   | inr differs ↦ ap is (get_or-set_other standings place at standing Absent differs) ∙ sym (ap (λ b. cond b (is standing) (is (get_or standings at Absent))) (ne_eqb at place differs))
@@ -114,17 +88,11 @@ marked_set standings before ids recent now id standing marked inside settled cam
 pub same_numbers : (recent now : List Arrival) → IsPermutation recent now → (at : ℕ) → has_number at (arrived now) ≡ has_number at (arrived recent)
 same_numbers recent now moved at = sym (list_any-IsPermutation (λ (i : NodeId). at == i.at) (arrived recent) (arrived now) (IsPermutation-map (λ (arrival : Arrival). arrival.id) recent now moved))
 
-pub marked_moved : (ids : List NodeId) (recent now : List Arrival) (standings : List Standing) → AreMarked ids recent standings → IsPermutation recent now → AreMarked ids now standings
-marked_moved ids recent now standings marked moved = record {
-  are_settled = marked.are_settled;
-  are_recent = λ at. marked.are_recent at ∙ sym (same_numbers recent now moved at);
-}
-
 -- ---- ids of nodes, some in key order and others that came since, where one comes in or goes out
 
 -- whether an id is in one of the lists
-pub has_either : (some : MarkedIds) (at : ℕ) → has_number at (ids_in some) ≡ (has_number at some.ids || has_number at (arrived some.recent))
-has_either some at = list_any-append (λ (i : NodeId). at == i.at) some.ids (arrived some.recent)
+pub has_either : (some : MarkedIds) (at : ℕ) → has_number at (ids_in some) ≡ (has_number at (settled_in some) || has_number at (arrived (recent_in some)))
+has_either some at = list_any-append (λ (i : NodeId). at == i.at) (settled_in some) (arrived (recent_in some))
 
 -- ids in any order, put in order
 abbrev pub in_order_of : List Node → List NodeId → List NodeId
@@ -163,7 +131,7 @@ pub all_moved : {X : Type 0} (P : X → Type 0) (xs ys : List X) → AllByRecurs
 all_moved P xs ys all moved = recursion_from_All P ys (All-permutation P xs ys moved (All-from_recursion P xs all))
 
 -- once all of them have their places, the same ids are in order
-pub all_placed : (nodes : List Node) (before : MarkedIds) (ids : List NodeId) → ((at : ℕ) → has_number at ids ≡ (has_number at before.ids || has_number at (arrived before.recent))) → in_order_of nodes (ids ++ []) ≡ listed_in nodes before
+pub all_placed : (nodes : List Node) (before : MarkedIds) (ids : List NodeId) → ((at : ℕ) → has_number at ids ≡ (has_number at (settled_in before) || has_number at (arrived (recent_in before)))) → in_order_of nodes (ids ++ []) ≡ listed_in nodes before
 all_placed nodes before ids same = same_in_order nodes (ids_in before) (ids ++ []) (λ at. ap (has_number at) (append-nil ids) ∙ same at ∙ sym (has_either before at))
 
 -- ---- the ids in order
@@ -172,17 +140,12 @@ all_placed nodes before ids same = same_in_order nodes (ids_in before) (ids ++ [
 pub in_order_selected : (nodes : List Node) (test : Node → Bool) (ids : List NodeId) → IsGraph nodes → AreSelected nodes test ids → IsInOrder nodes ids
 in_order_selected nodes test ids graph is = is ∙ ap ids_of (same_filter test (is_among ids) nodes (λ node has. sym (among_selected nodes test ids node graph has is)))
 
-lane_in_order : (nodes : List Node) (ids : List NodeId) → IsGraph nodes → IsInOrder nodes ids → IsLaneAmong nodes (filter (is_among ids) nodes) ids
+pub lane_in_order : (nodes : List Node) (ids : List NodeId) → IsGraph nodes → IsInOrder nodes ids → IsLaneAmong nodes (filter (is_among ids) nodes) ids
 lane_in_order nodes ids graph in_order = some_of_lane nodes (is_among ids) ids graph.ascending in_order
 
 -- one is taken out
 abbrev pub IsTakenFrom : List Node → NodeId → List NodeId → List NodeId → Type 0
 IsTakenFrom nodes id before ids = (some : List Node) → IsLaneAmong nodes some before → ids ≡ ids_of (without id some)
-
-pub set_by_taking : (nodes : List Node) (id : NodeId) (before ids : List NodeId) → IsGraph nodes → IsInOrder nodes before → IsTakenFrom nodes id before ids → IsSetIn false id before ids
-set_by_taking nodes id before ids graph in_order takes =
-    let some : List Node = filter (is_among before) nodes in
-    set_by_without id some before ids in_order (takes some (lane_in_order nodes before graph in_order))
 
 pub in_order_taking : (nodes : List Node) (id : NodeId) (before ids : List NodeId) → IsGraph nodes → IsInOrder nodes before → IsTakenFrom nodes id before ids → IsInOrder nodes ids
 in_order_taking nodes id before ids graph in_order takes =
@@ -427,35 +390,38 @@ number_listed nodes test some id node graph found is =
     ap (λ (i : NodeId). has_number i.at (ids_in some)) (sym its.1) ∙ among_in_order nodes test (ids_in some) node graph its.0 is
 
 -- what is not listed is in neither list
-in_neither : (some : MarkedIds) (node : Node) → is_among (ids_in some) node ≡ false → (is_among some.ids node ≡ false) × (is_among (arrived some.recent) node ≡ false)
-in_neither some node apart = neither (is_among some.ids node) (is_among (arrived some.recent) node) (sym (among_append some.ids (arrived some.recent) node) ∙ apart)
+in_neither : (some : MarkedIds) (node : Node) → is_among (ids_in some) node ≡ false → (is_among (settled_in some) node ≡ false) × (is_among (arrived (recent_in some)) node ≡ false)
+in_neither some node apart = neither (is_among (settled_in some) node) (is_among (arrived (recent_in some)) node) (sym (among_append (settled_in some) (arrived (recent_in some)) node) ∙ apart)
+
+-- an id that came is that of a node
+came_as : (nodes : List Node) (recent : List Arrival) (arrival : Arrival) → AllByRecursion (λ a. HasNode nodes a.id) recent → Contains recent arrival → (node : Node) × Contains nodes node × (node.id ≡ arrival.id)
+came_as nodes recent arrival all has =
+    let found = found_node nodes arrival.id (all_at (λ (a : Arrival). HasNode nodes a.id) recent arrival all has) in
+    let its = ids_find_nodes nodes arrival.id found.0 found.1 in
+    (found.0, its.0, its.1)
+
+has_by_id : (nodes : List Node) (id : NodeId) (node : Node) → Contains nodes node → node.id ≡ id → HasNode nodes id
+has_by_id nodes id node has same = by_found (node_at nodes id) refl
+  where
+    by_found : (found : Option Node) → node_at nodes id ≡ found → HasNode nodes id
+    by_found None is = absurd (true≢false (sym (is_at-same id node same) ∙ none_found (is_at id) nodes node is has))
+    by_found (Some other) is = subst IsSome (sym is) refl
 
 -- the id of a node that is not there is not listed
 unlisted : (nodes : List Node) (some : MarkedIds) (node : Node) → AreSome nodes some → ((other : Node) → Contains nodes other → other.id ≢ node.id) → is_among (ids_in some) node ≡ false
 unlisted nodes some node are differs =
-    among_append some.ids (arrived some.recent) node ∙ (λ i. none_in_order i || none_came i)
+    among_append (settled_in some) (arrived (recent_in some)) node ∙ (λ i. none_in_order i || none_came i)
   where
-    none_in_order : is_among some.ids node ≡ false
-    none_in_order = none_any (λ id. is_at id node) some.ids (λ id has.
-        let one : (n : Node) × Contains (filter (is_among some.ids) nodes) n × (n.id ≡ id) = from_map (λ (n : Node). n.id) (filter (is_among some.ids) nodes) id (subst (λ (l : List NodeId). Contains l id) are.in_order has) in
-        not_at id node (λ same. differs one.0 (from_filter (is_among some.ids) nodes one.0 one.1).0 (one.2 ∙ sym same)))
+    none_in_order : is_among (settled_in some) node ≡ false
+    none_in_order = none_any (λ id. is_at id node) (settled_in some) (λ id has.
+        let one : (n : Node) × Contains (filter (is_among (settled_in some)) nodes) n × (n.id ≡ id) = from_map (λ (n : Node). n.id) (filter (is_among (settled_in some)) nodes) id (subst (λ (l : List NodeId). Contains l id) are.in_order has) in
+        not_at id node (λ same. differs one.0 (from_filter (is_among (settled_in some)) nodes one.0 one.1).0 (one.2 ∙ sym same)))
 
-    none_came : is_among (arrived some.recent) node ≡ false
-    none_came = none_any (λ id. is_at id node) (arrived some.recent) (λ id has.
-        let one : (a : Arrival) × Contains some.recent a × (a.id ≡ id) = from_map (λ (a : Arrival). a.id) some.recent id has in
-        let its : IsArrival nodes one.0 = all_at (IsArrival nodes) some.recent one.0 are.recent one.1 in
-        not_at id node (λ same. differs its.node its.there (its.id_is ∙ one.2 ∙ sym same)))
-
--- an arrival stays one where its node's id and task are those of a node that is there
-arrival_kept : (nodes now : List Node) (arrival : Arrival) (its : IsArrival nodes arrival) (node : Node) → Contains now node → node.id ≡ its.node.id → node.task ≡ its.node.task → IsArrival now arrival
-arrival_kept nodes now arrival its node has same_ids same_tasks = record {
-  node = node;
-  there = has;
-  id_is = same_ids ∙ its.id_is;
-  prio_is = its.prio_is ∙ ap (λ (t : Task). t.key.prio) (sym same_tasks);
-  beginning_is = its.beginning_is ∙ ap (λ (t : Task). path_beginning t.key.path) (sym same_tasks);
-  fits = subst (λ (t : Task). CanCode 0 t.key.path) (sym same_tasks) its.fits;
-}
+    none_came : is_among (arrived (recent_in some)) node ≡ false
+    none_came = none_any (λ id. is_at id node) (arrived (recent_in some)) (λ id has.
+        let one : (a : Arrival) × Contains (recent_in some) a × (a.id ≡ id) = from_map (λ (a : Arrival). a.id) (recent_in some) id has in
+        let its = came_as nodes (recent_in some) one.0 are.recent one.1 in
+        not_at id node (λ same. differs its.0 its.1 (its.2 ∙ one.2 ∙ sym same)))
 
 -- a node whose id is not there makes no difference
 not_put : (ids : List NodeId) (node : Node) (nodes : List Node) → is_among ids node ≡ false → ids_of (filter (is_among ids) (put_node node nodes)) ≡ ids_of (filter (is_among ids) nodes)
@@ -485,16 +451,16 @@ new_apart new nodes some graph are = unlisted nodes some new are (others_differ 
 pub listed_put : (new : Node) (nodes now : List Node) (some : MarkedIds) → IsGraph now → now ≡ put_node new nodes → AreSome nodes some → listed_in now some ≡ listed_in nodes some
 listed_put new nodes now some graph is are = ap (λ l. listed_in l some) is ∙ not_put (ids_in some) new nodes (new_apart new nodes some (subst IsGraph is graph) are)
 
-pub some_put : (new : Node) (nodes now : List Node) (some : MarkedIds) → IsGraph now → now ≡ put_node new nodes → length now ≤ some.room → new.id.at < some.marks → AreSome nodes some → AreSome now some
+pub some_put : (new : Node) (nodes now : List Node) (some : MarkedIds) → IsGraph now → now ≡ put_node new nodes → length now ≤ some.room → new.id.at < length some.standings → AreSome nodes some → AreSome now some
 some_put new nodes now some graph is fits inside are =
     let lists = in_neither some new (new_apart new nodes some (subst IsGraph is graph) are) in
     subst (λ (l : List Node). AreSome l some) (sym is) (record {
-      in_order = are.in_order ∙ sym (not_put some.ids new nodes lists.0);
-      recent = all_from (IsArrival (put_node new nodes)) some.recent (λ arrival has.
-          let its : IsArrival nodes arrival = all_at (IsArrival nodes) some.recent arrival are.recent has in
-          arrival_kept nodes (put_node new nodes) arrival its its.node (in_put_old new nodes its.node its.there) refl refl);
+      in_order = are.in_order ∙ sym (not_put (settled_in some) new nodes lists.0);
+      recent = all_from (λ (a : Arrival). HasNode (put_node new nodes) a.id) (recent_in some) (λ arrival has.
+          let its = came_as nodes (recent_in some) arrival are.recent has in
+          has_by_id (put_node new nodes) arrival.id its.0 (in_put_old new nodes its.0 its.1) its.2);
       room = subst (λ (l : List Node). length l ≤ some.room) is fits;
-      marks = marks_put new nodes some.marks are.marks inside;
+      marks = marks_put new nodes (length some.standings) are.marks inside;
     })
 
 -- ---- a node goes
@@ -524,10 +490,10 @@ listed_without id gone nodes now test some graph found is selected =
     ap (λ l. listed_in l some) is ∙ sym (others_listed id gone nodes (ids_in some) graph found (forgotten_apart nodes test some id gone graph found selected))
 
 -- who came is another one
-arrival_left : (id : NodeId) (gone : Node) (nodes : List Node) (recent : List Arrival) (arrival : Arrival) (its : IsArrival nodes arrival) → node_at nodes id ≡ Some gone → is_among (arrived recent) gone ≡ false → Contains recent arrival → Contains (without id nodes) its.node
-arrival_left id gone nodes recent arrival its found apart has =
-    in_filter (λ n. not (is_at id n)) nodes its.node its.there (ap not (false_from_ne_true (is_at id its.node) (λ at.
-    let same : gone.id ≡ arrival.id = (ids_find_nodes nodes id gone found).1 ∙ sym (same_id id its.node at) ∙ its.id_is in
+arrival_left : (id : NodeId) (gone : Node) (nodes : List Node) (recent : List Arrival) (arrival : Arrival) (node : Node) → node_at nodes id ≡ Some gone → is_among (arrived recent) gone ≡ false → Contains recent arrival → Contains nodes node → node.id ≡ arrival.id → Contains (without id nodes) node
+arrival_left id gone nodes recent arrival node found apart has there same_as =
+    in_filter (λ n. not (is_at id n)) nodes node there (ap not (false_from_ne_true (is_at id node) (λ at.
+    let same : gone.id ≡ arrival.id = (ids_find_nodes nodes id gone found).1 ∙ sym (same_id id node at) ∙ same_as in
     true≢false (sym (any_from (λ i. is_at i gone) (arrived recent) arrival.id (in_map (λ (a : Arrival). a.id) recent arrival has) (is_at-same arrival.id gone same)) ∙ apart))))
 
 pub some_without : (id : NodeId) (gone : Node) (nodes now : List Node) (test : Node → Bool) (some : MarkedIds) → IsGraph nodes → node_at nodes id ≡ Some gone → now ≡ without id nodes → AreSelected nodes (forgotten (id ∷ []) test) (listed_in nodes some) → AreSome nodes some
@@ -536,12 +502,12 @@ some_without id gone nodes now test some graph found is selected are =
     let rest : List Node = without id nodes in
     let lists = in_neither some gone (forgotten_apart nodes test some id gone graph found selected) in
     subst (λ (l : List Node). AreSome l some) (sym is) (record {
-      in_order = are.in_order ∙ others_listed id gone nodes some.ids graph found lists.0;
-      recent = all_from (IsArrival rest) some.recent (λ arrival has.
-          let its : IsArrival nodes arrival = all_at (IsArrival nodes) some.recent arrival are.recent has in
-          arrival_kept nodes rest arrival its its.node (arrival_left id gone nodes some.recent arrival its found lists.1 has) refl refl);
+      in_order = are.in_order ∙ others_listed id gone nodes (settled_in some) graph found lists.0;
+      recent = all_from (λ (a : Arrival). HasNode rest a.id) (recent_in some) (λ arrival has.
+          let its = came_as nodes (recent_in some) arrival are.recent has in
+          has_by_id rest arrival.id its.0 (arrival_left id gone nodes (recent_in some) arrival its.0 found lists.1 has its.1 its.2) its.2);
       room = omega (arith, length-without id nodes gone graph found, are.room);
-      marks = marks_without id nodes some.marks are.marks;
+      marks = marks_without id nodes (length some.standings) are.marks;
     })
 
 -- ---- a change that keeps each node's id and task
@@ -555,22 +521,22 @@ pub listed_kept : (ids : List NodeId) (nodes now : List Node) → ids_of now ≡
 listed_kept ids nodes now same = listed_by_ids ids now ∙ ap (filter (λ (id : NodeId). has_number id.at ids)) same ∙ sym (listed_by_ids ids nodes)
 
 -- and the lists are as good
-some_map : (f : Node → Node) → ((node : Node) → (f node).task ≡ node.task) → ((node : Node) → (f node).id ≡ node.id) → (nodes : List Node) (some : MarkedIds) → AreSome nodes some → AreSome (map f nodes) some
-some_map f keeps_task keeps_id nodes some are =
+some_map : (f : Node → Node) → ((node : Node) → (f node).id ≡ node.id) → (nodes : List Node) (some : MarkedIds) → AreSome nodes some → AreSome (map f nodes) some
+some_map f keeps_id nodes some are =
     let same : ids_of (map f nodes) ≡ ids_of nodes = ids-map f keeps_id nodes in
     record {
-      in_order = are.in_order ∙ sym (listed_kept some.ids nodes (map f nodes) same);
-      recent = all_from (IsArrival (map f nodes)) some.recent (λ arrival has.
-          let its : IsArrival nodes arrival = all_at (IsArrival nodes) some.recent arrival are.recent has in
-          arrival_kept nodes (map f nodes) arrival its (f its.node) (in_map f nodes its.node its.there) (keeps_id its.node) (keeps_task its.node));
+      in_order = are.in_order ∙ sym (listed_kept (settled_in some) nodes (map f nodes) same);
+      recent = all_from (λ (a : Arrival). HasNode (map f nodes) a.id) (recent_in some) (λ arrival has.
+          let its = came_as nodes (recent_in some) arrival are.recent has in
+          has_by_id (map f nodes) arrival.id (f its.0) (in_map f nodes its.0 its.1) (keeps_id its.0 ∙ its.2));
       room = omega (arith, length-map nodes f, are.room);
-      marks = subst (AllByRecursion (λ (id : NodeId). id.at < some.marks)) (sym same) are.marks;
+      marks = subst (AllByRecursion (λ (id : NodeId). id.at < length some.standings)) (sym same) are.marks;
     }
 
 -- a node starts
 pub some_started : (id : NodeId) (nodes now : List Node) (some : MarkedIds) → now ≡ started id nodes → AreSome nodes some → AreSome now some
-some_started id nodes now some is are = subst (λ (l : List Node). AreSome l some) (sym is) (some_map (start id) (start_keeps_task id) (start_keeps_id id) nodes some are)
+some_started id nodes now some is are = subst (λ (l : List Node). AreSome l some) (sym is) (some_map (start id) (start_keeps_id id) nodes some are)
 
 -- sets are replaced
 pub some_changed : (changes : List SetChange) (nodes now : List Node) (some : MarkedIds) → now ≡ with_sets changes nodes → AreSome nodes some → AreSome now some
-some_changed changes nodes now some is are = subst (λ (l : List Node). AreSome l some) (sym is) (some_map (changed changes) (λ node. refl) (λ node. refl) nodes some are)
+some_changed changes nodes now some is are = subst (λ (l : List Node). AreSome l some) (sym is) (some_map (changed changes) (λ node. refl) nodes some are)

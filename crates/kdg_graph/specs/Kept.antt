@@ -26,5 +26,5 @@ pub record IsKept (nodes : List Node) (locations : List Location) (unblocked : M
 pub record HasSpare (count : ℕ) (nodes : NodeShelf) (order : Option Lane) (unblocked : MarkedIds) : Type 0 where
   pub places : count ≤ places_in order nodes.numbers
   pub numbers : count ≤ nodes.numbers
-  pub marks : 0 < count → nodes.keys ≤ unblocked.marks
+  pub marks : 0 < count → nodes.keys ≤ length unblocked.standings
   pub room : count ≤ unblocked.room - length nodes.nodes

@@ -1,5 +1,5 @@
 -- Ids of those nodes of a graph that pass a test.
-use Rattle.std.specs.Prelude.{◌≡◌, ℕ, ◌<◌, ◌≤◌, Bool, true, false, not, ◌&&◌, ◌==◌, if◌then◌else◌, List, ◌++◌, drop, get_or, length, map, Contains, Option, None, Some, IfSome, unwrap_or}
+use Rattle.std.specs.Prelude.{◌≡◌, ℕ, ◌+◌, ◌<◌, ◌≤◌, Bool, true, false, not, ◌&&◌, ◌==◌, if◌then◌else◌, List, [], ◌∷◌, ◌++◌, drop, get_or, length, map, slice_get, Contains, Option, None, Some, IfSome, MatchOption, unwrap_or}
 use Rattle.std.specs.List.{AllByRecursion, filter, list_any}
 use Rattle.std.specs.List.Sorted.{IsSortedBy}
 use Rattle.std.specs.Option.{option_cmp, option_map}
@@ -93,16 +93,42 @@ pub record AreMarked (ids : List NodeId) (recent : List Arrival) (standings : Li
   pub are_settled : (at : ℕ) → is_settled (get_or standings at Absent) ≡ has_number at ids
   pub are_recent : (at : ℕ) → is_recent (get_or standings at Absent) ≡ has_number at (arrived recent)
 
--- ids in key order, those that came since, room for so many in order, and a mark for each number below the last
+-- of ids that were put in order those that are marked so still, and of those that came the same
+abbrev pub settled_among : List Standing → List NodeId → List NodeId
+settled_among standings ids = filter (λ id. is_settled (get_or standings id.at Absent)) ids
+
+abbrev pub recent_among : List Standing → List Arrival → List Arrival
+recent_among standings arrivals = filter (λ arrival. is_recent (get_or standings arrival.id.at Absent)) arrivals
+
+-- at most so many ids that were put in order are marked otherwise by now
+abbrev pub HasFewGone : List Standing → List NodeId → ℕ → Type 0
+HasFewGone standings ids gone = length ids ≤ gone + length (settled_among standings ids)
+
+-- ids that were put in order, those that came since, how each number is marked, and room for so many in order: an id that is marked otherwise counts no more
 pub record MarkedIds : Type 0 where
-  pub ids : List NodeId
-  pub recent : List Arrival
+  pub entries : List NodeId
+  pub arrivals : List Arrival
+  pub standings : List Standing
   pub room : ℕ
-  pub marks : ℕ
+
+-- those in order, and those of them from a place of the list on
+abbrev pub settled_in : MarkedIds → List NodeId
+settled_in some = settled_among some.standings some.entries
+
+abbrev pub settled_from : MarkedIds → ℕ → List NodeId
+settled_from some place = settled_among some.standings (drop place some.entries)
+
+-- the id at the place, if there is one, is the first of these
+abbrev pub IsNext : MarkedIds → ℕ → Type 0
+IsNext some place = MatchOption (slice_get some.entries place) (settled_from some place ≡ []) (λ id. settled_from some place ≡ id ∷ settled_from some (place + 1))
+
+-- those that came since
+abbrev pub recent_in : MarkedIds → List Arrival
+recent_in some = recent_among some.standings some.arrivals
 
 -- all of them
 abbrev pub ids_in : MarkedIds → List NodeId
-ids_in some = some.ids ++ arrived some.recent
+ids_in some = settled_in some ++ arrived (recent_in some)
 
 -- those of the nodes, in key order
 abbrev pub listed_in : List Node → MarkedIds → List NodeId
@@ -114,10 +140,10 @@ HaveMarks nodes marks = AllByRecursion (λ id. id.at < marks) (ids_of nodes)
 
 -- all of them are those of nodes, and each node has room and a mark
 pub record AreSome (nodes : List Node) (some : MarkedIds) : Type 0 where
-  pub in_order : IsInOrder nodes some.ids
-  pub recent : AllByRecursion (IsArrival nodes) some.recent
+  pub in_order : IsInOrder nodes (settled_in some)
+  pub recent : AllByRecursion (λ arrival. HasNode nodes arrival.id) (recent_in some)
   pub room : length nodes ≤ some.room
-  pub marks : HaveMarks nodes some.marks
+  pub marks : HaveMarks nodes (length some.standings)
 
 -- ---- those behind the one that was looked at last
 
@@ -138,14 +164,14 @@ abbrev pub left_in : List Node → List NodeId → Option NodeId → List NodeId
 left_in nodes ids last = ids_of (filter (is_left nodes ids last) nodes)
 
 -- of those in key order these are the ones from a place on
-abbrev pub IsLeft : List Node → List NodeId → ℕ → Option NodeId → Type 0
-IsLeft nodes ids place last = drop place ids ≡ left_in nodes ids last
+abbrev pub IsLeft : List Node → MarkedIds → ℕ → Option NodeId → Type 0
+IsLeft nodes some place last = settled_from some place ≡ left_in nodes (settled_in some) last
 
 pub record AreLeft (nodes : List Node) (some : MarkedIds) (place : ℕ) (last : Option NodeId) : Type 0 where
   pub graph : IsGraph nodes
   pub some_are : AreSome nodes some
   pub last_there : IfSome last (HasNode nodes)
-  pub place_is : IsLeft nodes some.ids place last
+  pub place_is : IsLeft nodes some place last
 
 -- ---- tests that are made anew
 
@@ -166,7 +192,7 @@ pub record AreRetested (nodes : List Node) (answer : Node → Bool) (asked : Lis
   pub ids : (test : Node → Bool) → AreSelected nodes test (listed_in nodes before) → AreSelected nodes (retested answer asked test) (listed_in nodes after)
   pub some : AreSome nodes after
   pub room : before.room ≤ after.room
-  pub marks : after.marks ≡ before.marks
+  pub marks : length after.standings ≡ length before.standings
 
 abbrev pub AreRefreshed : List Node → List NodeId → MarkedIds → MarkedIds → Type 0
 AreRefreshed nodes asked before after = AreRetested nodes (is_unblocked nodes) asked before after

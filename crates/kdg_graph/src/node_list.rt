@@ -102,7 +102,8 @@ impl NodeList {
     pub(crate) fn least(&self) -> Option<NodeId>
         ensures { result ≡ least_of self.now.nodes }
     {
-        let settled = self.sources.settled().get(0);
+        let first = self.sources.settled_from(0);
+        let settled = self.sources.settled().get(first);
         self.sources.earliest(&self.nodes, settled, None)
     }
 

@@ -1,4 +1,4 @@
-ghost use Rattle.std.specs.Prelude.{◌≡◌, ◌∷◌, ◌≤◌, ◌||◌, ℕ, [], Bool, true, false, filter, length, IfSome, OnOk};
+ghost use Rattle.std.specs.Prelude.{◌≡◌, ◌∷◌, ◌≤◌, ◌||◌, ℕ, [], Bool, true, false, filter, get_or, length, IfSome, OnOk};
 ghost use Rattle.std.specs.List.{AllByRecursion};
 ghost use Rattle.kdg_graph.specs.Node.{Node};
 ghost use Rattle.kdg_graph.specs.Nodes.{HasKey, HasNode, IsGraph, ids_of, least_of, node_at};
@@ -6,7 +6,8 @@ ghost use Rattle.kdg_graph.specs.Edges.{is_blocked};
 ghost use Rattle.kdg_graph.specs.Fronts.{fronts_after};
 ghost use Rattle.kdg_graph.specs.Lanes.{IsRankPast};
 ghost use Rattle.kdg_graph.specs.Locations.{AreFiled, clashing_at, front_after};
-ghost use Rattle.kdg_graph.specs.Selected.{AreForgotten, AreInTurn, AreMarked, AreRefreshed, AreRetested, AreSelected, AreSome, HaveMarks, IsArrival, IsInOrder, arrived, forgotten, has_number, ids_in, is_left, is_recent, is_settled, listed_in};
+ghost use Rattle.kdg_graph.specs.Selected.{AreForgotten, AreInTurn, AreMarked, AreRefreshed, AreRetested, AreSelected, AreSome, HasFewGone, HaveMarks, IsArrival, IsInOrder, IsNext, arrived, forgotten, has_number, ids_in, is_left, is_recent, is_settled, listed_in, recent_among, recent_in, settled_among, settled_from, settled_in};
+ghost use Rattle.kdg_graph.specs.declared.source_lane.Standing.TheVariants.{Absent};
 
 use crate::NodeId;
 use crate::arrival::Arrival;
@@ -23,7 +24,7 @@ use task_order::{Key, beginning_laws};
 /// Where an id stands.
 #[derive(Clone, Copy, PartialEq, Eq)]
 pub(crate) enum Standing {
-    /// In neither list.
+    /// In neither list, or there no more.
     Absent,
     /// Among those in key order.
     Settled,
@@ -32,92 +33,115 @@ pub(crate) enum Standing {
 }
 
 /// The ids of the nodes of a graph that no earlier node is in conflict with. Where a node comes, goes
-/// or changes, it and the fronts behind it at the locations of its set are tested anew; only an id that
-/// goes out is looked for.
+/// or changes, it and the fronts behind it at the locations of its set are tested anew.
 ///
-/// An id that comes in waits until `settle` puts it in order with all others that came, which takes
-/// less than to find a place for each at once.
+/// An id that goes out only loses its mark, and one that comes in waits, until `settle` takes those that
+/// went out of the list and puts all others that came in order with the rest, which takes less than to
+/// find a place for each at once.
 #[derive(Drop)]
 pub(crate) struct SourceLane {
-    /// Those in key order.
+    /// Those in key order, where they are marked so.
     settled: Lane,
-    /// Those that came since.
+    /// Those that came since, where they are marked so. One that went and came again may stand twice.
     arrivals: Vec<Arrival>,
     /// Where each id stands, by its number.
     standings: Vec<Standing>,
+    /// How many ids of the list in key order are marked otherwise at most.
+    gone: usize,
 }
 
 impl Model for SourceLane {
-    ghost use Rattle.std.specs.Prelude.{length};
-    ghost use Rattle.kdg_graph.specs.Selected.{AreMarked, MarkedIds};
+    ghost use Rattle.kdg_graph.specs.Selected.{AreMarked, HasFewGone, MarkedIds, recent_among, settled_among};
 
     ghost Value = { MarkedIds };
 
     ghost view = { λ s. record {
-      ids = s.settled.ids.items;
-      recent = s.arrivals.items;
+      entries = s.settled.ids.items;
+      arrivals = s.arrivals.items;
+      standings = s.standings.items;
       room = s.settled.ids.capacity;
-      marks = length s.standings.items;
     } };
 
-    ghost invariant = { λ s. AreMarked s.settled.ids.items s.arrivals.items s.standings.items };
+    ghost invariant = { λ s. AreMarked (settled_among s.standings.items s.settled.ids.items) (recent_among s.standings.items s.arrivals.items) s.standings.items × HasFewGone s.standings.items s.settled.ids.items s.gone };
 }
 
 impl SourceLane {
     /// No ids, which take no memory.
     pub(crate) fn new(alloc: Global) -> SourceLane
-        ensures ids { result.ids ≡ [] }
-        ensures recent { result.recent ≡ [] }
+        ensures entries { result.entries ≡ [] }
+        ensures arrivals { result.arrivals ≡ [] }
     {
         SourceLane {
             settled: Lane::new(alloc),
             arrivals: Vec::new(alloc),
             standings: Vec::new(alloc),
+            gone: 0,
         }
     }
 
-    /// Those in key order.
+    /// The list that has those in key order, where `settled_from` tells which places count.
     #[inline(always)]
     pub(crate) fn settled(&self) -> &Lane
-        ensures { result.now.ids.items ≡ self.now.ids }
+        ensures { result.now.ids.items ≡ self.now.entries }
     {
         &self.settled
+    }
+
+    /// The first place in it, from one on, of an id that is still there, or the end.
+    #[inline(always)]
+    pub(crate) fn settled_from(&self, start: usize) -> usize
+        ensures left { settled_from self.now result ≡ settled_from self.now start }
+        ensures next { IsNext self.now result }
+    {
+        let mut place = start;
+        while let Some(id) = self.settled.get(place) {
+            if self.is_in_order(id) {
+                return place;
+            }
+            place += 1;
+        }
+        place
     }
 
     /// Makes room for the ids of so many nodes, and marks for ids below a number.
     pub(crate) fn reserve(&mut self, nodes: usize, below: usize) -> Result<(), NoRoom>
         ensures room { OnOk result (nodes ≤ self.new.room) }
-        ensures marks { OnOk result (below ≤ self.new.marks) }
+        ensures marks { OnOk result (below ≤ length self.new.standings) }
         ensures no_less { self.old.room ≤ self.new.room }
-        ensures no_fewer { self.old.marks ≤ self.new.marks }
-        ensures ids { self.new.ids ≡ self.old.ids }
-        ensures recent { self.new.recent ≡ self.old.recent }
+        ensures no_fewer { length self.old.standings ≤ length self.new.standings }
+        ensures settled { settled_in self.new ≡ settled_in self.old }
+        ensures recent { recent_in self.new ≡ recent_in self.old }
     {
         let len = self.settled.len();
         self.settled.reserve(nodes.saturating_sub(len))?;
-        if self.standings.len() < below {
-            self.standings.resize(below, Standing::Absent)?;
-        }
-        Ok(())
+        reserve_marks(&mut self.standings, below)
     }
 
-    /// Where an id stands.
+    /// Whether an id is marked as being among those in key order.
     #[inline(always)]
-    fn standing(&self, id: NodeId) -> Standing
-        ensures settled { is_settled result ≡ has_number id.at self.now.ids }
-        ensures recent { is_recent result ≡ has_number id.at (arrived self.now.recent) }
+    fn is_in_order(&self, id: NodeId) -> bool
+        ensures { result ≡ is_settled (get_or self.now.standings id.at Absent) }
     {
-        match self.standings.get(id.at as usize) {
-            Some(standing) => *standing,
-            None => Standing::Absent,
-        }
+        marks_in_order(&self.standings, id)
+    }
+
+    /// Whether an id is marked as one that came since.
+    #[inline(always)]
+    fn is_waiting(&self, id: NodeId) -> bool
+        ensures { result ≡ is_recent (get_or self.now.standings id.at Absent) }
+    {
+        marks_waiting(&self.standings, id)
     }
 
     /// Whether an id is there.
+    #[inline(always)]
     pub(crate) fn is_listed(&self, id: NodeId) -> bool
-        ensures { result ≡ has_number id.at (ids_in self.now) }
+        ensures mark { result ≡ (is_settled (get_or self.now.standings id.at Absent) || is_recent (get_or self.now.standings id.at Absent)) }
+        ensures listed { result ≡ has_number id.at (ids_in self.now) }
     {
-        self.standing(id) != Standing::Absent
+        // It is known that an id is marked just where it stands in one of the lists.
+        let _ = &self.settled;
+        self.is_in_order(id) || self.is_waiting(id)
     }
 
     /// The earliest of the nodes that are behind one, if one is given. The earliest of those in key order
@@ -132,11 +156,14 @@ impl SourceLane {
         requires graph { IsGraph nodes.now.nodes }
         requires some { AreSome nodes.now.nodes self.now }
         requires last { IfSome last (HasNode nodes.now.nodes) }
-        requires settled { settled ≡ least_of (filter (is_left nodes.now.nodes self.now.ids last) nodes.now.nodes) }
+        requires settled { settled ≡ least_of (filter (is_left nodes.now.nodes (settled_in self.now) last) nodes.now.nodes) }
         ensures { result ≡ least_of (filter (is_left nodes.now.nodes (ids_in self.now) last) nodes.now.nodes) }
     {
         let mut first = settled;
         for arrival in &self.arrivals {
+            if !self.is_waiting(arrival.id) {
+                continue;
+            }
             if nodes.is_behind(arrival.id, last) {
                 first = nodes.earlier(first, Some(arrival.id));
             }
@@ -144,33 +171,17 @@ impl SourceLane {
         first
     }
 
-    /// Takes the id of a node out, if it is there.
+    /// Takes the id of a node out, if it is there: it only loses its mark.
+    #[inline(always)]
     pub(crate) fn forget(&mut self, nodes: &OrderedNodes, id: NodeId)
         requires graph { IsGraph nodes.now.nodes }
         requires there { HasNode nodes.now.nodes id }
         requires some { AreSome nodes.now.nodes self.old }
         ensures { AreForgotten nodes.now.nodes (id ∷ []) self.old self.new }
     {
-        match self.standing(id) {
-            Standing::Absent => {}
-            Standing::Settled => self.take_out(nodes, id),
-            Standing::Recent => {
-                self.settle(nodes);
-                self.take_out(nodes, id);
-            }
-        }
-    }
-
-    /// Takes the id of a node that didn't come since out of those in key order, if it is there.
-    #[inline(always)]
-    fn take_out(&mut self, nodes: &OrderedNodes, id: NodeId)
-        requires graph { IsGraph nodes.now.nodes }
-        requires there { HasNode nodes.now.nodes id }
-        requires some { AreSome nodes.now.nodes self.old }
-        requires settled { has_number id.at (arrived self.old.recent) ≡ false }
-        ensures { AreForgotten nodes.now.nodes (id ∷ []) self.old self.new }
-    {
-        let _ = nodes.take_from(&mut self.settled, id);
+        let _small = self.settled.len();
+        let fewer = usize::from(self.is_in_order(id));
+        self.gone = self.gone.saturating_add(fewer);
         self.standings[id.at as usize] = Standing::Absent;
     }
 
@@ -183,47 +194,78 @@ impl SourceLane {
         requires some { AreSome nodes.now.nodes self.old }
         ensures { AreRetested nodes.now.nodes (λ _. true) (id ∷ []) self.old self.new }
     {
-        if self.standing(id) != Standing::Absent {
+        if self.is_listed(id) {
             return;
         }
-        if self.arrivals.push(nodes.arrival(id)).is_ok() {
+        let arrival = Arrival::new(id);
+        if self.arrivals.push(arrival).is_ok() {
             self.standings[id.at as usize] = Standing::Recent;
         } else {
-            let _ = nodes.put_into(&mut self.settled, id);
-            self.standings[id.at as usize] = Standing::Settled;
+            self.list_at_once(nodes, id);
         }
     }
 
-    /// Puts those that came in order with the others. It takes no memory.
+    /// Puts the id of a node that is not there in its place, once all others are in order. It takes no
+    /// memory.
+    #[inline(never)]
+    fn list_at_once(&mut self, nodes: &OrderedNodes, id: NodeId)
+        requires graph { IsGraph nodes.now.nodes }
+        requires there { HasNode nodes.now.nodes id }
+        requires absent { has_number id.at (ids_in self.old) ≡ false }
+        requires some { AreSome nodes.now.nodes self.old }
+        ensures { AreRetested nodes.now.nodes (λ _. true) (id ∷ []) self.old self.new }
+    {
+        self.settle(nodes);
+        let _ = nodes.put_into(&mut self.settled, id);
+        self.standings[id.at as usize] = Standing::Settled;
+    }
+
+    /// Takes those that went out of the list in key order, and puts those that came in order with the
+    /// others. It takes no memory.
     #[inline(always)]
     pub(crate) fn settle(&mut self, nodes: &OrderedNodes)
         requires graph { IsGraph nodes.now.nodes }
         requires some { AreSome nodes.now.nodes self.old }
         ensures listed { listed_in nodes.now.nodes self.new ≡ listed_in nodes.now.nodes self.old }
-        ensures none_came { self.new.recent ≡ [] }
+        ensures none_gone { settled_in self.new ≡ self.new.entries }
+        ensures none_came { self.new.arrivals ≡ [] }
         ensures some { AreSome nodes.now.nodes self.new }
         ensures room { self.old.room ≤ self.new.room }
-        ensures marks { self.new.marks ≡ self.old.marks }
+        ensures marks { length self.new.standings ≡ length self.old.standings }
     {
+        self.drop_gone();
         if !self.arrivals.is_empty() {
             self.settle_arrivals(nodes);
         }
     }
 
-    /// The same, where some came.
+    /// Takes the ids that are marked otherwise out of the list in key order.
+    #[inline(always)]
+    fn drop_gone(&mut self)
+        ensures entries { self.new.entries ≡ settled_in self.old }
+        ensures arrivals { self.new.arrivals ≡ self.old.arrivals }
+        ensures standings { self.new.standings ≡ self.old.standings }
+        ensures room { self.old.room ≤ self.new.room }
+    {
+        if self.gone > 0 {
+            take_gone(&mut self.settled, &self.standings, self.gone);
+            self.gone = 0;
+        }
+    }
+
+    /// Puts those that came in order with the others, where the list has no others.
     fn settle_arrivals(&mut self, nodes: &OrderedNodes)
         requires graph { IsGraph nodes.now.nodes }
+        requires none_gone { settled_in self.old ≡ self.old.entries }
         requires some { AreSome nodes.now.nodes self.old }
         ensures listed { listed_in nodes.now.nodes self.new ≡ listed_in nodes.now.nodes self.old }
-        ensures none_came { self.new.recent ≡ [] }
+        ensures none_gone { settled_in self.new ≡ self.new.entries }
+        ensures none_came { self.new.arrivals ≡ [] }
         ensures some { AreSome nodes.now.nodes self.new }
         ensures room { self.old.room ≤ self.new.room }
-        ensures marks { self.new.marks ≡ self.old.marks }
+        ensures marks { length self.new.standings ≡ length self.old.standings }
     {
-        // They mostly came the earliest first, and what is in order already is sorted at once.
-        self.arrivals.reverse();
-        self.arrivals
-            .sort_unstable_by(|one, other| nodes.compare(other, one));
+        order_arrivals(&mut self.arrivals, &self.standings, nodes);
         put_in_order(
             &mut self.settled,
             &mut self.standings,
@@ -294,7 +336,7 @@ impl SourceLane {
             → AreSelected nodes.now.nodes (forgotten (ids_of (fronts_after node.set node.task.key nodes.now.nodes)) test) (listed_in nodes.now.nodes self.new)) }
         ensures some { AreSome nodes.now.nodes self.new }
         ensures room { self.old.room ≤ self.new.room }
-        ensures marks { self.new.marks ≡ self.old.marks }
+        ensures marks { length self.new.standings ≡ length self.old.standings }
     {
         if !blocks_none {
             let node = nodes.entry(id);
@@ -410,6 +452,87 @@ impl SourceLane {
         for pair in set.items() {
             self.forget_front(nodes, locations, id, pair.0, pair.1, key);
         }
+    }
+}
+
+/// Whether an id is marked as being among those in key order.
+#[inline(always)]
+fn marks_in_order(standings: &[Standing], id: NodeId) -> bool
+    ensures { result ≡ is_settled (get_or standings.now id.at Absent) }
+{
+    match standings.get(id.at as usize) {
+        Some(standing) => *standing == Standing::Settled,
+        None => false,
+    }
+}
+
+/// Whether an id is marked as one that came since.
+#[inline(always)]
+fn marks_waiting(standings: &[Standing], id: NodeId) -> bool
+    ensures { result ≡ is_recent (get_or standings.now id.at Absent) }
+{
+    match standings.get(id.at as usize) {
+        Some(standing) => *standing == Standing::Recent,
+        None => false,
+    }
+}
+
+/// Makes marks for ids below a number, each of one that stands nowhere.
+fn reserve_marks(standings: &mut Vec<Standing>, below: usize) -> Result<(), NoRoom>
+    ensures same { (at : ℕ) → get_or standings.new.items at Absent ≡ get_or standings.old.items at Absent }
+    ensures marks { OnOk result (below ≤ length standings.new.items) }
+    ensures no_fewer { length standings.old.items ≤ length standings.new.items }
+{
+    if standings.len() < below {
+        standings.resize(below, Standing::Absent)?;
+    }
+    Ok(())
+}
+
+/// Takes those out that are marked as being there no more, of which there are so many at most.
+fn take_gone(settled: &mut Lane, standings: &[Standing], gone: usize)
+    requires { HasFewGone standings.now settled.old.ids.items gone }
+    ensures left { settled.new.ids.items ≡ settled_among standings.now settled.old.ids.items }
+    ensures room { settled.old.ids.capacity ≤ settled.new.ids.capacity }
+{
+    let mut left = gone;
+    let mut place = 0;
+    while left > 0 {
+        let Some(id) = settled.get(place) else {
+            return;
+        };
+        if marks_in_order(standings, id) {
+            place += 1;
+        } else {
+            let _ = settled.remove(place);
+            left -= 1;
+        }
+    }
+}
+
+/// Leaves those that are marked as having come, the latest first.
+fn order_arrivals(arrivals: &mut Vec<Arrival>, standings: &[Standing], nodes: &OrderedNodes)
+    requires { AllByRecursion (λ arrival. HasNode nodes.now.nodes arrival.id) (recent_among standings.now arrivals.old.items) }
+    ensures numbers { (at : ℕ) → has_number at (arrived arrivals.new.items) ≡ has_number at (arrived (recent_among standings.now arrivals.old.items)) }
+    ensures arrivals { AllByRecursion (IsArrival nodes.now.nodes) arrivals.new.items }
+    ensures in_turn { AreInTurn nodes.now.nodes arrivals.new.items }
+{
+    arrivals.retain(|arrival| marks_waiting(standings, arrival.id));
+    look_up(arrivals, nodes);
+    // They mostly came the earliest first, and what is in order already is sorted at once.
+    arrivals.reverse();
+    arrivals.sort_unstable_by(|one, other| nodes.compare(other, one));
+}
+
+/// Looks up what mostly tells how the key of each compares. Since it came its id may have become that
+/// of another node.
+fn look_up(arrivals: &mut [Arrival], nodes: &OrderedNodes)
+    requires { AllByRecursion (λ arrival. HasNode nodes.now.nodes arrival.id) arrivals.old }
+    ensures ids { arrived arrivals.new ≡ arrived arrivals.old }
+    ensures arrivals { AllByRecursion (IsArrival nodes.now.nodes) arrivals.new }
+{
+    for arrival in arrivals.iter_mut() {
+        *arrival = nodes.arrival(arrival.id);
     }
 }
 

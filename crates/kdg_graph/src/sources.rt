@@ -18,7 +18,7 @@ pub struct Sources<'g> {
     unblocked: &'g SourceLane,
     /// The unblocked node that was looked at last.
     last: Option<NodeId>,
-    /// How many of those in key order were looked at.
+    /// Where those in key order begin that weren't looked at.
     place: usize,
 }
 
@@ -61,9 +61,10 @@ impl<'g> Iterator for Sources<'g> {
     #[inline(always)]
     fn next(&mut self) -> Option<NodeId> {
         loop {
-            let settled = self.unblocked.settled().get(self.place);
+            let place = self.unblocked.settled_from(self.place);
+            let settled = self.unblocked.settled().get(place);
             let id = self.unblocked.earliest(self.nodes, settled, self.last)?;
-            self.place += usize::from(settled == Some(id));
+            self.place = place + usize::from(settled == Some(id));
             self.last = Some(id);
             let node = self.nodes.entry(id);
             if !node.running {

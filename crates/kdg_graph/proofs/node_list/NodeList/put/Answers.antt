@@ -26,9 +26,9 @@ enter-requires-clause-some c =
     let node : Node = new_node c.put-id.result c.args.task c.args.set in
     let long = ap length c.put-id.ensures.nodes ∙ length-put node nodes in
     let some : 0 < c.self.inside.spare = omega (arith, c.requires.room, ap (λ (stock : NodeStock). stock.room) c.self.view_is) in
-    let keys : c.self.inside.nodes.keys ≤ c.self.inside.sources.marks = c.self.invariant.2.marks some in
+    let keys : c.self.inside.nodes.keys ≤ length c.self.inside.sources.standings = c.self.invariant.2.marks some in
     let fits : length c.put-id.new.self.nodes ≤ c.self.inside.sources.room = omega (arith, long, some, c.self.invariant.2.room) in
-    let inside : c.put-id.result.at < c.self.inside.sources.marks = omega (arith, keys, c.put-id.ensures.key, c.put-id.ensures.keys) in
+    let inside : c.put-id.result.at < length c.self.inside.sources.standings = omega (arith, keys, c.put-id.ensures.key, c.put-id.ensures.keys) in
     some_put node nodes c.put-id.new.self.nodes c.self.inside.sources c.put-id.ensures.graph c.put-id.ensures.nodes fits inside c.self.invariant.0.some
 
 pub invariant_of-self : goal.invariant_of-self

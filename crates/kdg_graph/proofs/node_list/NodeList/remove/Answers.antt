@@ -12,7 +12,7 @@ refresh_behind-requires-clause-first c listed =
     let nodes : List Node = c.self.inside.nodes.nodes in
     let node : Node = record { id = c.node.inside.id; task = c.node.inside.task; set = c.node.inside.set; running = c.node.inside.running } in
     let is : node_at nodes c.args.id ≡ Some node = c.remove-node.ensures.node ∙ ap (λ (n : Node). Some n) (sym c.node.view_is) in
-    let free : is_unblocked nodes node ≡ true = sym (number_listed nodes (is_unblocked nodes) c.self.inside.sources c.args.id node c.self.invariant.0.graph is c.self.invariant.0.unblocked_are) ∙ sym c.is_listed-unblocked.ensures ∙ listed in
+    let free : is_unblocked nodes node ≡ true = sym (number_listed nodes (is_unblocked nodes) c.self.inside.sources c.args.id node c.self.invariant.0.graph is c.self.invariant.0.unblocked_are) ∙ sym c.is_listed-unblocked.ensures.listed ∙ listed in
     subst (λ (l : List Node). AllByRecursion (λ (p : ℕ × Access). IsRankPast node.task.key (clashing_at p.0 p.1 l) 0) node.set) (sym c.remove-node.ensures.nodes)
     (unblocked_leads c.conflict_laws.ensures.decided c.conflict_laws.ensures.mutual nodes c.args.id node c.self.invariant.0.graph is free)
 
