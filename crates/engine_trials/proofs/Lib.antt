@@ -1,1 +1,3 @@
+pub mod Adding
 pub mod Hands
+pub mod Walking

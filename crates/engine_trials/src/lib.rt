@@ -3,11 +3,15 @@
 #![tactic(auto)]
 
 #[cfg(test)]
+mod adder;
+#[cfg(test)]
 mod circuits;
 #[cfg(test)]
 mod decks;
 #[cfg(test)]
 mod driving;
+#[cfg(test)]
+mod hooks;
 #[cfg(test)]
 mod matrices;
 #[cfg(test)]
@@ -24,3 +28,5 @@ mod rounds;
 mod trails;
 #[cfg(test)]
 mod trials;
+#[cfg(test)]
+mod walkers;

@@ -30,7 +30,7 @@ impl Gate for Watched {
 
 /// What rounds by three workers at a gate come to, from these cells and first tasks, and how many
 /// there are.
-fn rounds_outcome<R: Threads + Sync, A: App + Sync, G: Gate + Sync>(
+pub fn rounds_outcome<R: Threads + Sync, A: App + Sync, G: Gate + Sync>(
     rt: &R,
     alloc: Global,
     gate: &G,
