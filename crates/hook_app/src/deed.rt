@@ -10,4 +10,10 @@ pub trait Deed {
 
     /// What it means.
     ghost meaning: { Self → Deeds Self.Val };
+
+    /// About how many nanoseconds the operator takes for a task, where that is known: an executor
+    /// starts threads where they save time. No contract rests on it.
+    fn task_nanos(&self) -> Option<u64> {
+        None
+    }
 }

@@ -114,6 +114,10 @@ impl<'d, D: Deed, H: Hook<D::Val>> App for HookApp<'d, D, H> {
         true
     }
 
+    fn task_nanos(&self) -> Option<u64> {
+        self.deed.task_nanos()
+    }
+
     fn horizon(&self, _alloc: Global) -> Result<(), NoRoom> {
         Ok(())
     }

@@ -40,6 +40,11 @@ impl Deed for Mixer {
     type Val = u64;
 
     ghost meaning = { λ mixer. mixing mixer.times };
+
+    // A multiplication waits for the one before it, some nanosecond.
+    fn task_nanos(&self) -> Option<u64> {
+        Some(u64::from(self.times))
+    }
 }
 
 /// Does what a task does. Where memory runs out, the bundle comes back as it was.
