@@ -9,7 +9,7 @@ use Rattle.kdg_graph.specs.Nodes.{HaveOwnIds, IsGraph, ids_of, is_at}
 use Rattle.kdg_graph.specs.Rewrite.{without}
 use Rattle.app_laws.specs.Applications.{Application}
 use Rattle.run_laws.specs.Events.{clear_nodes, is_clear}
-use Rattle.graph_update.proofs.Members.{all-filter, all_at, found_is_there}
+use Rattle.run_laws.specs.Lists.{all-filter, all_at, found_is_there}
 use Rattle.graph_update.proofs.Picked.{IsPicked}
 
 pub Some-injective : {X : Type 0} (a b : X) → Some a ≡ Some b → a ≡ b

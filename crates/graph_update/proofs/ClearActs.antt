@@ -29,10 +29,10 @@ use Rattle.graph_update.specs.Basis.{Basis}
 use Rattle.run_laws.specs.Laws.{IsDone}
 use Rattle.graph_update.specs.Engine.{IsKept, EngineState}
 use Rattle.run_laws.specs.Events.{IsOfClear, IsFinished, IsOverLimit, clear_nodes, is_clear}
+use Rattle.run_laws.specs.Lists.{found_is_there, from_filter}
 use Rattle.crew.specs.Jobs.{MayRun, IsPerformed}
 use Rattle.run_laws.specs.Progress.{Progress}
 use Rattle.run_laws.specs.Sound.{IsSound}
-use Rattle.graph_update.proofs.Members.{found_is_there, from_filter}
 use Rattle.graph_update.proofs.ClearClaims.{claimed, has_node, may_run, picked_home, sound_after}
 use Rattle.graph_update.proofs.Picked.{IsPicked, pick_is}
 

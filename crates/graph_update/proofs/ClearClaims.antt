@@ -20,9 +20,9 @@ use Rattle.run_laws.specs.Jobs.{Job}
 use Rattle.graph_update.specs.Engine.{IsKept, SomeRuns}
 use Rattle.crew.specs.Jobs.{MayRun}
 use Rattle.run_laws.specs.Events.{IsClaimed, clear_nodes, is_clear}
+use Rattle.run_laws.specs.Lists.{all_from, found_is_there, from_filter, here, none_passes, there as from_there}
 use Rattle.run_laws.specs.Progress.{Progress}
 use Rattle.run_laws.specs.Sound.{IsSound}
-use Rattle.graph_update.proofs.Members.{all_from, found_is_there, from_filter, here, none_passes, there as from_there}
 use Rattle.graph_update.proofs.ClaimedNodes.{picked_taken}
 use Rattle.graph_update.proofs.Picked.{IsPicked}
 

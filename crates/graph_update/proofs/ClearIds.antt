@@ -10,8 +10,8 @@ use Rattle.kdg_graph.specs.Node.{Node}
 use Rattle.kdg_graph.specs.Nodes.{IsGraph, earlier_than, ids_of, node_at, tasks_of}
 use Rattle.app_laws.specs.Applications.{Application, tasks_before}
 use Rattle.run_laws.specs.Events.{clear_nodes, is_clear}
-use Rattle.graph_update.proofs.EarlierNodes.{tasks-earlier_than}
-use Rattle.graph_update.proofs.Members.{all_from}
+use Rattle.run_laws.specs.Lists.{all_from}
+use Rattle.run_laws.specs.NodeLists.{tasks-earlier_than}
 use Rattle.graph_update.proofs.Renewing.{some_node}
 
 module _ {V : Type 0} (app : Application V) (nodes : List Node) where

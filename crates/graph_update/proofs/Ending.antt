@@ -6,7 +6,7 @@ use Rattle.graph_update.specs.Basis.{Basis}
 use Rattle.run_laws.specs.Jobs.{Job}
 use Rattle.run_laws.specs.Progress.{Progress}
 use Rattle.run_laws.specs.Sound.{IsSound}
-use Rattle.run_laws.specs.StandingLaws.{NoneRuns}
+use Rattle.run_laws.specs.Rest.{NoneRuns}
 
 -- where no node is left the cells are all home, and they are the whole cells
 pub ends_whole : {V : Type 0} {app : Application V} → Basis app → (progress : Progress V) (jobs : List (Job V)) (values : List V) → progress.nodes ≡ [] → IsSound app progress jobs values

@@ -17,7 +17,7 @@ use Rattle.kdg_graph.specs.Nodes.{IsGraph, put_node, tasks_of}
 use Rattle.app_laws.specs.Applications.{Application, AreFitStarts, set_in}
 use Rattle.app_laws.specs.Execution.{first_from}
 use Rattle.run_laws.specs.Answers.{AreFirstNodes}
-use Rattle.graph_update.proofs.Members.{all-joined, all-put_in}
+use Rattle.run_laws.specs.Lists.{all-joined, all-put_in}
 
 all-put_node : (P : Node → Type 0) (node : Node) (nodes : List Node) → P node → AllByRecursion P nodes → AllByRecursion P (put_node node nodes)
 all-put_node P node [] one all = (one, tt)

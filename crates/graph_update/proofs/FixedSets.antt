@@ -22,8 +22,8 @@ use Rattle.graph_update.specs.Engine.{HaveFixedSets}
 use Rattle.run_laws.specs.Events.{fresh_from, renewals, renewed}
 use Rattle.graph_update.specs.Basis.{EndBasis}
 use Rattle.run_laws.specs.Finishes.{IsEnd, IsPerformedTask}
+use Rattle.run_laws.specs.Lists.{all_at, all_from, from_filter, here, in_map, there}
 use Rattle.run_laws.specs.Progress.{Progress}
-use Rattle.graph_update.proofs.Members.{all_at, all_from, from_filter, here, in_map, there}
 use Rattle.graph_update.proofs.Renewing.{affected, change_of}
 
 same_id : (id : NodeId) (node : Node) → is_at id node ≡ true → node.id ≡ id

@@ -5,12 +5,10 @@ pub mod ClearActs
 pub mod ClearClaims
 pub mod ClearIds
 pub mod Draining
-pub mod EarlierNodes
 pub mod Ending
 pub mod FirstNodes
 pub mod FixedSets
 pub mod MakingFresh
-pub mod Members
 pub mod NodeTasks
 pub mod Picked
 pub mod ReadyIds

@@ -11,10 +11,10 @@ use Rattle.app_laws.specs.Applications.{Application}
 use Rattle.run_laws.specs.Jobs.{Done}
 use Rattle.run_laws.specs.Acting.{no_task, task_named}
 use Rattle.run_laws.specs.Laws.{IsDone}
+use Rattle.run_laws.specs.Lists.{all_at, all_in_middle, cases, here, none, there}
 use Rattle.run_laws.specs.Progress.{Progress}
 use Rattle.run_laws.specs.Sound.{IsOfNode}
 use Rattle.graph_update.proofs.ClaimedNodes.{other_at}
-use Rattle.graph_update.proofs.Members.{all_at, all_in_middle, cases, here, none, there}
 
 found_is_there : (test : Node → Bool) (nodes : List Node) (node : Node) → find test nodes ≡ Some node → Contains nodes node
 found_is_there test [] node is = cc

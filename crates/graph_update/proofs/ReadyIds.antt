@@ -14,12 +14,12 @@ use Rattle.graph_update.specs.declared.ready.Ready.{Ready}
 use Rattle.graph_update.specs.Engine.{AreReady}
 use Rattle.run_laws.specs.Events.{IsOfClear, IsFinished, IsOverLimit, clear_nodes, is_clear}
 use Rattle.run_laws.specs.Laws.{Event, Moment}
+use Rattle.run_laws.specs.Lists.{all_at, all_from, from_filter, from_map, in_filter, in_map}
 use Rattle.crew.specs.Jobs.{IsPerformed}
 use Rattle.run_laws.specs.Progress.{Progress}
 use Rattle.run_laws.specs.Sound.{IsSound}
-use Rattle.run_laws.specs.StandingLaws.{ClearNodesStayClear}
+use Rattle.run_laws.specs.Rest.{ClearNodesStayClear}
 use Rattle.graph_update.proofs.ClearIds.{clear_are_safe, is_safe_id}
-use Rattle.graph_update.proofs.Members.{all_at, all_from, from_filter, from_map, in_filter, in_map}
 
 module _ {V : Type 0} (app : Application V) where
   pub all_are_ready : (nodes : List Node) (ready : Ready) → ready.ids.items ≡ ids_of (clear_nodes app nodes) → AreReady app nodes ready

@@ -17,7 +17,7 @@ use Rattle.graph_update.specs.Engine.{HaveFixedSets, IsKept, EngineState}
 use Rattle.run_laws.specs.Progress.{Progress}
 use Rattle.run_laws.specs.Renaming.{IsRenamed, RenamingsKeepSound}
 use Rattle.run_laws.specs.Sound.{IsSound}
-use Rattle.run_laws.specs.StandingLaws.{NoneRuns}
+use Rattle.run_laws.specs.Rest.{NoneRuns}
 use Rattle.graph_update.proofs.FixedSets.{first_are_fixed}
 
 module _ {V : Type 0} {app : Application V} (basis : Basis app) where

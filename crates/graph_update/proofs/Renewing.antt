@@ -17,7 +17,7 @@ use Rattle.kdg_graph.specs.Rewrite.{AreChangesOf}
 use Rattle.kdg_graph.specs.Nodes.{HasNode, IsGraph, ids_of, later_than, node_at, tasks_of}
 use Rattle.app_laws.specs.Applications.{Application, AreFitTasks}
 use Rattle.run_laws.specs.Events.{renewals, renewed}
-use Rattle.graph_update.proofs.Members.{all_at, from_filter, here, in_map, there}
+use Rattle.run_laws.specs.Lists.{all_at, from_filter, here, in_map, there}
 
 -- what is found of a node is of a node that is found
 pub node_found : {X : Type 0} (part : Node → X) (found : Option Node) (is : X) → option_map part found ≡ Some is → (node : Node) × (found ≡ Some node) × (part node ≡ is)

@@ -19,11 +19,11 @@ use Rattle.kdg_graph.specs.Nodes.{IsGraph, earlier_than, node_at, task_at, tasks
 use Rattle.app_laws.specs.declared.app.SetAnswer.TheVariants as answer
 use Rattle.app_laws.specs.Applications.{Application, AreFitTasks, AreWriters, FixedSetsAreKnown, IsFitTask, IsSource, set_in, tasks_before}
 use Rattle.run_laws.specs.Basis.{LowerLaws}
+use Rattle.run_laws.specs.Lists.{all-weaker, all_at, from_filter, in_map}
+use Rattle.run_laws.specs.NodeLists.{all-tasks, tasks-earlier_than, wider_conflict}
 use Rattle.graph_update.specs.Engine.{AreCovered, HaveFixedSets, IsKept}
 use Rattle.run_laws.specs.Progress.{Progress}
 use Rattle.run_laws.specs.Sound.{Covers}
-use Rattle.graph_update.proofs.EarlierNodes.{all-tasks, tasks-earlier_than, wider_conflict}
-use Rattle.graph_update.proofs.Members.{all-weaker, all_at, from_filter, in_map}
 
 less_where_earlier : (order : Ordering) → is_lt order ≡ true → order ≡ Less
 less_where_earlier Less is = refl

@@ -27,11 +27,11 @@ use Rattle.graph_update.specs.Engine.{FinishStaysSound, HaveFixedSets, IsKept, I
 use Rattle.run_laws.specs.Laws.{IsDone, FinishesKeepSound, MarksAndDrainsKeepSound}
 use Rattle.run_laws.specs.Events.{IsOfClear, IsFinished, IsOverLimit, budget_marked, fresh_from, renewals}
 use Rattle.run_laws.specs.Finishes.{IsEnded, IsPerformedTask}
+use Rattle.run_laws.specs.Lists.{none}
 use Rattle.graph_update.specs.Basis.{EndBasis}
 use Rattle.run_laws.specs.Progress.{Progress}
 use Rattle.run_laws.specs.Sound.{IsSound}
-use Rattle.run_laws.specs.StandingLaws.{ClearNodesStayClear}
-use Rattle.graph_update.proofs.Members.{none}
+use Rattle.run_laws.specs.Rest.{ClearNodesStayClear}
 use Rattle.graph_update.proofs.FixedSets.{fixed_after}
 use Rattle.graph_update.proofs.ReadyIds.{ready_after}
 use Rattle.graph_update.proofs.Renewing.{part_is}

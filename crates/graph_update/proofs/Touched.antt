@@ -13,8 +13,8 @@ use Rattle.kdg_graph.specs.Node.{Node}
 use Rattle.kdg_graph.specs.Nodes.{IsGraph, node_at, started, task_at, tasks_of}
 use Rattle.kdg_graph.specs.Rewrite.{IsRewritten, fresh_tasks}
 use Rattle.app_laws.specs.Applications.{Application}
+use Rattle.run_laws.specs.Lists.{in_map}
 use Rattle.graph_update.specs.Basis.{EndBasis}
-use Rattle.graph_update.proofs.Members.{in_map}
 use Rattle.graph_update.proofs.Sources.{node_of}
 
 -- a task stands among these, and the rest are the others

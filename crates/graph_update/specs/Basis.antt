@@ -7,7 +7,7 @@ use Rattle.run_laws.specs.FinishBasis.{FinishBasis}
 use Rattle.run_laws.specs.Finishes.{FinishesStayReady, PerformedTasksAreKnown}
 use Rattle.run_laws.specs.Laws.{ClaimsKeepSound, ClaimsTakeOneClear, ClearNodesAreHome, JobsMayRun, MarksAndDrainsKeepSound, SomeIsClear}
 use Rattle.run_laws.specs.Renaming.{FirstNodesAreAsMany, ListedTasksFit}
-use Rattle.run_laws.specs.StandingLaws.{IdleIsSound, NoJobsAreRest, NoJobsWhereNoneRuns}
+use Rattle.run_laws.specs.Rest.{IdleIsSound, NoJobsAreRest, NoJobsWhereNoneRuns}
 
 -- while an execution goes on
 pub record Basis {V : Type 0} (app : Application V) : Type 0 where

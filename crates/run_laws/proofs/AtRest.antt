@@ -1,6 +1,6 @@
--- An execution while nothing is running, and at its end.
-use Rattle.std.proofs.Common.{◌≡◌, not, true, false, List, [], ◌∷◌, map, length, Option, Some, None, refl, sym, ap, subst, ◌∙◌, arith}
-use Rattle.std.specs.Prelude.{Contains, IsSomeAnd}
+-- An execution while nothing is running.
+use Rattle.std.proofs.Common.{◌≡◌, not, true, false, List, [], ◌∷◌, refl, sym, ap, subst, ◌∙◌, arith}
+use Rattle.std.specs.Prelude.{Contains}
 use Rattle.std.specs.List.{AllByRecursion}
 use Rattle.std.proofs.lemmas.Bool.{and_from, true≢false}
 use Rattle.task_order.specs.TaskList.{IsAscending}
@@ -12,17 +12,13 @@ use Rattle.cell_store.specs.Values.{AreAllHome, homes, values_of}
 use Rattle.kdg_graph.specs.Node.{Node}
 use Rattle.kdg_graph.specs.Nodes.{earlier_than, tasks_of}
 use Rattle.app_laws.specs.Applications.{Application, IsFitTask, set_in}
-use Rattle.app_laws.specs.Execution.{Execution, run_to_end}
-use Rattle.commuting.specs.States.{execution_from}
 use Rattle.run_laws.specs.Basis.{Basis}
 use Rattle.run_laws.specs.Jobs.{Job}
-use Rattle.run_laws.specs.Progress.{Progress, whole_state}
+use Rattle.run_laws.specs.Lists.{all_at, all_from, here, in_map}
+use Rattle.run_laws.specs.Progress.{Progress}
 use Rattle.run_laws.specs.Sound.{Covers, HasJob, IsOfNode, IsSound}
-use Rattle.run_laws.specs.Standing.{ended_entries}
-use Rattle.run_laws.specs.StandingBasis.{StandingBasis}
-use Rattle.run_laws.specs.StandingLaws.{IdleIsSound, IsAtRest, IsSequentialEnd, NoJobsAreRest, NoJobsWhereNoneRuns, NoNodesAreTheEnd, NoneRuns}
+use Rattle.run_laws.specs.Rest.{IdleIsSound, IsAtRest, NoJobsAreRest, NoJobsWhereNoneRuns, NoneRuns}
 use Rattle.run_laws.proofs.ClearNodes.{earliest_first, idle, unblocked_where_first}
-use Rattle.run_laws.proofs.Members.{all_at, all_from, here, in_map}
 
 module _ {V : Type 0} {app : Application V} (basis : Basis app) where
   idle_without_jobs : (progress : Progress V) (jobs : List (Job V)) (values : List V) → IsSound app progress jobs values → jobs ≡ [] → (node : Node) → Contains progress.nodes node → node.running ≡ false
@@ -91,32 +87,3 @@ module _ {V : Type 0} {app : Application V} (basis : Basis app) where
   idle_is_sound progress jobs values sound idle =
       let alone = subst (λ (held : List (Job V)). IsSound app progress held values) ((no_jobs_where_none_runs progress jobs values sound).1 idle) sound in
       subst (IsSound app progress []) (sym (home_values progress values alone)) alone
-
-some_map : {X : Type 0} (P Q : X → Type 0) → ((x : X) → P x → Q x) → (o : Option X) → IsSomeAnd o P → IsSomeAnd o Q
-some_map P Q each None never = never
-some_map P Q each (Some x) is = each x is
-
-module _ {V : Type 0} {app : Application V} (basis : StandingBasis app) where
-  pub no_nodes_are_the_end : NoNodesAreTheEnd app
-  no_nodes_are_the_end start progress jobs values stands no_nodes =
-      let counts = stands.sound.keys_and_counts in
-      let created = counts.created in
-      let within = counts.within in
-      let none_left : length progress.nodes ≡ 0 = ap length no_nodes in
-      let idle = subst NoneRuns (sym no_nodes) tt in
-      let no_jobs = (no_jobs_where_none_runs basis.begun progress jobs values stands.sound).1 idle in
-      let rest = at_rest basis.begun progress values (subst (λ (held : List (Job V)). IsSound app progress held values) no_jobs stands.sound) in
-      let each = stands.one_each in
-      record {
-        no_jobs = no_jobs;
-        within = omega (arith, created, within, none_left);
-        runs = λ limit up_to.
-            some_map _ (IsSequentialEnd app start progress)
-            (λ (e : Execution V) is. record {
-              cells = rest.cells ∙ ap (map Home) (sym is.cells-are);
-              log = is.log-is;
-              count = sym each ∙ ap length (sym is.log-is);
-            })
-            (run_to_end app.act limit (execution_from start))
-            (basis.last start (whole_state progress values) (ended_entries app start progress) stands.state (ap tasks_of no_nodes) limit (omega (arith, each, up_to)));
-      }

@@ -21,10 +21,10 @@ use Rattle.commuting.specs.States.{state_of}
 use Rattle.run_laws.specs.Basis.{Basis}
 use Rattle.run_laws.specs.Answers.{AreFirstNodes}
 use Rattle.run_laws.specs.Laws.{BeginningsAreSound}
+use Rattle.run_laws.specs.Lists.{all_at, all_from, in_map}
 use Rattle.run_laws.specs.Progress.{Progress, whole_state}
 use Rattle.run_laws.specs.Sound.{KeysAndCounts, IsWhole, Covers, HasJob, IsSound, is_unblocked}
 use Rattle.run_laws.proofs.Marks.{no_entries_in_order}
-use Rattle.run_laws.proofs.Members.{all_from, all_at, in_map}
 
 length-first_from : (number : ℕ) (first : List Start) → length (first_from number first) ≡ length first
 length-first_from number [] = refl

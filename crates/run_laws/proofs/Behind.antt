@@ -8,10 +8,11 @@ use Rattle.std.proofs.lemmas.Bool.{true≢false}
 use Rattle.task_order.specs.declared.key.Key.{Key}
 use Rattle.task_order.specs.declared.task.Task.{Task}
 use Rattle.task_order.specs.Key.{Bound, at_key, end, key_cmp}
-use Rattle.output_log.specs.Entries.{Entry, entries_before, entries_from, is_entry_before, with_entry}
+use Rattle.output_log.specs.Entries.{Entry, entries_before, entries_from, is_entry_before, joined_by_key, with_entry}
 use Rattle.kdg_graph.specs.Node.{Node}
 use Rattle.kdg_graph.specs.Nodes.{tasks_of}
 use Rattle.app_laws.specs.Order.{is_prefix}
+use Rattle.run_laws.specs.Basis.{LowerLaws}
 use Rattle.run_laws.proofs.FinishTasks.{prefix_of_itself}
 
 -- ---- entries
@@ -47,13 +48,24 @@ put_behind key text front back all =
     ∙ ap (λ last. (front ++ entries_before (at_key key) back) ++ (key, text) ∷ last) (from_behind (at_key key) front back all)
     ∙ append_assoc front (entries_before (at_key key) back) ((key, text) ∷ entries_from (at_key key) back)
 
-pub earlier_by_order : (key : Key) (entries : List Entry) → AllByRecursion (λ entry. key_cmp entry.0 key ≡ Less) entries → AreEarlierThan (at_key key) entries
+-- the entries are earlier than the key
+abbrev pub AreEarlier : Key → List Entry → Type 0
+AreEarlier key entries = AllByRecursion (λ entry. key_cmp entry.0 key ≡ Less) entries
+
+pub earlier_by_order : (key : Key) (entries : List Entry) → AreEarlier key entries → AreEarlierThan (at_key key) entries
 earlier_by_order key [] all = tt
 earlier_by_order key (entry ∷ entries) all = (ap is_lt all.0, earlier_by_order key entries all.1)
 
-pub all-append : {X : Type 0} (P : X → Type 0) (xs ys : List X) → AllByRecursion P xs → AllByRecursion P ys → AllByRecursion P (xs ++ ys)
-all-append P [] ys first last = last
-all-append P (x ∷ xs) ys first last = (first.0, all-append P xs ys first.1 last)
+-- later entries are joined behind those in front
+pub joined_behind : (front back others : List Entry) → AllByRecursion (λ (other : Entry). AreEarlier other.0 front) others → joined_by_key (front ++ back) others ≡ front ++ joined_by_key back others
+joined_behind front back [] later = refl
+joined_behind front back (other ∷ others) later =
+    ap (with_entry other.0 other.1) (joined_behind front back others later.1) ∙ put_behind other.0 other.1 front (joined_by_key back others) (earlier_by_order other.0 front later.0)
+
+-- what is earlier than a key is earlier than each later one
+pub earlier_than_later : LowerLaws → (entries : List Entry) (key later : Key) → key_cmp key later ≡ Less → AreEarlier key entries → AreEarlier later entries
+earlier_than_later lower [] key later less all = tt
+earlier_than_later lower (entry ∷ entries) key later less all = (lower.transitive entry.0 key later all.0 less, earlier_than_later lower entries key later less all.1)
 
 -- a path that another isn't a prefix of is another one
 pub differs_without_prefix : (path other : List ℕ) → is_prefix path other ≡ false → other ≢ path

@@ -1,29 +1,18 @@
 -- A claim takes one of the clear nodes.
-use Rattle.std.proofs.Common.{◌≡◌, ◌≢◌, ℕ, zero, suc, ◌&&◌, not, ◌%◌, Bool, true, false, cond, List, [], ◌∷◌, Some, None, length, slice_get, refl, sym, ap, subst, ◌∙◌, eq-eqb, eqb-true}
-use Rattle.std.specs.Prelude.{remove}
-use Rattle.std.specs.List.{AllByRecursion, filter}
-use lib.ListN.{length-map}
+use Rattle.std.proofs.Common.{◌≡◌, ◌&&◌, not, Bool, true, false, cond, List, [], ◌∷◌, refl, sym, ap, ◌∙◌}
+use Rattle.std.specs.List.{filter}
 use Rattle.kdg_graph.specs.declared.node_id.NodeId.{NodeId}
 use Rattle.kdg_graph.specs.Node.{Node}
-use Rattle.kdg_graph.specs.Nodes.{HaveOwnIds, IsGraph, ids_of, is_at, started}
+use Rattle.kdg_graph.specs.Nodes.{is_at, started}
 use Rattle.kdg_graph.specs.Rewrite.{without}
 use Rattle.app_laws.specs.Applications.{Application}
 use Rattle.run_laws.specs.Basis.{Basis, LowerLaws}
 use Rattle.run_laws.specs.Events.{clear_nodes, is_clear}
 use Rattle.run_laws.specs.Laws.{ClaimsTakeOneClear}
+use Rattle.run_laws.specs.NodeLists.{start}
 use Rattle.run_laws.specs.Progress.{Progress}
 use Rattle.run_laws.specs.Sound.{is_unblocked}
-use Rattle.run_laws.proofs.Members.{all-filter, all_at}
-use Rattle.run_laws.proofs.Claims.{found_is_there}
-use Rattle.run_laws.proofs.Starting.{start, unblocked_started}
-
-pub Some-injective : {X : Type 0} (a b : X) → Some a ≡ Some b → a ≡ b
-Some-injective a b same = cc
-
-none_is_not_some : {X : Type 0} (x : X) → None ≡ Some x → ⊥
-none_is_not_some x same = cc
-
--- ---- nodes
+use Rattle.run_laws.proofs.Starting.{unblocked_started}
 
 module _ {V : Type 0} (app : Application V) (lower : LowerLaws) where
   -- of some of the nodes, the clear ones are those of before but for the started one

@@ -1,11 +1,11 @@
 -- A claim keeps an execution sound.
-use Rattle.std.proofs.Common.{◌≡◌, ◌≢◌, ◌↔◌, inl, inr, ⊎_elim, ℕ, zero, suc, ◌<◌, ◌||◌, Bool, true, false, cond, List, [], ◌∷◌, Some, length, slice_get, is_some, refl, sym, ap, subst, ◌∙◌, arith}
+use Rattle.std.proofs.Common.{◌≡◌, ◌≢◌, ◌↔◌, inl, inr, ⊎_elim, ℕ, ◌<◌, ◌||◌, Bool, true, false, cond, List, [], ◌∷◌, Some, length, is_some, refl, sym, ap, subst, ◌∙◌, arith}
 use lib.ListN.{length-map}
 use Rattle.std.specs.Prelude.{Contains, IsSome, IsTrue}
 use Rattle.std.specs.List.{AllByRecursion, list_any}
 use Rattle.std.specs.declared.cmp.Ordering.TheVariants.{Less}
 use Rattle.std.specs.Ordering.{is_eq, is_lt}
-use Rattle.std.proofs.lemmas.Bool.{true≢false}
+use Rattle.std.proofs.lemmas.Bool.{and_parts, true≢false}
 use Rattle.task_order.specs.declared.task.Task.{Task}
 use Rattle.task_order.specs.Key.{key_cmp}
 use Rattle.rw_sets.specs.Accesses.{IsWithin, Conflicts, access_at, conflicts_with, writes}
@@ -25,27 +25,19 @@ use Rattle.run_laws.specs.Basis.{Basis}
 use Rattle.run_laws.specs.Jobs.{Job}
 use Rattle.run_laws.specs.Events.{IsClaimed, is_clear, clear_nodes}
 use Rattle.run_laws.specs.Laws.{ClaimsKeepSound}
+use Rattle.run_laws.specs.Lists.{all-weaker, all_at, all_from, found_is_there, from_filter, from_map, in_filter, in_map, none_passes, there}
+use Rattle.run_laws.specs.NodeLists.{false_where_not, start, start_keeps_set, start_keeps_task}
 use Rattle.run_laws.specs.Progress.{Progress}
 use Rattle.run_laws.specs.Sound.{Covers, HasJob, IsOfNode, IsSound, IsWhole, JobsMatch, KeysAndCounts, is_unblocked, is_written}
-use Rattle.run_laws.proofs.ClearNodes.{both_parts, false_where_not, no_conflict}
-use Rattle.run_laws.proofs.Members.{all_at, all_from, from_filter, from_map, here, in_filter, in_map, none_passes, there}
-use Rattle.run_laws.proofs.Starting.{start, start_cases, start_keeps_id, start_keeps_running, start_keeps_set, start_keeps_task, start_runs, started_graph, unblocked_started}
+use Rattle.run_laws.proofs.ClearNodes.{no_conflict}
+use Rattle.run_laws.proofs.Starting.{start_cases, start_keeps_id, start_keeps_running, start_runs, started_graph, unblocked_started}
 
 Some-injective : {X : Type 0} (a b : X) → Some a ≡ Some b → a ≡ b
 Some-injective a b same = cc
 
-pub found_is_there : {X : Type 0} (xs : List X) (i : ℕ) (x : X) → slice_get xs i ≡ Some x → Contains xs x
-found_is_there [] i x found = cc
-found_is_there {X} (y ∷ xs) zero x found = subst (λ (z : X). Contains (y ∷ xs) z) (Some-injective y x found) (here y xs)
-found_is_there (y ∷ xs) (suc i) x found = there y x xs (found_is_there xs i x found)
-
 or_right : (x y : Bool) → y ≡ true → (x || y) ≡ true
 or_right true y is = refl
 or_right false y is = is
-
-all-weaker : {X : Type 0} (P Q : X → Type 0) → ((x : X) → P x → Q x) → (xs : List X) → AllByRecursion P xs → AllByRecursion Q xs
-all-weaker P Q weaker [] all = tt
-all-weaker P Q weaker (x ∷ xs) all = (weaker x all.0, all-weaker P Q weaker xs all.1)
 
 home_before : {V : Type 0} (taken : Bool) (cell : Cell V) → IsHome (cond taken Out cell) → IsHome cell
 home_before true cell home = absurd home
@@ -66,10 +58,10 @@ module _ {V : Type 0} {app : Application V} (basis : Basis app) (old : Progress 
   now = record old { nodes = now_nodes; cells = now_cells }
 
   idle : node.running ≡ false
-  idle = false_where_not node.running (both_parts _ _ clear).0
+  idle = false_where_not node.running (and_parts _ _ clear).0
 
   unblocked : is_unblocked app old.nodes node ≡ true
-  unblocked = (both_parts _ _ clear).1
+  unblocked = (and_parts _ _ clear).1
 
   graph : IsGraph old.nodes
   graph = sound.keys_and_counts.graph
@@ -88,7 +80,7 @@ module _ {V : Type 0} {app : Application V} (basis : Basis app) (old : Progress 
   none_before first second there free earlier =
       no_conflict basis first.set second.set
       (none_passes (λ (n : Node). conflicts_with n.set second.set) (earlier_than second.task.key old.nodes) first
-      (false_where_not (is_blocked old.nodes second) (both_parts _ _ free).0)
+      (false_where_not (is_blocked old.nodes second) (and_parts _ _ free).0)
       (in_filter (λ (n : Node). is_lt (key_cmp n.task.key second.task.key)) old.nodes first there (ap is_lt earlier)))
 
   apart_from_running : (was : Node) → Contains old.nodes was → was.running ≡ true → ¬ Conflicts was.set node.set

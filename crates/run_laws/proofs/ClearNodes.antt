@@ -5,55 +5,25 @@ use Rattle.std.specs.List.{AllByRecursion, filter, list_any}
 use Rattle.std.specs.declared.cmp.Ordering.{Ordering}
 use Rattle.std.specs.declared.cmp.Ordering.TheVariants.{Less, Equal, Greater}
 use Rattle.std.specs.Ordering.{is_lt}
-use Rattle.std.proofs.lemmas.Bool.{and_from, true≢false}
+use Rattle.std.proofs.lemmas.Bool.{and_from, and_parts, true≢false}
 use Rattle.task_order.specs.declared.key.Key.{Key}
 use Rattle.task_order.specs.declared.task.Task.{Task}
 use Rattle.task_order.specs.Key.{key_cmp}
 use Rattle.task_order.specs.TaskList.{IsAscending}
-use Rattle.rw_sets.specs.Accesses.{Accesses, Conflicts, IsWithin, conflicts_with}
+use Rattle.rw_sets.specs.Accesses.{Accesses, Conflicts, conflicts_with}
 use Rattle.kdg_graph.specs.Node.{Node}
 use Rattle.kdg_graph.specs.Nodes.{tasks_of, earlier_than}
 use Rattle.kdg_graph.specs.Edges.{is_blocked}
-use Rattle.app_laws.specs.Applications.{Application, IsFitTask, set_in, tasks_before}
+use Rattle.app_laws.specs.Applications.{Application, IsFitTask, set_in}
 use Rattle.commuting.specs.Clear.{IsClear}
-use Rattle.run_laws.specs.Basis.{Basis, LowerLaws}
+use Rattle.run_laws.specs.Basis.{Basis}
 use Rattle.run_laws.specs.Jobs.{Job}
 use Rattle.run_laws.specs.Events.{is_clear, clear_nodes}
 use Rattle.run_laws.specs.Laws.{RecordedSetsSuffice, SomeIsClear}
+use Rattle.run_laws.specs.Lists.{all_at, from_filter, here, in_map, none_passes}
+use Rattle.run_laws.specs.NodeLists.{all-tasks, false_where_not, tasks-earlier_than, wider_conflict}
 use Rattle.run_laws.specs.Progress.{Progress, whole_state}
 use Rattle.run_laws.specs.Sound.{Covers, HasJob, IsSound, is_unblocked}
-use Rattle.run_laws.proofs.Members.{all_at, all_from, from_filter, here, in_map, none_passes}
-
--- both parts of a test hold where it does
-pub both_parts : (x y : Bool) → (x && y) ≡ true → (x ≡ true) × (y ≡ true)
-both_parts true y both = (refl, both)
-both_parts false y never = absurd (true≢false (sym never))
-
-pub false_where_not : (x : Bool) → not x ≡ true → x ≡ false
-false_where_not true never = absurd (true≢false (sym never))
-false_where_not false is = refl
-
--- the earlier tasks are those of the earlier nodes
-pub tasks-earlier_than : (key : Key) (nodes : List Node) → tasks_of (earlier_than key nodes) ≡ tasks_before key (tasks_of nodes)
-tasks-earlier_than key [] = refl
-tasks-earlier_than key (node ∷ nodes) =
-    let rest = tasks-earlier_than key nodes in
-    elim (is_lt (key_cmp node.task.key key)) as (λ earlier. tasks_of (cond earlier (node ∷ earlier_than key nodes) (earlier_than key nodes)) ≡ cond earlier (node.task ∷ tasks_before key (tasks_of nodes)) (tasks_before key (tasks_of nodes))) [
-      | true ↦ ap (λ tasks. node.task ∷ tasks) rest
-      | false ↦ rest
-    ]
-
-pub all-tasks : (P : Task → Type 0) (nodes : List Node) → ((node : Node) → Contains nodes node → P node.task) → AllByRecursion P (tasks_of nodes)
-all-tasks P nodes each = go nodes (all_from (λ (node : Node). P node.task) nodes each)
-  where
-    go : (nodes : List Node) → AllByRecursion (λ (node : Node). P node.task) nodes → AllByRecursion P (tasks_of nodes)
-    go [] all = tt
-    go (node ∷ nodes) all = (all.0, go nodes all.1)
-
--- what conflicts by some sets conflicts by wider ones
-pub wider_conflict : LowerLaws → (set other wide wide_other : Accesses) → IsWithin set wide → IsWithin other wide_other → Conflicts other set → Conflicts wide_other wide
-wider_conflict lower set other wide wide_other within others_within conflict =
-    lower.turned wide wide_other (lower.grows set wide wide_other within (lower.turned wide_other set (lower.grows other wide_other set others_within conflict)))
 
 module _ {V : Type 0} {app : Application V} (basis : Basis app) where
   -- where the test finds no conflict there is none
@@ -63,7 +33,7 @@ module _ {V : Type 0} {app : Application V} (basis : Basis app) where
   pub unblocked_is_clear : (progress : Progress V) (jobs : List (Job V)) (values : List V) (node : Node) → IsSound app progress jobs values
       → Contains progress.nodes node → is_unblocked app progress.nodes node ≡ true → IsClear app (whole_state progress values) node.task
   unblocked_is_clear progress jobs values node sound has unblocked =
-      let parts = both_parts _ _ unblocked in
+      let parts = and_parts _ _ unblocked in
       let none = false_where_not (is_blocked progress.nodes node) parts.0 in
       let same = tasks-earlier_than node.task.key progress.nodes in
       let covers = λ (other : Node) (there : Contains progress.nodes other). all_at (Covers app progress.cells values) progress.nodes other sound.recorded_covers there in
@@ -83,7 +53,7 @@ module _ {V : Type 0} {app : Application V} (basis : Basis app) where
 
   pub recorded_sets_suffice : RecordedSetsSuffice app
   recorded_sets_suffice = record {
-    clear = λ progress jobs values node sound has clear. unblocked_is_clear progress jobs values node sound has (both_parts _ _ clear).1;
+    clear = λ progress jobs values node sound has clear. unblocked_is_clear progress jobs values node sound has (and_parts _ _ clear).1;
     running = λ progress jobs values node sound has running. unblocked_is_clear progress jobs values node sound has
         (all_at (λ (n : Node). n.running ≡ true → is_unblocked app progress.nodes n ≡ true) progress.nodes node sound.running_unblocked has running);
   }

@@ -12,9 +12,9 @@ use Rattle.run_laws.specs.Jobs.{Done, Job}
 use Rattle.run_laws.specs.Events.{fresh_from}
 use Rattle.run_laws.specs.FinishBasis.{FinishBasis}
 use Rattle.run_laws.specs.Finishes.{IsEnded, IsEnd, EffectsAreOfWhole, FinishesActOnWhole, FinishesStayReady}
+use Rattle.run_laws.specs.Lists.{all_at}
 use Rattle.run_laws.specs.Progress.{Progress, whole_state}
 use Rattle.run_laws.specs.Sound.{Covers}
-use Rattle.run_laws.proofs.FinishMembers.{all_at}
 use Rattle.run_laws.proofs.Performed.{fresh_are, is_pending, named, performed_node}
 
 module _ {V : Type 0} {app : Application V} (basis : FinishBasis app) where

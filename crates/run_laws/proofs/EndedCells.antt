@@ -13,15 +13,15 @@ use Rattle.kdg_graph.specs.Node.{Node}
 use Rattle.app_laws.specs.Applications.{Application}
 use Rattle.run_laws.specs.Jobs.{Done, Job}
 use Rattle.run_laws.specs.FinishBasis.{FinishBasis}
-use Rattle.run_laws.specs.Finishes.{IsEnd, FinishesKeepWhole}
+use Rattle.run_laws.specs.Finishes.{IsEnd}
+use Rattle.run_laws.specs.Lists.{all-joined, all-weaker, all_but_one, any_but_one}
 use Rattle.run_laws.specs.Progress.{Progress}
 use Rattle.run_laws.specs.Sound.{IsOfNode, IsWhole, is_written}
 use Rattle.run_laws.proofs.Ended.{ended_node}
 use Rattle.run_laws.proofs.EndedJobs.{differ}
 use Rattle.run_laws.proofs.EndedNodes.{ended_key, others_apart}
-use Rattle.run_laws.proofs.FinishMembers.{all_but_one, any_but_one}
 use Rattle.run_laws.proofs.Performed.{agrees_given, changes_written, given_is, some_where_written}
-use Rattle.run_laws.proofs.FinishTasks.{all-joined, all-weaker, length-mapped}
+use Rattle.run_laws.proofs.FinishTasks.{length-mapped}
 
 pub never_out : {V : Type 0} (cell : Cell V) → IsHome cell → cell ≡ Out → ⊥
 never_out cell home is = subst IsHome is home
@@ -128,6 +128,3 @@ module _ {V : Type 0} {app : Application V} (basis : FinishBasis app) where
       away = λ loc inside. away_after loc (subst (λ n. loc < n) as_many_after inside);
       bundles = bundles_after;
     })
-
-  pub keeps_whole : FinishesKeepWhole app
-  keeps_whole old now done job jobs others values end = whole_is end

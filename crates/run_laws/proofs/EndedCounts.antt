@@ -11,14 +11,17 @@ use Rattle.kdg_graph.specs.Nodes.{tasks_of}
 use Rattle.app_laws.specs.Applications.{Application, handed}
 use Rattle.app_laws.specs.Execution.{children_from}
 use Rattle.app_laws.specs.Order.{Pairwise}
+use Rattle.commuting.specs.States.{after_task}
+use Rattle.crew.specs.Jobs.{IsPerformed}
 use Rattle.run_laws.specs.Jobs.{Done, Job}
 use Rattle.run_laws.specs.FinishBasis.{FinishBasis}
-use Rattle.run_laws.specs.Finishes.{IsEnd, FinishesKeepKeysAndCounts}
-use Rattle.run_laws.specs.Progress.{Progress}
-use Rattle.run_laws.specs.Sound.{KeysAndCounts}
-use Rattle.run_laws.proofs.Ended.{ended_node, tasks_after}
-use Rattle.run_laws.proofs.Performed.{IsUnlogged, new_entry, path_differs, restored, tasks_unlogged}
-use Rattle.run_laws.proofs.FinishTasks.{all-weaker, all-joined, all-swapped, all-filter, all-put_all, TasksApart, apart_from_put_in, all_parts, all-inserted, pairwise-inserted, length-inserted, length-mapped}
+use Rattle.run_laws.specs.Finishes.{IsEnd}
+use Rattle.run_laws.specs.Lists.{all-filter, all-joined, all-put_all, all-swapped, all-weaker}
+use Rattle.run_laws.specs.Progress.{Progress, whole_state}
+use Rattle.run_laws.specs.Sound.{IsSound, KeysAndCounts}
+use Rattle.run_laws.proofs.Ended.{tasks_after}
+use Rattle.run_laws.proofs.Performed.{IsUnlogged, new_entry, path_differs, performed_node, restored, tasks_unlogged}
+use Rattle.run_laws.proofs.FinishTasks.{TasksApart, apart_from_put_in, all_parts, all-inserted, pairwise-inserted, length-inserted, length-mapped}
 
 pub length-children : (parent : Key) (number : ℕ) (starts : List Start) → length (children_from parent number starts) ≡ length starts
 length-children parent number [] = refl
@@ -29,7 +32,7 @@ module _ {V : Type 0} {app : Application V} (basis : FinishBasis app) where
     parts : log ≡ entries_before (at_key key) log ++ entries_from (at_key key) log
     parts = basis.earlier_first (at_key key) log ordered
 
-    all-with_entry : (P : Entry → Type 0) → P (key, text) → AllByRecursion P log → AllByRecursion P (with_entry key text log)
+    pub all-with_entry : (P : Entry → Type 0) → P (key, text) → AllByRecursion P log → AllByRecursion P (with_entry key text log)
     all-with_entry P one all = all-inserted P (entries_before (at_key key) log) (key, text) (entries_from (at_key key) log) one (subst (AllByRecursion P) parts all)
 
     differs-with_entry : AllByRecursion (λ entry. entry.0.path ≢ key.path) log → Pairwise (λ entry other. entry.0.path ≢ other.0.path) log
@@ -45,6 +48,19 @@ module _ {V : Type 0} {app : Application V} (basis : FinishBasis app) where
 
     pub length-with_entry : length (with_entry key text log) ≡ suc (length log)
     length-with_entry = length-inserted (entries_before (at_key key) log) (key, text) (entries_from (at_key key) log) ∙ ap (λ (entries : List Entry). suc (length entries)) (sym parts)
+
+  module _ {old : Progress V} {done : Done V} {job : Job V} {jobs others : List (Job V)} {values : List V} (sound : IsSound app old jobs values) (performed : IsPerformed app jobs done job others) where
+    -- where the task acts, it leaves, and its children come in
+    pub pending_after : length (after_task app.act job.task (whole_state old values)).pending + 1 ≡ length old.nodes + length done.effect.children
+    pending_after =
+        let starts = (app.act job.task values).children in
+        let others = without job.task.key (tasks_of old.nodes) in
+        let put = basis.adds_each (children_from job.task.key 0 starts) others in
+        let made = length-children job.task.key 0 starts in
+        let left : length others + 1 ≡ length old.nodes = sym (basis.puts_add_one job.task others) ∙ ap length (restored basis sound performed) ∙ length-mapped (λ node. node.task) old.nodes in
+        let handed_over : length done.effect.children ≡ length starts =
+        ap (λ (effect : _). length effect.children) (performed_node basis sound performed).effect ∙ length-mapped (handed app (app.act job.task values).cells) starts in
+        omega (arith, put, made, left, handed_over)
 
   module _ {old now : Progress V} {done : Done V} {job : Job V} {jobs others : List (Job V)} {values : List V} (end : IsEnd app old jobs values done job others now) where
     pub log_is : now.log ≡ with_entry job.task.key done.effect.text old.log
@@ -75,19 +91,9 @@ module _ {V : Type 0} {app : Application V} (basis : FinishBasis app) where
         (all-put_all (λ task. AllByRecursion (IsUnlogged task) (with_entry job.task.key done.effect.text old.log)) (children_from job.task.key 0 (app.act job.task values).children) (without job.task.key (tasks_of old.nodes)) children_unlogged rest_unlogged))
 
     nodes_after : length now.nodes + 1 ≡ length old.nodes + length done.effect.children
-    nodes_after =
-        let starts = (app.act job.task values).children in
-        let now_is : length now.nodes ≡ length (without job.task.key (tasks_of old.nodes)) + length starts =
-        sym (length-mapped (λ node. node.task) now.nodes) ∙ ap length (tasks_after basis end)
-        ∙ basis.adds_each (children_from job.task.key 0 starts) (without job.task.key (tasks_of old.nodes))
-        ∙ ap (λ n. length (without job.task.key (tasks_of old.nodes)) + n) (length-children job.task.key 0 starts) in
-        let old_is : length (without job.task.key (tasks_of old.nodes)) + 1 ≡ length old.nodes =
-        sym (basis.puts_add_one job.task (without job.task.key (tasks_of old.nodes))) ∙ ap length (restored basis end.sound end.performed) ∙ length-mapped (λ node. node.task) old.nodes in
-        let handed_over : length done.effect.children ≡ length starts =
-        ap (λ (effect : _). length effect.children) (ended_node basis end).effect ∙ length-mapped (handed app (app.act job.task values).cells) starts in
-        omega (arith, now_is, old_is, handed_over)
+    nodes_after = omega (arith, sym (length-mapped (λ node. node.task) now.nodes), ap length (tasks_after basis end), pending_after end.sound end.performed)
 
-    counts_after : KeysAndCounts app now
+    pub counts_after : KeysAndCounts app now
     counts_after =
         let counts = end.sound.keys_and_counts in
         let created_is : now.created ≡ old.created + length done.effect.children = ap (λ (progress : Progress V). progress.created) end.finished.after in
@@ -111,6 +117,3 @@ module _ {V : Type 0} {app : Application V} (basis : FinishBasis app) where
           within = omega (arith, created_is, limit_is, not_over);
           logged = omega (arith, logged_is, ended_is, was_logged);
         }
-
-  pub keeps_keys_and_counts : FinishesKeepKeysAndCounts app
-  keeps_keys_and_counts old now done job jobs others values end = counts_after end

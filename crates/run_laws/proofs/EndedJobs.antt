@@ -16,13 +16,12 @@ use Rattle.app_laws.specs.Order.{Pairwise}
 use Rattle.run_laws.specs.Jobs.{Done, Job}
 use Rattle.run_laws.specs.Events.{fresh_from, renewals}
 use Rattle.run_laws.specs.FinishBasis.{FinishBasis}
-use Rattle.run_laws.specs.Finishes.{IsEnd, FinishesKeepJobs}
+use Rattle.run_laws.specs.Finishes.{IsEnd}
+use Rattle.run_laws.specs.Lists.{all-joined, all_at, all_but_one, all_from, any_but_one, pairwise_but_one, pairwise_with_one}
 use Rattle.run_laws.specs.Progress.{Progress}
 use Rattle.run_laws.specs.Sound.{HasJob, IsOfNode, JobsMatch}
 use Rattle.run_laws.proofs.Ended.{is_there}
 use Rattle.run_laws.proofs.EndedNodes.{ended_key, own_key, running_stays}
-use Rattle.run_laws.proofs.FinishMembers.{all_at, all_from, all_but_one, any_but_one, pairwise_but_one, pairwise_with_one}
-use Rattle.run_laws.proofs.FinishTasks.{all-joined}
 
 module _ {V : Type 0} {app : Application V} (basis : FinishBasis app) where
   module _ {old now : Progress V} {done : Done V} {job : Job V} {jobs others : List (Job V)} {values : List V} (end : IsEnd app old jobs values done job others now) where
@@ -82,8 +81,5 @@ module _ {V : Type 0} {app : Application V} (basis : FinishBasis app) where
         (λ fresh. absurd (true≢false (sym runs ∙ ap (λ (node : Node). node.running) fresh.2)))
         (basis.no_other old.nodes end.finished.node.id (renewals app (cells_given old.cells done.effect.bundle) old.nodes end.finished.node) (fresh_from done.task.key 0 done.effect.children) now.nodes end.finished.nodes node has))
 
-    jobs_match_after : JobsMatch app now.nodes others
+    pub jobs_match_after : JobsMatch app now.nodes others
     jobs_match_after = subst (JobsMatch app now.nodes) (sym end.performed.others_are) (record { named = others_named; all = all_have_jobs; own = others_own })
-
-  pub keeps_jobs : FinishesKeepJobs app
-  keeps_jobs old now done job jobs others values end = jobs_match_after end

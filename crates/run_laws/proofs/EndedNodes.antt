@@ -20,10 +20,10 @@ use Rattle.run_laws.specs.Jobs.{Done, Job}
 use Rattle.run_laws.specs.Events.{renewals, renewed}
 use Rattle.run_laws.specs.FinishBasis.{FinishBasis}
 use Rattle.run_laws.specs.Finishes.{IsEnd}
+use Rattle.run_laws.specs.Lists.{all_at, cases, from_filter, here, in_filter, none, none_passes, there}
 use Rattle.run_laws.specs.Progress.{Progress}
 use Rattle.run_laws.specs.Sound.{is_unblocked}
 use Rattle.run_laws.proofs.Ended.{ended_node, is_there}
-use Rattle.run_laws.proofs.FinishMembers.{all_at, here, there, cases, none, in_filter, from_filter, none_passes}
 
 same_id : (id : NodeId) (node : Node) → is_at id node ≡ true → node.id ≡ id
 same_id id node is = ap (λ n. let made : NodeId = record { at = n } in made) (eqb-true node.id.at id.at is)

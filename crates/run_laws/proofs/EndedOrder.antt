@@ -23,13 +23,13 @@ use Rattle.commuting.specs.Clear.{IsClear}
 use Rattle.run_laws.specs.Jobs.{Done, Job}
 use Rattle.run_laws.specs.Events.{fresh_from, renewals, renewed}
 use Rattle.run_laws.specs.FinishBasis.{FinishBasis}
-use Rattle.run_laws.specs.Finishes.{IsEnd, FinishesKeepUnblocked}
+use Rattle.run_laws.specs.Finishes.{IsEnd}
+use Rattle.run_laws.specs.Lists.{all_at, all_from, from_filter, from_map, in_filter, in_map, none_any}
 use Rattle.run_laws.specs.Progress.{Progress, whole_state}
 use Rattle.run_laws.specs.Sound.{is_unblocked}
 use Rattle.run_laws.proofs.Ended.{covered, whole_after}
 use Rattle.run_laws.proofs.EndedNodes.{independent_of_ended, running_is_free, runs_unblocked, set_unchanged, unblocked_apart}
 use Rattle.run_laws.proofs.EndedSets.{covers_of, independent_tasks, item_set, moves_within, same_set, set_cases}
-use Rattle.run_laws.proofs.FinishMembers.{all_at, all_from, from_filter, from_map, in_filter, in_map, none_any}
 
 less_from_test : (o : Ordering) → is_lt o ≡ true → o ≡ Less
 less_from_test Less is = refl
@@ -148,7 +148,7 @@ module _ {V : Type 0} {app : Application V} (basis : FinishBasis app) where
         and_from (not (is_blocked now.nodes was)) (app.is_safe was.task (tasks_of (earlier_than was.task.key now.nodes))) (ap not free)
         (subst (λ tasks. app.is_safe was.task tasks ≡ true) (sym (tasks_earlier was.task.key now.nodes)) (clear_after was still).unblocked.safe)
 
-    all_unblocked : AllByRecursion (λ node. node.running ≡ true → is_unblocked app now.nodes node ≡ true) now.nodes
+    pub all_unblocked : AllByRecursion (λ node. node.running ≡ true → is_unblocked app now.nodes node ≡ true) now.nodes
     all_unblocked = all_from (λ node. node.running ≡ true → is_unblocked app now.nodes node ≡ true) now.nodes (λ node has runs.
         ⊎_elim
         (λ kept.
@@ -164,6 +164,3 @@ module _ {V : Type 0} {app : Application V} (basis : FinishBasis app) where
         subst (λ node. is_unblocked app now.nodes node ≡ true) (sym same) (unblocked_after kept.0 still))
         (λ fresh. absurd (true≢false (sym runs ∙ ap (λ (node : Node). node.running) fresh.2)))
         (basis.no_other old.nodes end.finished.node.id (renewals app (cells_given old.cells done.effect.bundle) old.nodes end.finished.node) (fresh_from done.task.key 0 done.effect.children) now.nodes end.finished.nodes node has))
-
-  pub keeps_unblocked : FinishesKeepUnblocked app
-  keeps_unblocked old now done job jobs others values end = all_unblocked end

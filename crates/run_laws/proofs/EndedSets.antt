@@ -23,14 +23,14 @@ use Rattle.commuting.specs.Independent.{AreIndependentTasks}
 use Rattle.run_laws.specs.Jobs.{Done, Job}
 use Rattle.run_laws.specs.Events.{fresh_from, renewals, renewed}
 use Rattle.run_laws.specs.FinishBasis.{FinishBasis}
-use Rattle.run_laws.specs.Finishes.{IsEnd, FinishesKeepCover}
+use Rattle.run_laws.specs.Finishes.{IsEnd}
+use Rattle.run_laws.specs.Lists.{all_at, all_from, in_map}
 use Rattle.run_laws.specs.Progress.{Progress, whole_state}
 use Rattle.run_laws.specs.Sound.{Covers}
 use Rattle.run_laws.proofs.Ended.{covered, ended_node, is_there, ready_after}
 use Rattle.run_laws.proofs.EndedCells.{agrees_after, cell_after, never_out}
 use Rattle.run_laws.proofs.EndedNodes.{IsInTheWay, ended_key, own_key, running_is_free, runs_apart, set_changed, set_unchanged}
 use Rattle.run_laws.proofs.Performed.{fit_after, is_pending}
-use Rattle.run_laws.proofs.FinishMembers.{all_at, all_from, in_map}
 
 joined_parts : (x y : Option Access) → is_some (joined x y) ≡ true → (is_some x ≡ true) ⊎ (is_some y ≡ true)
 joined_parts None y some = inr some
@@ -179,7 +179,7 @@ module _ {V : Type 0} {app : Application V} (basis : FinishBasis app) where
         all_at (λ (item : Fresh). item.set ≡ set_in app (app.act job.task values).cells item.task) (fresh_from done.task.key 0 done.effect.children) item
         (subst (λ (effect : _). AllByRecursion (λ (item : Fresh). item.set ≡ set_in app (app.act job.task values).cells item.task) (fresh_from done.task.key 0 effect.children)) (sym (ended_node basis end).effect) sets) has
 
-    covers_after : AllByRecursion (Covers app now.cells (app.act job.task values).cells) now.nodes
+    pub covers_after : AllByRecursion (Covers app now.cells (app.act job.task values).cells) now.nodes
     covers_after = all_from (λ node. Covers app now.cells (app.act job.task values).cells node) now.nodes (λ node has.
         ⊎_elim
         (λ kept. subst (λ node. Covers app now.cells (app.act job.task values).cells node) (sym kept.3) (kept_covers kept.0 kept.1 kept.2))
@@ -189,6 +189,3 @@ module _ {V : Type 0} {app : Application V} (basis : FinishBasis app) where
         let same_task : node.task ≡ fresh.0.task = ap (λ (node : Node). node.task) fresh.2 in
         covers_exact node fit (same_item ∙ item_set fresh.0 fresh.1 ∙ ap (λ task. set_in app (app.act job.task values).cells task) (sym same_task)))
         (basis.no_other old.nodes end.finished.node.id (renewals app (cells_given old.cells done.effect.bundle) old.nodes end.finished.node) (fresh_from done.task.key 0 done.effect.children) now.nodes end.finished.nodes node has))
-
-  pub keeps_cover : FinishesKeepCover app
-  keeps_cover old now done job jobs others values end = covers_after end

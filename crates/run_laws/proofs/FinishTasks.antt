@@ -1,43 +1,12 @@
 -- What holds of all items of a list, as tasks are put in and others are left out.
-use Rattle.std.proofs.Common.{◌≡◌, ℕ, Bool, true, false, nat_eq, cond, suc, length, List, [], ◌∷◌, ◌++◌, map, refl, ap, eq-eqb}
-use Rattle.std.proofs.lemmas.Bool.{and_from}
-use Rattle.std.specs.List.{AllByRecursion, filter}
+use Rattle.std.proofs.Common.{◌≡◌, ℕ, Bool, true, false, nat_eq, cond, suc, length, List, [], ◌∷◌, ◌++◌, map, refl, sym, ap, subst, eq-eqb, eqb-true}
+use Rattle.std.proofs.lemmas.Bool.{and_from, and_parts, true≢false}
+use Rattle.std.specs.List.{AllByRecursion}
 use Rattle.std.specs.Ordering.{is_lt}
 use Rattle.task_order.specs.declared.task.Task.{Task}
 use Rattle.task_order.specs.Key.{key_cmp}
-use Rattle.task_order.specs.TaskList.{put_in, put_all}
+use Rattle.task_order.specs.TaskList.{put_in}
 use Rattle.app_laws.specs.Order.{is_prefix, AreApart, Pairwise}
-
-pub all-weaker : {X : Type 0} (P Q : X → Type 0) → ((x : X) → P x → Q x) → (xs : List X) → AllByRecursion P xs → AllByRecursion Q xs
-all-weaker P Q weaker [] all = tt
-all-weaker P Q weaker (x ∷ xs) all = (weaker x all.0, all-weaker P Q weaker xs all.1)
-
-pub all-joined : {X : Type 0} (P Q R : X → Type 0) → ((x : X) → P x → Q x → R x) → (xs : List X) → AllByRecursion P xs → AllByRecursion Q xs → AllByRecursion R xs
-all-joined P Q R join [] p q = tt
-all-joined P Q R join (x ∷ xs) p q = (join x p.0 q.0, all-joined P Q R join xs p.1 q.1)
-
-pub all-swapped : {X Y : Type 0} (R : X → Y → Type 0) (xs : List X) (ys : List Y) → AllByRecursion (λ y. AllByRecursion (λ x. R x y) xs) ys → AllByRecursion (λ x. AllByRecursion (R x) ys) xs
-all-swapped R xs [] all = none xs
-  where
-    none : (xs : List _) → AllByRecursion (λ x. AllByRecursion (R x) []) xs
-    none [] = tt
-    none (x ∷ xs) = (tt, none xs)
-all-swapped R xs (y ∷ ys) all =
-    all-joined (λ x. R x y) (λ x. AllByRecursion (R x) ys) (λ x. AllByRecursion (R x) (y ∷ ys)) (λ x first rest. (first, rest)) xs all.0 (all-swapped R xs ys all.1)
-
-pub all-filter : {X : Type 0} (P : X → Type 0) (test : X → Bool) (xs : List X) → AllByRecursion P xs → AllByRecursion P (filter test xs)
-all-filter P test [] all = tt
-all-filter P test (x ∷ xs) all = elim (test x) as (λ b. AllByRecursion P (cond b (x ∷ filter test xs) (filter test xs))) [
-  | true ↦ (all.0, all-filter P test xs all.1)
-  | false ↦ all-filter P test xs all.1
-]
-
-pub all-put_in : (P : Task → Type 0) (task : Task) (tasks : List Task) → P task → AllByRecursion P tasks → AllByRecursion P (put_in task tasks)
-all-put_in P task [] one all = (one, tt)
-all-put_in P task (other ∷ tasks) one all = elim (is_lt (key_cmp other.key task.key)) as (λ past. AllByRecursion P (cond past (other ∷ put_in task tasks) (task ∷ other ∷ tasks))) [
-  | true ↦ (all.0, all-put_in P task tasks one all.1)
-  | false ↦ (one, all)
-]
 
 pub all_from_put_in : (P : Task → Type 0) (task : Task) (tasks : List Task) → AllByRecursion P (put_in task tasks) → P task × AllByRecursion P tasks
 all_from_put_in P task [] all = all
@@ -48,13 +17,22 @@ all_from_put_in P task (other ∷ tasks) all =
     ] in
     by_case (is_lt (key_cmp other.key task.key)) all
 
-pub all-put_all : (P : Task → Type 0) (new tasks : List Task) → AllByRecursion P new → AllByRecursion P tasks → AllByRecursion P (put_all new tasks)
-all-put_all P [] tasks all_new all = all
-all-put_all P (task ∷ new) tasks all_new all = all-put_all P new (put_in task tasks) all_new.1 (all-put_in P task tasks all_new.0 all)
-
 pub prefix_of_itself : (path : List ℕ) → is_prefix path path ≡ true
 prefix_of_itself [] = refl
 prefix_of_itself (n ∷ path) = and_from (nat_eq n n) (is_prefix path path) (eq-eqb n n refl) (prefix_of_itself path)
+
+pub prefix_of_longer : (path more : List ℕ) → is_prefix path (path ++ more) ≡ true
+prefix_of_longer [] more = refl
+prefix_of_longer (n ∷ path) more = and_from (nat_eq n n) (is_prefix path (path ++ more)) (eq-eqb n n refl) (prefix_of_longer path more)
+
+pub prefixes_follow : (path other last : List ℕ) → is_prefix path other ≡ true → is_prefix other last ≡ true → is_prefix path last ≡ true
+prefixes_follow [] other last first second = refl
+prefixes_follow (n ∷ path) [] last first second = absurd (true≢false (sym first))
+prefixes_follow (n ∷ path) (m ∷ other) [] first second = absurd (true≢false (sym second))
+prefixes_follow (n ∷ path) (m ∷ other) (k ∷ last) first second =
+    let one = and_parts (nat_eq n m) (is_prefix path other) first in
+    let two = and_parts (nat_eq m k) (is_prefix other last) second in
+    and_from (nat_eq n k) (is_prefix path last) (subst (λ (number : ℕ). nat_eq number k ≡ true) (sym (eqb-true n m one.0)) two.0) (prefixes_follow path other last one.1 two.1)
 
 abbrev pub TasksApart : Task → Task → Type 0
 TasksApart task other = AreApart task.key.path other.key.path

@@ -8,8 +8,8 @@ use Rattle.app_laws.specs.Applications.{Application, IsFitTask, set_in}
 use Rattle.run_laws.specs.Basis.{Basis}
 use Rattle.run_laws.specs.Jobs.{Job}
 use Rattle.run_laws.specs.Laws.{JobsMayRun}
+use Rattle.run_laws.specs.Lists.{all_at, in_map}
 use Rattle.run_laws.specs.Sound.{Covers, IsOfNode}
-use Rattle.run_laws.proofs.Members.{all_at, in_map}
 
 module _ {V : Type 0} {app : Application V} (basis : Basis app) where
   -- each of the jobs of a sound execution may run

@@ -16,9 +16,9 @@ use Rattle.crew.specs.declared.answers.OverCause.TheVariants as cause
 use Rattle.run_laws.specs.Jobs.{Job}
 use Rattle.run_laws.specs.Events.{marked, drained, undrainable}
 use Rattle.run_laws.specs.Laws.{MarksAndDrainsKeepSound}
+use Rattle.run_laws.specs.Lists.{all-filter, all_at, all_from, length-part, pairwise-filter}
 use Rattle.run_laws.specs.Progress.{Progress}
 use Rattle.run_laws.specs.Sound.{IsSound}
-use Rattle.run_laws.proofs.Members.{all_from, all_at, all-filter, pairwise-filter, length-part}
 
 pub no_entries_in_order : IsInKeyOrder []
 unfolding IsStrictlySortedBy

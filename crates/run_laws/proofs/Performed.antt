@@ -15,24 +15,23 @@ use Rattle.cell_store.specs.declared.cell.Cell.TheVariants.{Out}
 use Rattle.cell_store.specs.Cells.{AreHome, AreWrittenOut, IsBundle, cell_at, cells_given, cells_taken, part_of}
 use Rattle.cell_store.specs.Values.{AgreesWith, ChangesOnlyWritten, homes}
 use Rattle.kdg_graph.specs.declared.change.Fresh.{Fresh}
-use Rattle.kdg_graph.specs.Node.{Node}
 use Rattle.kdg_graph.specs.Rewrite.{HaveNewKeys, fresh_tasks}
-use Rattle.kdg_graph.specs.Nodes.{node_at, node_with_key, tasks_of}
+use Rattle.kdg_graph.specs.Nodes.{node_with_key, tasks_of}
 use Rattle.output_log.specs.Entries.{Entry, IsNewEntry}
 use Rattle.app_laws.specs.declared.app.Effect.{Effect}
 use Rattle.app_laws.specs.declared.child.Child.{Child}
-use Rattle.app_laws.specs.Applications.{Application, IsFitTask, effect_of, handed, set_in}
+use Rattle.app_laws.specs.Applications.{Application, IsFitTask, handed, set_in}
 use Rattle.app_laws.specs.Execution.{children_from}
 use Rattle.app_laws.specs.Order.{AreApart, Pairwise, is_prefix}
 use Rattle.run_laws.specs.Jobs.{Done, Job}
 use Rattle.run_laws.specs.Events.{fresh_from}
 use Rattle.run_laws.specs.FinishBasis.{FinishBasis}
 use Rattle.run_laws.specs.Finishes.{IsEnded}
+use Rattle.run_laws.specs.Lists.{all-put_in, all-swapped, all-weaker, all_at, all_in_middle, in_map}
 use Rattle.crew.specs.Jobs.{IsPerformed}
 use Rattle.run_laws.specs.Progress.{Progress}
 use Rattle.run_laws.specs.Sound.{Covers, IsOfNode, IsSound, is_written}
-use Rattle.run_laws.proofs.FinishMembers.{all_at, all_in_middle, in_map}
-use Rattle.run_laws.proofs.FinishTasks.{TasksApart, all-put_in, all-swapped, all-weaker, apart_from_put_in, prefix_of_itself}
+use Rattle.run_laws.proofs.FinishTasks.{TasksApart, apart_from_put_in, prefix_of_itself}
 
 -- what is written is there
 pub some_where_written : (access : Option Access) → allows_write access ≡ true → is_some access ≡ true

@@ -1,21 +1,15 @@
 -- An execution whose pending tasks become first tasks.
-use Rattle.std.proofs.Common.{◌≡◌, ℕ, ◌+◌, ◌^◌, ◌<◌, List, [], length, sym, ap, subst, ◌∙◌, arith}
+use Rattle.std.proofs.Common.{◌≡◌, List, length, ap, subst, ◌∙◌, arith}
 use Rattle.task_order.specs.declared.start.Start.{Start}
-use Rattle.task_order.specs.declared.task.Task.{Task}
-use Rattle.cell_store.specs.Values.{homes, values_of}
-use Rattle.output_log.specs.Entries.{Entry}
 use Rattle.kdg_graph.specs.Node.{Node}
 use Rattle.kdg_graph.specs.Nodes.{tasks_of}
-use Rattle.app_laws.specs.Applications.{Application, AreFitStarts}
+use Rattle.app_laws.specs.Applications.{Application}
 use Rattle.app_laws.specs.Names.{AreListed}
-use Rattle.app_laws.specs.Renaming.{AreNamed, ListedTasksAreNamed}
 use Rattle.app_laws.specs.RenamingLaws.{as_many_listed}
 use Rattle.run_laws.specs.Basis.{Basis}
 use Rattle.run_laws.specs.Answers.{AreFirstNodes}
 use Rattle.run_laws.specs.Progress.{Progress}
-use Rattle.run_laws.specs.Renaming.{IsRenamed, RenamingsKeepSound}
-use Rattle.run_laws.specs.Sound.{IsSound}
-use Rattle.run_laws.specs.StandingLaws.{NoneRuns}
+use Rattle.run_laws.specs.Renaming.{RenamingsKeepSound}
 use Rattle.run_laws.proofs.AtRest.{at_rest, home_values}
 use Rattle.run_laws.proofs.Beginnings.{first_nodes_are_sound}
 use Rattle.run_laws.proofs.Listed.{listed_fit}

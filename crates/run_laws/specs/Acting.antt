@@ -5,12 +5,13 @@ use Rattle.kdg_graph.specs.declared.node_id.NodeId.{NodeId}
 use Rattle.kdg_graph.specs.Node.{Node}
 use Rattle.kdg_graph.specs.Nodes.{node_at, task_at}
 use Rattle.app_laws.specs.Applications.{Application}
+use Rattle.commuting.specs.States.{after_task}
 use Rattle.crew.specs.declared.answers.OverCause.{OverCause}
 use Rattle.crew.specs.declared.answers.OverCause.TheVariants as cause
 use Rattle.run_laws.specs.Jobs.{Done, Job}
 use Rattle.run_laws.specs.Events.{IsClaimed, IsFinished, IsOverLimit, budget_marked, marked}
 use Rattle.crew.specs.Jobs.{IsPerformed}
-use Rattle.run_laws.specs.Progress.{Progress}
+use Rattle.run_laws.specs.Progress.{Progress, whole_state}
 use Rattle.run_laws.specs.Sound.{IsSound}
 
 -- a task that stands for none
@@ -85,3 +86,8 @@ module _ {V : Type 0} (app : Application V) where
 
   abbrev pub ActFaultsKeepSound : Type 0
   ActFaultsKeepSound = (old now : Progress V) (id : NodeId) (fault : OverCause) → IsActFault old id now fault → RefusedActStaysSound old id now
+
+  -- where it has acted, the whole cells and the pending tasks are what the operator makes of those before
+  abbrev pub ActsActOnWhole : Type 0
+  ActsActOnWhole = (old now : Progress V) (id : NodeId) (node : Node) (jobs : List (Job V)) (values : List V) → HasActed old id now → node_at old.nodes id ≡ Some node →
+      IsSound app old jobs values → whole_state now (app.act node.task values).cells ≡ after_task app.act node.task (whole_state old values)

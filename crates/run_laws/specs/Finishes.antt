@@ -14,7 +14,7 @@ use Rattle.crew.specs.Jobs.{IsPerformed}
 use Rattle.run_laws.specs.Events.{IsFinished, IsOverLimit, fresh_from}
 use Rattle.run_laws.specs.Jobs.{Done, Job}
 use Rattle.run_laws.specs.Progress.{Progress, whole_state}
-use Rattle.run_laws.specs.Sound.{Covers, IsSound, IsWhole, JobsMatch, KeysAndCounts, is_unblocked}
+use Rattle.run_laws.specs.Sound.{IsSound}
 
 module _ {V : Type 0} (app : Application V) where
   -- what is known of the node of a job that was performed
@@ -75,23 +75,3 @@ module _ {V : Type 0} (app : Application V) where
   -- and they are ready again
   abbrev pub FinishesStayReady : Type 0
   FinishesStayReady = OfEachEnd (λ old values done job others now. IsReady app (whole_state now (app.act job.task values).cells))
-
-  -- the counts still add up, and each path is new
-  abbrev pub FinishesKeepKeysAndCounts : Type 0
-  FinishesKeepKeysAndCounts = OfEachEnd (λ old values done job others now. KeysAndCounts app now)
-
-  -- the other jobs are those of the nodes that still run
-  abbrev pub FinishesKeepJobs : Type 0
-  FinishesKeepJobs = OfEachEnd (λ old values done job others now. JobsMatch app now.nodes others)
-
-  -- the whole cells have the values that the operator makes, and away is just what the other jobs write
-  abbrev pub FinishesKeepWhole : Type 0
-  FinishesKeepWhole = OfEachEnd (λ old values done job others now. IsWhole app now.cells others (app.act job.task values).cells)
-
-  -- the recorded sets of the nodes still have all of the declared ones
-  abbrev pub FinishesKeepCover : Type 0
-  FinishesKeepCover = OfEachEnd (λ old values done job others now. AllByRecursion (Covers app now.cells (app.act job.task values).cells) now.nodes)
-
-  -- the nodes that still run stay unblocked
-  abbrev pub FinishesKeepUnblocked : Type 0
-  FinishesKeepUnblocked = OfEachEnd (λ old values done job others now. AllByRecursion (λ node. node.running ≡ true → is_unblocked app now.nodes node ≡ true) now.nodes)

@@ -1,5 +1,5 @@
 -- What events keep, whatever order the tasks end in.
-use Rattle.std.specs.Prelude.{◌≡◌, ◌≢◌, ◌≤◌, ℕ, true, List, Contains, [], ◌∷◌, ◌++◌, length, Option, None}
+use Rattle.std.specs.Prelude.{◌≡◌, ◌≢◌, ◌≤◌, ℕ, true, List, Contains, [], ◌∷◌, length, Option, None}
 use Rattle.task_order.specs.declared.start.Start.{Start}
 use Rattle.cell_store.specs.Cells.{AreHome}
 use Rattle.kdg_graph.specs.Node.{Node}

@@ -1,5 +1,5 @@
 ghost use Rattle.run_laws.specs.FinishBasis.{FinishBasis};
-ghost use Rattle.run_laws.specs.Finishes.{EffectsAreOfWhole, FinishesActOnWhole, FinishesStayReady, FinishesKeepKeysAndCounts, FinishesKeepJobs, FinishesKeepWhole, FinishesKeepCover, FinishesKeepUnblocked, PerformedTasksAreKnown};
+ghost use Rattle.run_laws.specs.Finishes.{EffectsAreOfWhole, FinishesActOnWhole, FinishesStayReady, PerformedTasksAreKnown};
 ghost use Rattle.run_laws.specs.Laws.{FinishesKeepSound};
 
 use app_laws::{App, family_laws, lawful};
@@ -53,49 +53,9 @@ pub fn finish_state_laws<A: App>()
     finish_basis::<A>();
 }
 
-/// The counts still add up after a task has ended, and each path is new.
-pub fn finish_count_laws<A: App>()
-    ensures { (app : A) → FinishesKeepKeysAndCounts (A.meaning app) }
-{
-    finish_basis::<A>();
-}
-
-/// The other jobs are those of the nodes that still run.
-pub fn finish_job_laws<A: App>()
-    ensures { (app : A) → FinishesKeepJobs (A.meaning app) }
-{
-    finish_basis::<A>();
-}
-
-/// The values of the other cells are where they were, and those that the task wrote are home.
-pub fn finish_cell_laws<A: App>()
-    ensures { (app : A) → FinishesKeepWhole (A.meaning app) }
-{
-    finish_basis::<A>();
-}
-
-/// The recorded sets of the nodes still have all of the declared ones.
-pub fn finish_set_laws<A: App>()
-    ensures { (app : A) → FinishesKeepCover (A.meaning app) }
-{
-    finish_basis::<A>();
-}
-
-/// No earlier node conflicts with one that still runs, and its task is still safe.
-pub fn finish_order_laws<A: App>()
-    ensures { (app : A) → FinishesKeepUnblocked (A.meaning app) }
-{
-    finish_basis::<A>();
-}
-
 /// Where a task ends, a sound execution stays sound.
 pub fn sound_finish_laws<A: App>()
     ensures { (app : A) → FinishesKeepSound (A.meaning app) }
 {
-    finish_state_laws::<A>();
-    finish_count_laws::<A>();
-    finish_job_laws::<A>();
-    finish_cell_laws::<A>();
-    finish_set_laws::<A>();
-    finish_order_laws::<A>();
+    finish_basis::<A>();
 }

@@ -1,9 +1,10 @@
-ghost use Rattle.run_laws.specs.Acting.{ActFaultsKeepSound, ActsKeepSound};
+ghost use Rattle.run_laws.specs.Acting.{ActFaultsKeepSound, ActsActOnWhole, ActsKeepSound};
 ghost use Rattle.run_laws.specs.Basis.{CellLaws, LowerLaws, Basis};
 ghost use Rattle.run_laws.specs.Laws.{JobsMayRun, BeginningsAreSound, ClaimsKeepSound, ClaimsTakeOneClear, ClearNodesAreHome, EventsKeepSound, MarksAndDrainsKeepSound, RecordedSetsSuffice, SomeIsClear, WholeIsOne};
 ghost use Rattle.run_laws.specs.Renaming.{FirstNodesAreAsMany, ListedTasksFit, RenamingsKeepSound};
+ghost use Rattle.run_laws.specs.Rest.{ActsLeaveClear, ClearNodesStayClear, IdleIsSound, NoJobsAreRest, NoJobsWhereNoneRuns};
 
-use crate::finish_laws::sound_finish_laws;
+use crate::finish_laws::{finish_basis, finish_state_laws, sound_finish_laws};
 use app_laws::{App, lawful};
 use cell_store::{location_laws, value_laws};
 use commuting::standing_laws;
@@ -100,13 +101,15 @@ pub fn clear_claim_laws<A: App>()
     basis::<A>();
 }
 
-/// A task that acts keeps an execution sound, whatever jobs are in hand beside it; and so does one that
-/// doesn't come to its end.
+/// A task that acts keeps an execution sound, whatever jobs are in hand beside it, and the whole cells are
+/// what its operator makes of them; one that doesn't come to its end keeps it sound too.
 pub fn act_laws<A: App>()
     ensures sound { (app : A) → ActsKeepSound (A.meaning app) }
     ensures fault { (app : A) → ActFaultsKeepSound (A.meaning app) }
+    ensures whole { (app : A) → ActsActOnWhole (A.meaning app) }
 {
     basis::<A>();
+    finish_state_laws::<A>();
     sound_finish_laws::<A>();
 }
 
@@ -122,5 +125,25 @@ pub fn event_laws<A: App>()
     ensures sound { (app : A) → EventsKeepSound (A.meaning app) }
 {
     basis::<A>();
+    sound_finish_laws::<A>();
+}
+
+/// While nothing is running, all cells are home, each recorded set is the declared one, and the least
+/// node is clear.
+pub fn rest_laws<A: App>()
+    ensures no_jobs { (app : A) → NoJobsWhereNoneRuns (A.meaning app) }
+    ensures rest { (app : A) → NoJobsAreRest (A.meaning app) }
+    ensures idle { (app : A) → IdleIsSound (A.meaning app) }
+{
+    basis::<A>();
+}
+
+/// A clear node stays clear until it is claimed, whatever else happens.
+pub fn stay_clear_laws<A: App>()
+    ensures stay { (app : A) → ClearNodesStayClear (A.meaning app) }
+    ensures acts { (app : A) → ActsLeaveClear (A.meaning app) }
+{
+    basis::<A>();
+    finish_basis::<A>();
     sound_finish_laws::<A>();
 }

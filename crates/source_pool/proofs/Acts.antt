@@ -1,14 +1,15 @@
 -- Clear tasks act one after another, with nothing between the claim of one and its end.
-use Rattle.std.proofs.Common.{◌≡◌, inl, inr, ℕ, suc, not, Bool, true, false, cond, List, [], ◌∷◌, Some, refl, sym, ap, subst, ◌∙◌, arith}
+use Rattle.std.proofs.Common.{◌≡◌, ◌≢◌, ⊎_elim, ℕ, suc, ◌+◌, not, Bool, true, false, cond, List, [], ◌∷◌, length, Some, refl, sym, ap, subst, ◌∙◌}
 use Rattle.std.specs.Prelude.{Contains, IsSome}
 use Rattle.std.specs.List.{AllByRecursion, filter}
-use Rattle.std.specs.Option.{is_some}
+use Rattle.std.specs.Option.{is_some, option_or}
 use Rattle.std.specs.declared.cmp.Ordering.TheVariants.{Less}
 use Rattle.std.proofs.lemmas.Bool.{true≢false, and_from}
 use Rattle.std.proofs.lemmas.Option.{same_Some}
 use Rattle.task_order.specs.declared.task.Task.{Task}
 use Rattle.task_order.specs.Key.{key_cmp}
 use Rattle.task_order.specs.TaskList.{IsAscending}
+use Rattle.output_log.specs.Entries.{with_entry}
 use Rattle.kdg_graph.specs.declared.node_id.NodeId.{NodeId}
 use Rattle.kdg_graph.specs.Node.{Node}
 use Rattle.kdg_graph.specs.Nodes.{ids_of, node_at, tasks_of}
@@ -16,19 +17,20 @@ use Rattle.app_laws.specs.Applications.{Application}
 use Rattle.commuting.specs.Clear.{IsClear, IsReady}
 use Rattle.commuting.specs.Rounds.{clear_tasks}
 use Rattle.commuting.specs.States.{State, after_task, after_tasks}
-use Rattle.run_laws.specs.Jobs.{Done, Job}
-use Rattle.run_laws.specs.Acting.{IsPlayed}
-use Rattle.run_laws.specs.Events.{IsClaimed, IsFinished, IsOverLimit, clear_nodes, is_clear}
-use Rattle.run_laws.specs.Laws.{Event, Moment, Reaches}
+use Rattle.crew.specs.declared.answers.OverCause.TheVariants as cause
+use Rattle.run_laws.specs.Acting.{HasActed}
+use Rattle.run_laws.specs.Course.{HasCome}
+use Rattle.run_laws.specs.Events.{clear_nodes, is_clear}
+use Rattle.run_laws.specs.Jobs.{Job}
+use Rattle.run_laws.specs.Lists.{all_at, all_from, from_filter, from_map, in_filter, in_map}
 use Rattle.run_laws.specs.Progress.{Progress, whole_state}
+use Rattle.run_laws.specs.Rest.{IsClearNode}
 use Rattle.run_laws.specs.Sound.{HasJob, IsSound}
-use Rattle.run_laws.specs.StandingLaws.{ClaimsNode, IsClearNode}
 use Rattle.source_pool.specs.Basis.{Basis}
-use Rattle.source_pool.specs.Course.{AreAllDone, IsActing, IsAtRest, IsDrawing, IsEnding, IsJobDone}
+use Rattle.source_pool.specs.Course.{IsActing, IsAtRest}
 use Rattle.source_pool.specs.Laws.{ActsBegin, ActsComeToRest, ActsGoOn, FirstMayAct, RoundsHaveActs, TooManyActsNeverEnd}
-use Rattle.source_pool.proofs.Drawing.{claims_go_on, drawings_begin, found_is_there, unblocked}
-use Rattle.source_pool.proofs.Ending.{ends_come_to_rest, ends_go_on, too_many_never_end}
-use Rattle.source_pool.proofs.Lists.{all_at, all_from, cases, from_filter, from_map, here, in_filter, in_map, none, same_tasks}
+use Rattle.source_pool.proofs.Drawing.{drawings_begin, unblocked}
+use Rattle.source_pool.proofs.Lists.{same_tasks}
 
 -- ---- some of the nodes
 
@@ -76,7 +78,7 @@ module _ {V : Type 0} {app : Application V} (basis : Basis app) where
     values = rest.values
 
     sound : IsSound app now [] values
-    sound = rest.come.sound
+    sound = rest.course.come.sound
 
     node_is_clear : (node : Node) → Contains nodes node → IsClearNode app now.nodes node
     node_is_clear node has = from_filter (is_clear app now.nodes) now.nodes node has
@@ -127,7 +129,7 @@ module _ {V : Type 0} {app : Application V} (basis : Basis app) where
   }
 
   pub rounds_have_acts : RoundsHaveActs app
-  rounds_have_acts start now cells state text rest some empty = basis.some_clear now rest.values rest.come.sound some (no_nodes (clear_nodes app now.nodes) (sym empty))
+  rounds_have_acts start now cells state text rest some empty = basis.some_clear now rest.values rest.course.come.sound some (no_nodes (clear_nodes app now.nodes) (sym empty))
 
   -- ---- the first of those that are left
 
@@ -162,7 +164,7 @@ module _ {V : Type 0} {app : Application V} (basis : Basis app) where
     first = first_left now acting.state target id ids acting.nodes acting.ids_are acting.clear acting.in_order acting.leads
 
     found : node_at now.nodes first.node.id ≡ Some first.node
-    found = basis.have_ids now.nodes first.node acting.rest.come.sound.keys_and_counts.graph first.clear.0
+    found = basis.have_ids now.nodes first.node acting.rest.course.come.sound.keys_and_counts.graph first.clear.0
 
     of_clear : Contains (ids_of (clear_nodes app now.nodes)) id
     of_clear =
@@ -172,117 +174,64 @@ module _ {V : Type 0} {app : Application V} (basis : Basis app) where
     has_node : IsSome (node_at now.nodes id)
     has_node = subst (λ (i : NodeId). IsSome (node_at now.nodes i)) (sym first.id_is) (ap is_some found)
 
-    -- the state once it has acted
-    abbrev next_state : State V
-    next_state = after_task app.act first.node.task acting.state
+    at_id : node_at now.nodes id ≡ Some first.node
+    at_id = ap (node_at now.nodes) first.id_is ∙ found
 
-    module _ (midway : Progress V) (done : Done V) (played : IsPlayed app now id midway done) where
-      abbrev job : Job V
-      job = played.job
+    -- the others have other ids, since their keys are later
+    differs : (other : Node) → Contains first.others other → other.id ≢ id
+    differs other has same =
+        let later = all_at (λ (t : Task). key_cmp first.node.task.key t.key ≡ Less) (tasks_of first.others) other.task first.later (in_map (λ (n : Node). n.task) first.others other has) in
+        let there = (all_at (IsClearNode app now.nodes) first.others other first.others_clear has).0 in
+        let is = same_Some other first.node (sym (basis.have_ids now.nodes other acting.rest.course.come.sound.keys_and_counts.graph there) ∙ ap (node_at now.nodes) same ∙ at_id) in
+        basis.irreflexive first.node.task.key other.task.key later (ap (λ (n : Node). n.task.key) (sym is))
 
-      abbrev claimed : IsClaimed app now played.started.pick midway job
-      claimed = played.started.claimed
-
-      -- what is claimed is the first node
-      same_node : claimed.node ≡ first.node
-      same_node =
-          let there = (from_filter (is_clear app now.nodes) now.nodes claimed.node (found_is_there basis (clear_nodes app now.nodes) _ claimed.node claimed.chosen)).0 in
-          let by_id = basis.have_ids now.nodes claimed.node acting.rest.come.sound.keys_and_counts.graph there in
-          let same_id : claimed.node.id ≡ first.node.id = ap (λ (j : Job V). j.node) (sym claimed.job_is) ∙ played.started.node ∙ first.id_is in
-          same_Some claimed.node first.node (sym by_id ∙ ap (node_at now.nodes) same_id ∙ found)
-
-      task_is : job.task ≡ first.node.task
-      task_is = ap (λ (j : Job V). j.task) claimed.job_is ∙ ap (λ (n : Node). n.task) same_node
-
-      drawing : IsDrawing app start cells acting.state text midway (job ∷ [])
-      drawing = claims_go_on basis start now midway cells acting.state text [] played.started.pick job (drawings_begin basis start now cells acting.state text acting.rest) claimed
-
-      is_done : IsJobDone app job done
-      is_done = record { node = played.performed.node; task = played.performed.task; effect = played.performed.effect }
-
-      all_done : AreAllDone app (job ∷ []) (done ∷ [])
-      all_done = record {
-        each = λ k has. elim (cases job k [] has) [
-          | inl same ↦ (done, here done [], subst (λ (j : Job V). IsJobDone app j done) same is_done)
-          | inr later ↦ absurd (none k later)
-        ];
-        no_other = λ d has. elim (cases done d [] has) [
-          | inl same ↦ (job, here job [], subst (IsJobDone app job) same is_done)
-          | inr later ↦ absurd (none d later)
-        ];
-      }
-
-      -- its job is the only one to be ended
-      ending : IsEnding app start cells next_state text midway (done ∷ [])
-      ending = record {
-        entries = drawing.entries;
-        jobs = job ∷ [];
-        values = drawing.values;
-        come = drawing.come;
-        all_done = all_done;
-        in_order = (tt, tt);
-        leads = ap (after_task app.act done.task) drawing.state_is ∙ ap (λ (t : Task). after_task app.act t acting.state) (sym played.performed.task ∙ task_is);
-      }
-
-      module _ (next : Progress V) (within : ¬ IsOverLimit app midway done) (finished : IsFinished app midway done next) where
-        abbrev events : List (Event V)
-        events = Event.claims played.started.pick job ∷ Event.finishes done ∷ []
-
-        abbrev at_first : Moment V
-        at_first = record { progress = now; jobs = [] }
-
-        abbrev at_last : Moment V
-        at_last = record { progress = next; jobs = [] }
-
-        reached : Reaches app events at_first at_last
-        reached = (
-          record { progress = midway; jobs = job ∷ [] },
-          (acting.rest.come.over, claimed, refl),
-          (at_last, ((job, played.performed), within, finished), refl),
-        )
-
-        -- the others have other keys
-        not_claimed : (other : Node) → Contains first.others other → AllByRecursion (λ event. ¬ ClaimsNode app other event) events
-        not_claimed other has =
-            let later = all_at (λ (t : Task). key_cmp first.node.task.key t.key ≡ Less) (tasks_of first.others) other.task first.later (in_map (λ (n : Node). n.task) first.others other has) in
-            let differs = basis.irreflexive first.node.task.key other.task.key later in
-            ((λ same. differs (ap (λ (t : Task). t.key) (sym task_is) ∙ same)), ((λ never. never), tt))
-
-        stay_clear : (other : Node) → Contains first.others other → IsClearNode app next.nodes other
-        stay_clear other has =
-            basis.stay_clear events at_first at_last other (acting.rest.values, acting.rest.come.sound) reached (not_claimed other has)
-            (all_at (IsClearNode app now.nodes) first.others other first.others_clear has)
-
-        goes_on : IsActing app start cells target text next ids
-        goes_on = record {
-          state = next_state;
-          rest = ends_come_to_rest basis start next cells next_state text (ends_go_on basis start midway next cells next_state text done [] ending within finished);
+    goes_on : (next : Progress V) → HasActed app now id next → IsActing app start cells target text next ids
+    goes_on next acted =
+        let course = acting.rest.course in
+        let values = acting.rest.values in
+        let node = first.node in
+        record {
+          state = after_task app.act node.task acting.state;
+          rest = record {
+            values = (app.act node.task values).cells;
+            course = record {
+              drained = course.drained;
+              entries = with_entry node.task.key (app.act node.task values).text course.entries;
+              come = basis.acts start cells course.drained course.entries now next id node [] values course.come acted at_id;
+              text_is = course.text_is;
+              over = ap (λ (p : Progress V). p.over) acted.finished.after ∙ ap (λ (p : Progress V). p.over) acted.played.started.claimed.after ∙ course.over;
+            };
+            state_is = basis.act_on_whole now next id node [] values acted at_id course.come.sound ∙ ap (after_task app.act node.task) acting.rest.state_is;
+          };
           nodes = first.others;
           ids_are = first.ids_are;
-          clear = all_from (IsClearNode app next.nodes) first.others stay_clear;
+          clear = all_from (IsClearNode app next.nodes) first.others (λ other has.
+              basis.acts_leave_clear now next id other [] values course.come.sound acted (differs other has) (all_at (IsClearNode app now.nodes) first.others other first.others_clear has));
           in_order = first.in_order;
           leads = first.leads;
         }
 
-        one_more : next.ended ≡ suc now.ended
-        one_more = ap (λ (p : Progress V). p.ended) finished.after ∙ ap (λ (p : Progress V). suc p.ended) claimed.after
-
   pub first_may_act : FirstMayAct app
-  first_may_act start now cells target text id ids acting = (of_clear start now cells target text id ids acting, has_node start now cells target text id ids acting, acting.rest.come.over)
+  first_may_act start now cells target text id ids acting = (of_clear start now cells target text id ids acting, has_node start now cells target text id ids acting, acting.rest.course.over)
 
   pub acts_go_on : ActsGoOn app
   acts_go_on start now next cells target text id ids acting acted = (
-    goes_on start now cells target text id ids acting acted.midway acted.done acted.played next acted.within acted.finished,
-    one_more start now cells target text id ids acting acted.midway acted.done acted.played next acted.within acted.finished,
+    goes_on start now cells target text id ids acting next acted,
+    ap (λ (p : Progress V). p.ended) acted.finished.after ∙ ap (λ (p : Progress V). suc p.ended) acted.played.started.claimed.after,
   )
 
+  -- the mark that is left tells of it
   pub too_many_acts_never_end : TooManyActsNeverEnd app
   too_many_acts_never_end start now next cells target text id ids created limit acting many =
-      let ends = ending start now cells target text id ids acting many.midway many.done many.played in (
-        too_many_never_end basis start many.midway cells (next_state start now cells target text id ids acting) text many.done [] ends many.above,
-        many.limit_is ∙ ends.come.limit,
-        omega (arith, many.above, many.created_is, many.limit_is),
-      )
+      let course = acting.rest.course in
+      let Come = λ (held : List (Job V)). HasCome app start cells course.drained course.entries next held acting.rest.values in
+      let new = cause.Budget (many.midway.created + length many.done.effect.children) many.midway.limit in
+      let over : next.over ≡ Some (cause.Budget created limit) =
+      ap (λ (p : Progress V). p.over) many.after ∙ ap (λ old. option_or old (Some new)) (ap (λ (p : Progress V). p.over) many.played.started.claimed.after ∙ course.over)
+      ∙ ap (λ n. Some (cause.Budget n many.midway.limit)) (sym many.created_is) ∙ ap (λ n. Some (cause.Budget created n)) (sym many.limit_is) in
+      let held = basis.act_faults start cells course.drained course.entries now next id (cause.Budget created limit) [] acting.rest.values course.come many in
+      let mark = ⊎_elim (λ (come : Come []). come.true_mark created limit over) (λ (more : (job : Job V) × (job.node ≡ id) × Come (job ∷ [])). more.2.true_mark created limit over) held in
+      (mark.2, mark.0, mark.1)
 
   pub acts_come_to_rest : ActsComeToRest app
   acts_come_to_rest start now cells target text acting =

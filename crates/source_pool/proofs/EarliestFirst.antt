@@ -11,8 +11,8 @@ use Rattle.task_order.specs.Key.{key_cmp, key_cmp_total}
 use Rattle.task_order.specs.Laws.{EarlierIsConnected}
 use Rattle.task_order.specs.TaskList.{HasDistinctKeys, IsAscending, IsNewKey}
 use Rattle.run_laws.specs.Jobs.{Done, Job}
+use Rattle.run_laws.specs.Lists.{all_at, all_from, in_map}
 use Rattle.source_pool.specs.Course.{HaveOwnKeys, done_tasks}
-use Rattle.source_pool.proofs.Lists.{all_at, all_from, in_map}
 
 -- ---- lists of anything
 

@@ -27,7 +27,7 @@ some_pending {V} app start now cells state text rest left none =
 
 module _ {V : Type 0} {app : Application V} (home : WholeIsHome app) where
   pub state_is : (start now : Progress V) (cells : List V) (state : State V) (text : List ℕ) → IsAtRest app start cells state text now → state ≡ state_at_rest now
-  state_is start now cells state text rest = sym rest.state_is ∙ ap (whole_state now) (home now rest.values rest.come.sound).1
+  state_is start now cells state text rest = sym rest.state_is ∙ ap (whole_state now) (home now rest.values rest.course.come.sound).1
 
   pub rest_at : (start now : Progress V) (cells : List V) (state : State V) (text : List ℕ) → IsAtRest app start cells state text now → IsAtRest app start cells (state_at_rest now) text now
   rest_at start now cells state text rest = subst (λ state. IsAtRest app start cells state text now) (state_is start now cells state text rest) rest

@@ -28,7 +28,7 @@ module _ {V : Type 0} (app : Application V) where
       → IsEnding app start (values_of start.cells) target text now (done ∷ dones) → (fault : FinishFault V) → IsFinishRefusal app now done next fault → IsRunFault app start (cause_of fault)
   refused never start now next target text done dones ending (refusal.Budget back created limit) is = record {
     too_long = never start now (values_of start.cells) target text done dones ending is.1;
-    limit_is = is.3 ∙ ending.come.limit;
+    limit_is = is.3 ∙ ending.course.come.limit;
     above = omega (arith, is.1, is.2, is.3);
   }
   refused never start now next target text done dones ending (refusal.NoRoom back) is = tt

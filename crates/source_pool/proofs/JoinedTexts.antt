@@ -1,15 +1,45 @@
 -- The texts of a log where what is left of a run is joined to what came before it.
-use Rattle.std.proofs.Common.{◌≡◌, ◌≢◌, List, [], ◌∷◌, ◌++◌, map, refl, sym, ap, ◌∙◌}
+use Rattle.std.proofs.Common.{◌≡◌, ◌≢◌, not, cond, ℕ, List, [], ◌∷◌, ◌++◌, append_assoc, map, refl, sym, ap, ◌∙◌}
 use Rattle.std.specs.List.{AllByRecursion, flat_map}
+use Rattle.std.specs.Ordering.{is_lt}
 use Rattle.std.specs.declared.cmp.Ordering.TheVariants.{Less}
+use Rattle.std.proofs.lemmas.List.Elements.{filter-append}
 use Rattle.std.proofs.lemmas.List.Folds.{flat_map-map}
-use Rattle.task_order.specs.Key.{key_cmp}
-use Rattle.output_log.specs.Entries.{Entry, IsInKeyOrder, IsNewEntry, ShareNoKey, joined_by_key, joined_texts, with_entry, with_texts}
+use Rattle.task_order.specs.declared.key.Key.{Key}
+use Rattle.task_order.specs.Key.{at_key, key_cmp}
+use Rattle.output_log.specs.Entries.{Entry, IsInKeyOrder, IsNewEntry, ShareNoKey, entries_before, entries_from, is_entry_before, joined_by_key, joined_texts, with_entry, with_texts}
 use Rattle.app_laws.specs.Applications.{Application}
 use Rattle.commuting.specs.Standing.{IsLaterLog}
+use Rattle.run_laws.specs.Lists.{all_at, all_from}
 use Rattle.source_pool.specs.Basis.{Basis}
-use Rattle.source_pool.proofs.Lists.{all_at, all_from}
-use Rattle.source_pool.proofs.Logged.{put_behind}
+
+-- ---- entries behind earlier ones
+
+-- the entries are earlier than the key
+abbrev AreBefore : Key → List Entry → Type 0
+AreBefore key entries = AllByRecursion (λ (entry : Entry). key_cmp entry.0 key ≡ Less) entries
+
+all_before : (key : Key) (entries : List Entry) → AreBefore key entries → entries_before (at_key key) entries ≡ entries
+all_before key [] all = refl
+all_before key (entry ∷ entries) all =
+    ap (λ order. cond (is_lt order) (entry ∷ entries_before (at_key key) entries) (entries_before (at_key key) entries)) all.0
+    ∙ ap (λ rest. entry ∷ rest) (all_before key entries all.1)
+
+none_from : (key : Key) (entries : List Entry) → AreBefore key entries → entries_from (at_key key) entries ≡ []
+none_from key [] all = refl
+none_from key (entry ∷ entries) all =
+    ap (λ order. cond (not (is_lt order)) (entry ∷ entries_from (at_key key) entries) (entries_from (at_key key) entries)) all.0 ∙ none_from key entries all.1
+
+-- an entry comes behind those that are earlier
+put_behind : (key : Key) (text : List ℕ) (front back : List Entry) → AreBefore key front → with_entry key text (front ++ back) ≡ front ++ with_entry key text back
+put_behind key text front back all =
+    let before : entries_before (at_key key) (front ++ back) ≡ front ++ entries_before (at_key key) back =
+    filter-append (is_entry_before (at_key key)) front back ∙ ap (λ first. first ++ entries_before (at_key key) back) (all_before key front all) in
+    let from : entries_from (at_key key) (front ++ back) ≡ entries_from (at_key key) back =
+    filter-append (λ entry. not (is_entry_before (at_key key) entry)) front back ∙ ap (λ first. first ++ entries_from (at_key key) back) (none_from key front all) in
+    ap (λ first. first ++ (key, text) ∷ entries_from (at_key key) (front ++ back)) before
+    ∙ ap (λ last. (front ++ entries_before (at_key key) back) ++ (key, text) ∷ last) from
+    ∙ append_assoc front (entries_before (at_key key) back) ((key, text) ∷ entries_from (at_key key) back)
 
 share_turned : (entries others : List Entry) → ShareNoKey entries others → ShareNoKey others entries
 share_turned entries others new =
@@ -30,12 +60,6 @@ same_texts log other same =
     sym (flat_map-map (λ text. text) (λ (entry : Entry). entry.1) log) ∙ ap (flat_map (λ text. text)) same ∙ flat_map-map (λ text. text) (λ (entry : Entry). entry.1) other
 
 module _ {V : Type 0} {app : Application V} (basis : Basis app) where
-  -- what is left comes to the same log where it is joined last
-  joined_last : (log entries rest : List Entry) → IsInKeyOrder entries → IsInKeyOrder rest → ShareNoKey entries rest
-      → joined_by_key log (joined_by_key rest entries) ≡ joined_by_key (joined_by_key log entries) rest
-  joined_last log entries rest ordered last new =
-      ap (joined_by_key log) (basis.joins_commute rest entries last ordered (share_turned entries rest new)) ∙ sym (basis.joins_associate log entries rest ordered last new)
-
   -- entries without text are not heard, wherever the rest comes among them
   silent_between : (front silent rest : List Entry) → IsInKeyOrder silent → with_texts silent ≡ [] → IsLaterLog front rest → ShareNoKey silent rest
       → joined_texts (joined_by_key (front ++ silent) rest) ≡ joined_texts front ++ joined_texts rest
@@ -46,7 +70,7 @@ module _ {V : Type 0} {app : Application V} (basis : Basis app) where
 
   pub texts_of_rest : (log entries drained silent rest : List Entry) → joined_by_key log entries ≡ drained ++ silent → IsInKeyOrder entries → IsInKeyOrder silent
       → with_texts silent ≡ [] → IsLaterLog drained rest → ShareNoKey entries rest → ShareNoKey silent rest
-      → joined_texts (joined_by_key log (joined_by_key rest entries)) ≡ joined_texts drained ++ joined_texts rest
+      → joined_texts (joined_by_key log (joined_by_key entries rest)) ≡ joined_texts drained ++ joined_texts rest
   texts_of_rest log entries drained silent rest all ordered silent_ordered none logs new unheard =
-      ap joined_texts (joined_last log entries rest ordered logs.ordered new ∙ ap (λ first. joined_by_key first rest) all)
+      ap joined_texts (sym (basis.joins_associate log entries rest ordered logs.ordered new) ∙ ap (λ first. joined_by_key first rest) all)
       ∙ silent_between drained silent rest silent_ordered none logs unheard

@@ -32,8 +32,8 @@ module _ {V : Type 0} {app : Application V} where
       IsAtRest app start cells (state_at_rest now) text now → IsRenamed app now next → ((values : List V) → IsSound app now [] values → IsSound app next [] values) →
       BeginsAtRest app next
   next_begins home starts start now next cells text rest renamed keeps =
-      let sound = keeps rest.values rest.come.sound in
-      starts next (values_of next.cells) (subst (IsSound app next []) (home next rest.values sound).1 sound) (ap (λ (p : Progress V). p.over) renamed.after ∙ rest.come.over)
+      let sound = keeps rest.values rest.course.come.sound in
+      starts next (values_of next.cells) (subst (IsSound app next []) (home next rest.values sound).1 sound) (ap (λ (p : Progress V). p.over) renamed.after ∙ rest.course.over)
 
   -- where no task is pending, the last leg has come to the end
   pub legs_end : RestWithoutNodesIsTheEnd app → RoundsAreTaken app → (start middle now : Progress V) (text more : List ℕ) (rounds others : ℕ) → GoesOnFrom app start text rounds middle →

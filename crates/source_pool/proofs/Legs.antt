@@ -1,7 +1,8 @@
 -- Legs of a run, each of which goes on where the one before it came to, with first tasks.
-use Rattle.std.proofs.Common.{◌≡◌, ℕ, ◌+◌, ◌-◌, List, [], ◌++◌, length, Option, Some, None, refl, sym, ap, subst, ◌∙◌, append_assoc, arith}
+use Rattle.std.proofs.Common.{◌≡◌, ℕ, ◌+◌, ◌-◌, List, [], ◌∷◌, ◌++◌, length, Option, Some, None, refl, sym, ap, subst, ◌∙◌, append_assoc, arith}
 use Rattle.std.specs.Prelude.{IfSome}
 use Rattle.std.proofs.lemmas.List.{length-map}
+use Rattle.task_order.specs.declared.task.Task.{Task}
 use Rattle.task_order.specs.Key.{end}
 use Rattle.cell_store.specs.Values.{homes, values_of}
 use Rattle.kdg_graph.specs.Nodes.{tasks_of}
@@ -13,8 +14,9 @@ use Rattle.commuting.specs.Clear.{IsReady}
 use Rattle.commuting.specs.Commuting.{BothEnd}
 use Rattle.commuting.specs.Renaming.{ComesToSame, HasSameTexts}
 use Rattle.commuting.specs.Rounds.{TakesRounds}
-use Rattle.commuting.specs.Standing.{AreUnlogged, IsLaterLog, IsRestOf}
+use Rattle.commuting.specs.Standing.{AreUnlogged, ComeBefore, IsLaterLog}
 use Rattle.commuting.specs.States.{State, state_of, run_from}
+use Rattle.run_laws.specs.CourseLaws.{IsJoinedRest}
 use Rattle.run_laws.specs.Progress.{Progress, whole_state}
 use Rattle.run_laws.specs.Renaming.{IsRenamed}
 use Rattle.run_laws.specs.Sound.{IsSound}
@@ -23,8 +25,11 @@ use Rattle.source_pool.specs.Course.{IsAtRest, LeadsByRounds}
 use Rattle.source_pool.specs.Legs.{IsEndBehind, LegsBegin, LegsGoOn, RenamingsGoOn}
 use Rattle.source_pool.specs.Runs.{IsRoundsEnd, rest_of_run, state_at_rest}
 use Rattle.source_pool.proofs.JoinedTexts.{same_texts, texts_of_rest}
-use Rattle.source_pool.proofs.Logged.{none_before}
 use Rattle.source_pool.proofs.RoundNumbers.{rounds_take_more, whole_is_home}
+
+none_before : (tasks : List Task) → ComeBefore [] tasks
+none_before [] = tt
+none_before (task ∷ tasks) = (tt, none_before tasks)
 
 -- ---- two runs beside one another
 
@@ -82,7 +87,7 @@ module _ {V : Type 0} {app : Application V} (basis : Basis app) where
     there = run_from app.act left end here
 
     next_sound : IsSound app next [] rest.values
-    next_sound = basis.renamings_keep_sound now next rest.values rest.come.sound renamed
+    next_sound = basis.renamings_keep_sound now next rest.values rest.course.come.sound renamed
 
     next_at_rest : whole_state next rest.values ≡ state_at_rest next
     next_at_rest = ap (whole_state next) (whole_is_home basis next rest.values next_sound).1
@@ -90,40 +95,41 @@ module _ {V : Type 0} {app : Application V} (basis : Basis app) where
     comes : ComesToSame app here (state_at_rest next)
     comes =
         subst (ComesToSame app here) (ap (state_of rest.values) (sym renamed.nodes.tasks) ∙ next_at_rest)
-        (basis.come_to_same ignored here rest.come.stands.ready renamed.first renamed.listed)
+        (basis.come_to_same ignored here rest.course.come.stands.ready renamed.first renamed.listed)
 
     same_ended : next.ended ≡ now.ended
     same_ended = ap (λ (progress : Progress V). progress.ended) renamed.after
 
     same_limit : next.limit ≡ start.limit
-    same_limit = ap (λ (progress : Progress V). progress.limit) renamed.after ∙ rest.come.limit
+    same_limit = ap (λ (progress : Progress V). progress.limit) renamed.after ∙ rest.course.come.limit
 
     -- the run from the start takes a step more for each entry
-    limits : start.limit - start.ended ≡ length rest.entries + left
+    limits : start.limit - start.ended ≡ length rest.course.entries + left
     limits =
-        let counts = rest.come.sound.keys_and_counts in
-        omega (arith, rest.come.ended, rest.come.limit, counts.created, counts.within, same_ended, same_limit)
+        let counts = rest.course.come.sound.keys_and_counts in
+        omega (arith, rest.course.come.ended, rest.course.come.limit, counts.created, counts.within, same_ended, same_limit)
 
-    runs : BothEnd (IsRestOf end rest.entries) (rest_of_run app start) there
+    runs : BothEnd (IsJoinedRest app end rest.course.entries) (rest_of_run app start) there
     runs =
-        subst (λ n. BothEnd (IsRestOf end rest.entries) (run_from app.act n end (state_at_rest start)) there) (sym limits)
-        (subst (λ done. BothEnd (IsRestOf end done) (run_from app.act (length done + left) end (state_at_rest start)) there) (basis.before_end rest.entries)
-        (rest.come.stands.same_rest end left))
+        subst (λ n. BothEnd (IsJoinedRest app end rest.course.entries) (run_from app.act n end (state_at_rest start)) there) (sym limits)
+        (subst (λ done. BothEnd (IsJoinedRest app end done) (run_from app.act (length done + left) end (state_at_rest start)) there) (basis.before_end rest.course.entries)
+        ((basis.runs start (values_of start.cells) rest.course.drained rest.course.entries now [] rest.values rest.course.come).runs end left))
 
     -- ---- the end
 
     texts_here : with_texts now.log ≡ [] → (last : Execution V) → there ≡ Some last
-        → text ++ joined_texts last.log ≡ joined_texts (joined_by_key start.log (joined_by_key last.log rest.entries))
+        → text ++ joined_texts last.log ≡ joined_texts (joined_by_key start.log (joined_by_key rest.course.entries last.log))
     texts_here silent last is =
-        let stands = rest.come.stands in
-        let logged = rest.come.log in
-        let counts = rest.come.sound.keys_and_counts in
-        let later : IsLaterLog logged.drained last.log = subst (λ run. IfSome run (λ e. IsLaterLog logged.drained e.log)) is (basis.log_later here logged.drained stands.ready logged.earlier left end) in
+        let stands = rest.course.come.stands in
+        let course = rest.course in
+        let drained = course.drained in
+        let counts = rest.course.come.sound.keys_and_counts in
+        let later : IsLaterLog drained last.log = subst (λ run. IfSome run (λ e. IsLaterLog drained e.log)) is (basis.log_later here drained stands.ready course.come.earlier left end) in
         let new = λ (entries : List Entry) (unlogged : AreUnlogged entries (tasks_of now.nodes)).
         subst (λ run. IfSome run (λ e. ShareNoKey entries e.log)) is (basis.log_new_keys here entries stands.ready unlogged left end) in
-        ap (λ first. first ++ joined_texts last.log) logged.text_is
-        ∙ sym (texts_of_rest basis start.log rest.entries logged.drained now.log last.log logged.all stands.ordered counts.log_ordered silent later
-        (new rest.entries stands.unlogged) (new now.log counts.unlogged))
+        ap (λ first. first ++ joined_texts last.log) course.text_is
+        ∙ sym (texts_of_rest basis start.log rest.course.entries drained now.log last.log course.come.logged stands.ordered counts.log_ordered silent later
+        (new rest.course.entries stands.unlogged) (new now.log counts.unlogged))
 
     texts_next : (last other : Execution V) → rest_of_run app next ≡ Some other → HasSameTexts last other → joined_texts (joined_by_key next.log other.log) ≡ joined_texts last.log
     texts_next last other is same =
@@ -133,36 +139,36 @@ module _ {V : Type 0} {app : Application V} (basis : Basis app) where
         ∙ ap joined_texts (basis.joins_with_none other.log logs.ordered).1
         ∙ same_texts other.log last.log (sym same.texts_are)
 
-    counts_add : (e last other : Execution V) → e.log ≡ joined_by_key last.log rest.entries → HasSameTexts last other → next.ended + length other.log ≡ start.ended + length e.log
+    counts_add : (e last other : Execution V) → e.log ≡ joined_by_key rest.course.entries last.log → HasSameTexts last other → next.ended + length other.log ≡ start.ended + length e.log
     counts_add e last other is same =
         let text_of = λ (entry : Entry). entry.1 in
         omega (
           arith,
           ap length is,
-          basis.joins_add_lengths last.log rest.entries,
+          basis.joins_add_lengths rest.course.entries last.log,
           length-map last.log text_of,
           length-map other.log text_of,
           ap length same.texts_are,
           same_ended,
-          rest.come.ended,
+          rest.course.come.ended,
         )
 
     too_long : rest_of_run app next ≡ None → rest_of_run app start ≡ None
-    too_long none = given_up (IsRestOf end rest.entries) (rest_of_run app start) there runs (given_up HasSameTexts there (rest_of_run app next) (comes.ends left) none)
+    too_long none = given_up (IsJoinedRest app end rest.course.entries) (rest_of_run app start) there runs (given_up HasSameTexts there (rest_of_run app next) (comes.ends left) none)
 
     module _ (rounds : ℕ) (leads : LeadsByRounds app rounds (state_at_rest start) state) (silent : with_texts now.log ≡ []) where
       ends : (finals whole : Finals V) (more : ℕ) → IsRoundsEnd app next finals more → IsEndBehind text finals whole → IsRoundsEnd app start whole (rounds + more)
       ends finals whole more is behind =
           let last = end_beside HasSameTexts there (rest_of_run app next) is.last (comes.ends left) is.is_end in
-          let e = end_beside (IsRestOf end rest.entries) (rest_of_run app start) there last.0 runs last.1 in
+          let e = end_beside (IsJoinedRest app end rest.course.entries) (rest_of_run app start) there last.0 runs last.1 in
           record {
             last = e.0;
             is_end = e.1;
-            store = behind.store ∙ is.store ∙ ap homes (sym last.2.cells_are ∙ sym (e.2.cells-are refl));
+            store = behind.store ∙ is.store ∙ ap homes (sym last.2.cells_are ∙ sym (e.2.cells_are refl));
             text =
                 behind.text_is ∙ ap (λ texts. text ++ texts) (is.text ∙ texts_next last.0 is.last is.is_end last.2)
-                ∙ texts_here silent last.0 last.1 ∙ ap (λ log. joined_texts (joined_by_key start.log log)) (sym e.2.log-is);
-            count = behind.count ∙ is.count ∙ counts_add e.0 last.0 is.last e.2.log-is last.2;
+                ∙ texts_here silent last.0 last.1 ∙ ap (λ log. joined_texts (joined_by_key start.log log)) (sym e.2.log);
+            count = behind.count ∙ is.count ∙ counts_add e.0 last.0 is.last e.2.log last.2;
             rounds_are = rounds_take_more app rounds more (state_at_rest start) state leads (subst (TakesRounds app more) rest.state_is (comes.rounds more is.rounds_are));
           }
 

@@ -14,6 +14,5 @@ pub mod JoinedTexts
 pub mod LegRounds
 pub mod Legs
 pub mod Lists
-pub mod Logged
 pub mod PerformedInOrder
 pub mod RoundNumbers

@@ -1,77 +1,19 @@
--- Members of lists, two lists place by place, and lists in key order.
-use Rattle.std.proofs.Common.{◌≡◌, ◌≢◌, ◌<◌, ◌⊎◌, inl, inr, zero, suc, Bool, true, false, cond, List, [], ◌∷◌, ◌++◌, map, length, get_or, Option, Some, None, refl, sym, ◌∙◌, ap, subst, arith}
+-- Two lists place by place, members of lists, and lists in key order.
+use Rattle.std.proofs.Common.{◌≡◌, ◌≢◌, ◌<◌, ◌⊎◌, inl, inr, List, [], ◌∷◌, ◌++◌, length, Option, Some, None, refl, sym, ◌∙◌, ap, subst, arith}
 use Rattle.std.specs.Prelude.{Contains, IsSome}
-use Rattle.std.specs.List.{AllByRecursion, AllZip, filter}
+use Rattle.std.specs.List.{AllByRecursion, AllZip}
 use Rattle.std.specs.declared.cmp.Ordering.TheVariants.{Less}
 use Rattle.std.proofs.lemmas.Bool.{true≢false}
-use Rattle.std.proofs.lemmas.List.Elements.{All-append, All-contains, All-from_recursion, Contains-append_right, Contains-get_or, recursion_from_All}
 use Rattle.std.proofs.lemmas.List.Sorted.{Contains-permutation, IsPermutation-middle, IsPermutation-sym}
 use Rattle.task_order.specs.declared.task.Task.{Task}
 use Rattle.task_order.specs.Key.{key_cmp}
 use Rattle.task_order.specs.Laws.{EarlierIsIrreflexive, EarlierIsTransitive}
 use Rattle.task_order.specs.TaskList.{IsAscending}
-use Rattle.app_laws.specs.Order.{Pairwise}
-
--- ---- members
-
-pub none : {X : Type 0} (x : X) → Contains [] x → ⊥
-none x (k, inside, is) = omega (arith, inside)
-
-pub here : {X : Type 0} (x : X) (xs : List X) → Contains (x ∷ xs) x
-here x xs = (0, omega arith, refl)
-
-pub there : {X : Type 0} (y x : X) (xs : List X) → Contains xs x → Contains (y ∷ xs) x
-there y x xs (k, inside, is) = (suc k, omega (arith, inside), is)
-
-pub cases : {X : Type 0} (y x : X) (xs : List X) → Contains (y ∷ xs) x → (y ≡ x) ⊎ Contains xs x
-cases y x xs (zero, inside, is) = inl is
-cases y x xs (suc k, inside, is) = inr (k, omega (arith, inside), is)
-
-pub all_at : {X : Type 0} (P : X → Type 0) (xs : List X) (x : X) → AllByRecursion P xs → Contains xs x → P x
-all_at P xs x all has = All-contains P xs x (All-from_recursion P xs all) has
-
-pub all_from : {X : Type 0} (P : X → Type 0) (xs : List X) → ((x : X) → Contains xs x → P x) → AllByRecursion P xs
-all_from P xs each = recursion_from_All P xs (λ k d inside. each (get_or xs k d) (Contains-get_or xs k d inside))
-
-pub all_joined : {X : Type 0} (P : X → Type 0) (xs ys : List X) → AllByRecursion P xs → AllByRecursion P ys → AllByRecursion P (xs ++ ys)
-all_joined P xs ys all more = recursion_from_All P (xs ++ ys) (All-append P xs ys (All-from_recursion P xs all) (All-from_recursion P ys more))
+use Rattle.run_laws.specs.Lists.{all-append, all_at, cases, here, none, there}
 
 pub some_in : {X : Type 0} (xs : List X) → xs ≢ [] → 0 < length xs
 some_in [] some = absurd (some refl)
 some_in (x ∷ xs) some = omega arith
-
-pub in_filter : {X : Type 0} (p : X → Bool) (xs : List X) (x : X) → Contains xs x → p x ≡ true → Contains (filter p xs) x
-in_filter p [] x has is = absurd (none x has)
-in_filter {X} p (y ∷ xs) x has is =
-    let by_case : (test : Bool) → p y ≡ test → (y ≡ x) ⊎ Contains xs x → Contains (cond test (y ∷ filter p xs) (filter p xs)) x = elim [
-      | true ↦ λ _ c. elim c [ inl same ↦ subst (λ (z : X). Contains (y ∷ filter p xs) z) same (here y (filter p xs)) | inr later ↦ there y x (filter p xs) (in_filter p xs x later is) ]
-      | false ↦ λ fails c. elim c [ inl same ↦ absurd (true≢false (sym is ∙ ap p (sym same) ∙ fails)) | inr later ↦ in_filter p xs x later is ]
-    ] in
-    by_case (p y) refl (cases y x xs has)
-
-pub from_filter : {X : Type 0} (p : X → Bool) (xs : List X) (x : X) → Contains (filter p xs) x → Contains xs x × (p x ≡ true)
-from_filter p [] x has = absurd (none x has)
-from_filter {X} p (y ∷ xs) x has =
-    let by_case : (test : Bool) → p y ≡ test → Contains (cond test (y ∷ filter p xs) (filter p xs)) x → Contains (y ∷ xs) x × (p x ≡ true) = elim [
-      | true ↦ λ is h. elim (cases y x (filter p xs) h) [
-        | inl same ↦ (subst (λ (z : X). Contains (y ∷ xs) z) same (here y xs), ap p (sym same) ∙ is)
-        | inr later ↦ let rest : Contains xs x × (p x ≡ true) = from_filter p xs x later in (there y x xs rest.0, rest.1)
-      ]
-      | false ↦ λ _ h. let rest : Contains xs x × (p x ≡ true) = from_filter p xs x h in (there y x xs rest.0, rest.1)
-    ] in
-    by_case (p y) refl has
-
-pub in_map : {X Y : Type 0} (f : X → Y) (xs : List X) (x : X) → Contains xs x → Contains (map f xs) (f x)
-in_map f [] x has = absurd (none x has)
-in_map {X} {Y} f (y ∷ xs) x has =
-    elim (cases y x xs has) [ inl same ↦ subst (λ (z : Y). Contains (f y ∷ map f xs) z) (ap f same) (here (f y) (map f xs)) | inr later ↦ there (f y) (f x) (map f xs) (in_map f xs x later) ]
-
-pub from_map : {X Y : Type 0} (f : X → Y) (xs : List X) (y : Y) → Contains (map f xs) y → (x : X) × Contains xs x × (f x ≡ y)
-from_map f [] y has = absurd (none y has)
-from_map {X} {Y} f (x ∷ xs) y has = elim (cases (f x) y (map f xs) has) [
-  | inl same ↦ (x, here x xs, same)
-  | inr later ↦ let rest : (z : X) × Contains xs z × (f z ≡ y) = from_map f xs y later in (rest.0, there x rest.0 xs rest.1, rest.2)
-]
 
 -- ---- two lists, place by place
 
@@ -104,14 +46,10 @@ nothing_left taken [] some never = refl
 nothing_left None (x ∷ xs) some never = absurd (true≢false (sym (some (omega arith))))
 nothing_left (Some y) (x ∷ xs) some never = absurd (never y refl)
 
--- ---- the first one at the end
+-- ---- one more at the end
 
 pub all_turned : {X : Type 0} (P : X → Type 0) (x : X) (xs : List X) → P x → AllByRecursion P xs → AllByRecursion P (xs ++ x ∷ [])
-all_turned P x xs own all = all_joined P xs (x ∷ []) all (own, tt)
-
-pub pairwise_turned : {X : Type 0} (R : X → X → Type 0) → ((x y : X) → R x y → R y x) → (x : X) (xs : List X) → AllByRecursion (R x) xs → Pairwise R xs → Pairwise R (xs ++ x ∷ [])
-pairwise_turned R turned x [] own pairs = (tt, tt)
-pairwise_turned R turned x (y ∷ xs) own pairs = (all_turned (R y) x xs (turned x y own.0) pairs.0, pairwise_turned R turned x xs own.1 pairs.1)
+all_turned P x xs own all = all-append P xs (x ∷ []) all (own, tt)
 
 -- ---- one in the middle
 
@@ -135,14 +73,6 @@ pub among_all : {X : Type 0} (before : List X) (x : X) (after : List X) (y : X) 
 among_all before x after y has =
     let moved = IsPermutation-sym (before ++ x ∷ after) (x ∷ (before ++ after)) (IsPermutation-middle before x after) in
     Contains-permutation (x ∷ (before ++ after)) (before ++ x ∷ after) y moved (there x y (before ++ after) has)
-
--- one in the middle is in the relation to each of the others
-pub paired_with : {X : Type 0} (R : X → X → Type 0) → ((x y : X) → R x y → R y x) → (before : List X) (x : X) (after : List X) → Pairwise R (before ++ x ∷ after) → (y : X) → Contains (before ++ after) y → R x y
-paired_with R turned [] x after pairs y has = all_at (R x) after y pairs.0 has
-paired_with R turned (z ∷ before) x after pairs y has = elim (cases z y (before ++ after) has) [
-  | inl same ↦ subst (R x) same (turned z x (all_at (R z) (before ++ x ∷ after) x pairs.0 (Contains-append_right before (x ∷ after) x (here x after))))
-  | inr later ↦ paired_with R turned before x after pairs.1 y later
-]
 
 -- ---- lists in key order
 

@@ -1,59 +1,57 @@
 -- What the laws of this crate stand on.
-use Rattle.task_order.specs.Key.{ChildrenComeLater, IsExactOrder}
+use Rattle.task_order.specs.Key.{IsExactOrder}
 use Rattle.task_order.specs.Laws as tasks
 use Rattle.rw_sets.specs.Laws as sets
 use Rattle.cell_store.specs.Laws as cells
 use Rattle.output_log.specs.Laws as logs
 use Rattle.kdg_graph.specs.Laws as graph
-use Rattle.app_laws.specs.Applications.{Application, IsLawful, PathsAreIgnored}
+use Rattle.app_laws.specs.Applications.{Application, PathsAreIgnored}
 use Rattle.commuting.specs.Renaming.{ListedTasksComeToSame}
 use Rattle.commuting.specs.Rounds.{ClearTasksAreListed}
-use Rattle.commuting.specs.Standing.{StartsStandForThemselves, ClearTasksKeepStanding, NothingPendingIsTheEnd, RunsLogLater, RunsLogNewKeys, TooManyTasksNeverEnd}
+use Rattle.commuting.specs.Standing.{RunsLogLater, RunsLogNewKeys}
+use Rattle.run_laws.specs.Acting.{ActsActOnWhole}
+use Rattle.run_laws.specs.CourseLaws.{ActFaultsKeepCourse, ActsKeepCourse, AnyOrderKeepsCourse, ClaimsKeepCourse, CoursesMeanTheSequentialRun, DrainsKeepCourse, EndsKeepCourse, NoNodesAreTheEnd, PassedLimitsNeverEnd, StartsHaveCome}
 use Rattle.run_laws.specs.Finishes.{FinishesActOnWhole}
-use Rattle.run_laws.specs.Laws.{ClaimsKeepSound, FinishesKeepSound, MarksAndDrainsKeepSound, RecordedSetsSuffice, SomeIsClear}
+use Rattle.run_laws.specs.Laws.{ClaimsTakeOneClear, RecordedSetsSuffice, SomeIsClear}
 use Rattle.run_laws.specs.Renaming.{RenamingsKeepSound}
-use Rattle.run_laws.specs.StandingLaws.{ClearNodesStayClear}
+use Rattle.run_laws.specs.Rest.{ActsLeaveClear, NoJobsAreRest}
 
 pub record Basis {V : Type 0} (app : Application V) : Type 0 where
-  pub lawful : IsLawful app
   pub listed : ClearTasksAreListed app
-  pub starts_stand : StartsStandForThemselves app
-  pub acts_stand : ClearTasksKeepStanding app
-  pub ends : NothingPendingIsTheEnd app
-  pub too_many : TooManyTasksNeverEnd app
   pub log_later : RunsLogLater app
   pub log_new_keys : RunsLogNewKeys app
   pub come_to_same : PathsAreIgnored app → ListedTasksComeToSame app
-  pub claims_keep_sound : ClaimsKeepSound app
-  pub finishes_keep_sound : FinishesKeepSound app
+  pub starts : StartsHaveCome app
+  pub any_order : AnyOrderKeepsCourse app
+  pub claims : ClaimsKeepCourse app
+  pub ends : EndsKeepCourse app
+  pub never_ends : PassedLimitsNeverEnd app
+  pub drains : DrainsKeepCourse app
+  pub runs : CoursesMeanTheSequentialRun app
+  pub last : NoNodesAreTheEnd app
+  pub acts : ActsKeepCourse app
+  pub act_faults : ActFaultsKeepCourse app
+  pub act_on_whole : ActsActOnWhole app
   pub finishes_act : FinishesActOnWhole app
-  pub drains_keep_sound : MarksAndDrainsKeepSound app
   pub renamings_keep_sound : RenamingsKeepSound app
   pub suffice : RecordedSetsSuffice app
   pub some_clear : SomeIsClear app
-  pub stay_clear : ClearNodesStayClear app
+  pub take_one : ClaimsTakeOneClear app
+  pub at_rest : NoJobsAreRest app
+  pub acts_leave_clear : ActsLeaveClear app
   pub have_ids : graph.NodesHaveIds
   pub have_keys : graph.NodesHaveKeys
   pub keys_find : graph.KeysFindNodes
   pub starts_keep_tasks : graph.StartsKeepTasks
   pub exact : IsExactOrder
-  pub children_later : ChildrenComeLater
   pub irreflexive : tasks.EarlierIsIrreflexive
   pub transitive : tasks.EarlierIsTransitive
-  pub adds_each : tasks.PutAllAddsEach
-  pub adds_these : tasks.PutAllKeepsTasks
-  pub adds_one : tasks.PutsAddOne
-  pub put_without : tasks.PutRestoresWithout
-  pub without_others : tasks.WithoutKeepsOthers
   pub decided : sets.ConflictsAreDecided
   pub before_end : logs.AllAreBeforeEnd
-  pub earlier_first : logs.EarlierEntriesComeFirst
   pub texts_follow : logs.TextsFollow
   pub joins_with_none : logs.JoinsWithNone
   pub joins_commute : logs.JoinsCommute
   pub joins_associate : logs.JoinsAssociate
   pub silent_joins : logs.SilentJoinsAddNoText
-  pub joins_take_puts : logs.JoinsTakePuts
   pub joins_add_lengths : logs.JoinsAddLengths
-  pub agreement : cells.AgreementLasts V
   pub values : cells.HomesAreValues V

@@ -1,21 +1,20 @@
 -- How far rounds of claims and ends have come since an execution in which nothing was running.
-use Rattle.std.specs.Prelude.{◌≡◌, ◌≢◌, ℕ, zero, suc, ◌+◌, not, List, [], ◌++◌, length, map, None, Contains}
-use Rattle.std.specs.List.{AllByRecursion, filter}
+use Rattle.std.specs.Prelude.{◌≡◌, ◌≢◌, ℕ, zero, suc, List, [], map, None, Contains}
+use Rattle.std.specs.List.{AllByRecursion}
 use Rattle.task_order.specs.declared.task.Task.{Task}
 use Rattle.task_order.specs.TaskList.{IsAscending}
-use Rattle.output_log.specs.Entries.{Entry, joined_by_key, joined_texts}
+use Rattle.output_log.specs.Entries.{Entry, joined_texts}
 use Rattle.kdg_graph.specs.declared.node_id.NodeId.{NodeId}
 use Rattle.kdg_graph.specs.Node.{Node}
 use Rattle.kdg_graph.specs.Nodes.{ids_of, tasks_of}
 use Rattle.app_laws.specs.Order.{Pairwise}
 use Rattle.app_laws.specs.Applications.{Application, IsEffect, set_in}
 use Rattle.commuting.specs.Rounds.{after_round}
-use Rattle.commuting.specs.Standing.{ComeBefore, StandsFor}
 use Rattle.commuting.specs.States.{State, after_tasks}
+use Rattle.run_laws.specs.Course.{HasCome}
 use Rattle.run_laws.specs.Jobs.{Done, Job}
 use Rattle.run_laws.specs.Progress.{Progress, whole_state}
-use Rattle.run_laws.specs.Sound.{IsSound}
-use Rattle.run_laws.specs.StandingLaws.{IsClearNode}
+use Rattle.run_laws.specs.Rest.{IsClearNode}
 
 -- the tasks of performed jobs, in order
 abbrev pub done_tasks : {V : Type 0} → List (Done V) → List Task
@@ -25,23 +24,11 @@ done_tasks dones = map (λ done. done.task) dones
 abbrev pub HaveOwnKeys : {V : Type 0} → List (Job V) → Type 0
 HaveOwnKeys jobs = Pairwise (λ job other. job.task.key ≢ other.task.key) jobs
 
--- how many nodes are not running
-abbrev pub idle_count : List Node → ℕ
-idle_count nodes = length (filter (λ node. not node.running) nodes)
-
 -- a point of a run: where the run began, the whole state at the point, and the text that was drained on the way to it
 pub record RunPoint (V : Type 0) : Type 0 where
   pub start : Progress V
   pub state : State V
   pub text : List ℕ
-
--- The entries are those that were drained, whose text this is, and behind them those of the log. What was drained is earlier than
--- all that is pending.
-pub record IsLogged {V : Type 0} (entries : List Entry) (text : List ℕ) (now : Progress V) : Type 0 where
-  pub drained : List Entry
-  pub text_is : text ≡ joined_texts drained
-  pub all : entries ≡ drained ++ now.log
-  pub earlier : ComeBefore drained (tasks_of now.nodes)
 
 module _ {V : Type 0} (app : Application V) where
   -- the job is performed: its task with what its operator makes of its bundle
@@ -61,28 +48,24 @@ module _ {V : Type 0} (app : Application V) where
   LeadsByRounds (suc rounds) state now = (state.pending ≢ []) × LeadsByRounds rounds (after_round app state) now
 
   module _ (start : Progress V) (cells : List V) where
-    -- Since the start tasks have ended that logged these entries, and this text was drained: the whole state stands for the rest
-    -- of the sequential run from there, and what was drained, the log and the count of ended tasks have the entries.
-    pub record HasCome (entries : List Entry) (text : List ℕ) (now : Progress V) (jobs : List (Job V)) (values : List V) : Type 0 where
-      pub sound : IsSound app now jobs values
-      pub stands : StandsFor app (whole_state start cells) entries (whole_state now values)
-      pub log : IsLogged (joined_by_key start.log entries) text now
-      pub ended : now.ended ≡ start.ended + length entries
-      pub limit : now.limit ≡ start.limit
+    -- Since the start this text was drained, and nothing is given up: the execution has come here with these jobs in hand.
+    pub record IsOnCourse (text : List ℕ) (now : Progress V) (jobs : List (Job V)) (values : List V) : Type 0 where
+      pub drained : List Entry
+      pub entries : List Entry
+      pub come : HasCome app start cells drained entries now jobs values
+      pub text_is : text ≡ joined_texts drained
       pub over : now.over ≡ None
 
     -- between two rounds: nothing is running, the whole state is this one, and this text was drained
     pub record IsAtRest (state : State V) (text : List ℕ) (now : Progress V) : Type 0 where
-      pub entries : List Entry
       pub values : List V
-      pub come : HasCome entries text now [] values
+      pub course : IsOnCourse text now [] values
       pub state_is : whole_state now values ≡ state
 
     -- while jobs are drawn: the whole state is the one in which the round began, and each recorded set is the declared one
     pub record IsDrawing (state : State V) (text : List ℕ) (now : Progress V) (jobs : List (Job V)) : Type 0 where
-      pub entries : List Entry
       pub values : List V
-      pub come : HasCome entries text now jobs values
+      pub course : IsOnCourse text now jobs values
       pub state_is : whole_state now values ≡ state
       pub sets_are : AllByRecursion (λ node. node.set ≡ set_in app values node.task) now.nodes
 
@@ -98,10 +81,9 @@ module _ {V : Type 0} (app : Application V) where
 
     -- while jobs are ended in key order: these are performed and not ended yet, and once their tasks have acted the state is the target
     pub record IsEnding (target : State V) (text : List ℕ) (now : Progress V) (dones : List (Done V)) : Type 0 where
-      pub entries : List Entry
       pub jobs : List (Job V)
       pub values : List V
-      pub come : HasCome entries text now jobs values
+      pub course : IsOnCourse text now jobs values
       pub all_done : AreAllDone jobs dones
       pub in_order : IsAscending (done_tasks dones)
       pub leads : after_tasks app.act (done_tasks dones) (whole_state now values) ≡ target

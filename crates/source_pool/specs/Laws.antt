@@ -4,7 +4,7 @@ use Rattle.task_order.specs.Key.{end}
 use Rattle.task_order.specs.TaskList.{IsAscending}
 use Rattle.cell_store.specs.Values.{homes, values_of}
 use Rattle.kdg_graph.specs.declared.node_id.NodeId.{NodeId}
-use Rattle.kdg_graph.specs.Nodes.{HasNode, IsGraph, ids_of}
+use Rattle.kdg_graph.specs.Nodes.{HasNode, ids_of}
 use Rattle.output_log.specs.Entries.{joined_by_key, joined_texts}
 use Rattle.app_laws.specs.Applications.{Application}
 use Rattle.app_laws.specs.Execution.{Execution}
@@ -16,7 +16,7 @@ use Rattle.run_laws.specs.Laws.{IsDone}
 use Rattle.run_laws.specs.Events.{IsOfClear, IsClaimed, IsFinished, IsOverLimit, clear_nodes, drainable, drained}
 use Rattle.run_laws.specs.Progress.{Progress, whole_state}
 use Rattle.run_laws.specs.Sound.{IsSound}
-use Rattle.source_pool.specs.Course.{AreAllDone, HaveOwnKeys, IsActing, IsAtRest, IsDrawing, IsEnding, LeadsByRounds, done_tasks, idle_count}
+use Rattle.source_pool.specs.Course.{AreAllDone, HaveOwnKeys, IsActing, IsAtRest, IsDrawing, IsEnding, LeadsByRounds, done_tasks}
 
 module _ {V : Type 0} (app : Application V) where
   -- ---- claims
@@ -47,9 +47,9 @@ module _ {V : Type 0} (app : Application V) where
   abbrev pub DrawnJobsDiffer : Type 0
   DrawnJobsDiffer = (start now : Progress V) (cells : List V) (state : State V) (text : List ℕ) (jobs : List (Job V)) → IsDrawing app start cells state text now jobs → HaveOwnKeys jobs
 
-  -- a claim marks one node more, which was not running
-  abbrev pub ClaimsStartOne : Type 0
-  ClaimsStartOne = (old now : Progress V) (pick : ℕ) (job : Job V) → IsGraph old.nodes → IsClaimed app old pick now job → idle_count now.nodes + 1 ≡ idle_count old.nodes
+  -- a claim leaves fewer clear nodes
+  abbrev pub ClaimsLeaveFewer : Type 0
+  ClaimsLeaveFewer = (old now : Progress V) (pick : ℕ) (job : Job V) → IsClaimed app old pick now job → length (clear_nodes app now.nodes) < length (clear_nodes app old.nodes)
 
   -- ---- ends
 

@@ -1,41 +1,45 @@
 ghost use Rattle.source_pool.specs.Basis.{Basis};
 ghost use Rattle.source_pool.specs.Legs.{LegsBegin, LegsGoOn, RenamingsGoOn};
-ghost use Rattle.source_pool.specs.Laws.{ActsBegin, ActsComeToRest, ActsGoOn, ClaimsGoOn, ClaimsStartOne, DrainsKeepRest, DrawingsBegin, DrawnJobsAreTheRound, DrawnJobsDiffer, EndsComeToRest, EndsGoOn, FirstMayAct, FirstMayEnd, RestWithoutNodesIsTheEnd, RoundsAdd, RoundsAreTaken, RoundsHaveActs, RoundsHaveJobs, StartsAreAtRest, TooManyActsNeverEnd, TooManyNeverEnd, WholeIsHome};
+ghost use Rattle.source_pool.specs.Laws.{ActsBegin, ActsComeToRest, ActsGoOn, ClaimsGoOn, ClaimsLeaveFewer, DrainsKeepRest, DrawingsBegin, DrawnJobsAreTheRound, DrawnJobsDiffer, EndsComeToRest, EndsGoOn, FirstMayAct, FirstMayEnd, RestWithoutNodesIsTheEnd, RoundsAdd, RoundsAreTaken, RoundsHaveActs, RoundsHaveJobs, StartsAreAtRest, TooManyActsNeverEnd, TooManyNeverEnd, WholeIsHome};
 
-use app_laws::{App, lawful};
+use app_laws::App;
 use cell_store::value_laws;
 use commuting::{listed_tasks_come_to_same, round_laws as clear_round_laws, standing_laws};
 use kdg_graph::laws::{node_laws, put_laws};
 use output_log::{join_laws, part_laws};
 use run_laws::{
-    claim_laws, clear_laws, drain_laws, finish_state_laws, renaming_laws, sound_finish_laws,
-    stay_clear_laws,
+    act_laws, clear_claim_laws, clear_laws, course_act_laws, course_claim_laws, course_drain_laws,
+    course_end_laws, course_mark_laws, course_run_laws, course_start_laws, finish_state_laws,
+    renaming_laws, rest_laws, stay_clear_laws,
 };
 use rw_sets::conflict_laws;
-use task_order::{earlier_laws, key_order, put_all_laws, put_in_laws, without_laws};
+use task_order::{earlier_laws, key_order};
 
 /// What the crates below promise, as one.
 fn basis<A: App>()
     ensures { (app : A) → Basis (A.meaning app) }
 {
-    lawful::<A>();
     clear_round_laws::<A>();
     listed_tasks_come_to_same::<A>();
     standing_laws::<A>();
-    claim_laws::<A>();
-    sound_finish_laws::<A>();
+    course_start_laws::<A>();
+    course_claim_laws::<A>();
+    course_end_laws::<A>();
+    course_act_laws::<A>();
+    course_mark_laws::<A>();
+    course_drain_laws::<A>();
+    course_run_laws::<A>();
     finish_state_laws::<A>();
-    drain_laws::<A>();
     renaming_laws::<A>();
+    act_laws::<A>();
+    clear_claim_laws::<A>();
     clear_laws::<A>();
+    rest_laws::<A>();
     stay_clear_laws::<A>();
     node_laws();
     put_laws();
     key_order();
     earlier_laws();
-    put_all_laws();
-    put_in_laws();
-    without_laws();
     conflict_laws();
     part_laws();
     join_laws();
@@ -51,7 +55,7 @@ pub fn drawing_laws<A: App>()
     ensures round { (app : A) → DrawnJobsAreTheRound (A.meaning app) }
     ensures some { (app : A) → RoundsHaveJobs (A.meaning app) }
     ensures differ { (app : A) → DrawnJobsDiffer (A.meaning app) }
-    ensures starts_one { (app : A) → ClaimsStartOne (A.meaning app) }
+    ensures fewer { (app : A) → ClaimsLeaveFewer (A.meaning app) }
 {
     basis::<A>();
 }

@@ -3,7 +3,7 @@ ghost use Rattle.cell_store.specs.Values.{values_of};
 ghost use Rattle.app_laws.specs.Applications.{PathsAreIgnored};
 ghost use Rattle.commuting.specs.Rounds.{after_round};
 ghost use Rattle.run_laws.specs.Progress.{Progress};
-ghost use Rattle.run_laws.specs.StandingLaws.{NoneRuns};
+ghost use Rattle.run_laws.specs.Rest.{NoneRuns};
 ghost use Rattle.output_log.specs.Entries.{with_texts};
 ghost use Rattle.source_pool.specs.Course.{IsAtRest, LeadsByRounds, RunPoint};
 ghost use Rattle.source_pool.specs.Legs.{BeginsAtRest};

@@ -1,7 +1,7 @@
 ghost use Rattle.std.specs.Prelude.{◌≡◌, ◌<◌, ◌≤◌, ◌^◌, None, length, IfOk};
 ghost use Rattle.app_laws.specs.Applications.{AreFitStarts};
 ghost use Rattle.example_app.specs.Introduction.{AreContacts, introductions};
-ghost use Rattle.run_laws.specs.StandingLaws.{NoneRuns};
+ghost use Rattle.run_laws.specs.Rest.{NoneRuns};
 
 use super::*;
 use app_laws::{App, Finals, SerialFault, serial};

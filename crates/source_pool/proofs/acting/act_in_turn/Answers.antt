@@ -32,7 +32,7 @@ act-requires-clause-clear g c κs within =
     subst (λ (app : g.row.A.Denot). IsOfClear (g.A.App.meaning app) at.engine.progress.nodes id) (sym at.invariant.app) may.0
 
 pub act-requires-clause-not_over : goal.act-requires-clause-not_over
-act-requires-clause-not_over g c κs within = c.loop-id.invariant.acting.rest.come.over
+act-requires-clause-not_over g c κs within = c.loop-id.invariant.acting.rest.course.over
 
 pub returns-in_err-act-clause-fault : goal.returns-in_err-act-clause-fault
 returns-in_err-act-clause-fault g c =

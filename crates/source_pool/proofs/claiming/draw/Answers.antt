@@ -1,4 +1,4 @@
-use Rattle.std.proofs.Common.{sym, ap, subst, ◌∙◌, arith}
+use Rattle.std.proofs.Common.{sym, ap, subst, ◌∙◌}
 use Rattle.std.specs.List.{AllByRecursion}
 use Rattle.cell_store.specs.Values.{values_of}
 use Rattle.run_laws.specs.Answers.{IsClaimAnswer}
@@ -15,7 +15,7 @@ pub loop-job-smaller : goal.loop-job-smaller
 loop-job-smaller g c =
     let answer = subst (IsClaimAnswer (g.A.App.meaning c.loop-job.engine.app) c.loop-job.engine.progress c.next.result c.claim.new.self.progress) c.in-Job.is c.in_ok-job.ensures.answer in
     let claimed = subst (λ (app : g.row.A.Denot). IsClaimed (g.A.App.meaning app) c.loop-job.engine.progress c.next.result c.claim.new.self.progress c.in-Job.job) c.loop-job.invariant.app answer.1 in
-    omega (arith, c.drawing_laws.ensures.starts_one c.args.engine.now.app c.loop-job.engine.progress c.claim.new.self.progress c.next.result c.in-Job.job c.loop-job.invariant.drawing.come.sound.keys_and_counts.graph claimed)
+    c.drawing_laws.ensures.fewer c.args.engine.now.app c.loop-job.engine.progress c.claim.new.self.progress c.next.result c.in-Job.job claimed
 
 pub loop-job-preserved : goal.loop-job-preserved
 loop-job-preserved g c =
@@ -37,7 +37,7 @@ pub returns : goal.returns
 returns g c =
     let app = g.A.App.meaning c.args.engine.now.app in
     let answer = subst (λ (app : g.row.A.Denot). IsClaimAnswer (g.A.App.meaning app) c.loop-job.engine.progress c.next.result c.claim.new.self.progress c.in_ok-job.field-0) c.loop-job.invariant.app c.in_ok-job.ensures.answer in
-    let out = drawn_out app c.loop-job.engine.progress c.claim.new.self.progress c.next.result c.in_ok-job.field-0 answer c.in_default.not-Job c.loop-job.invariant.drawing.come.over in
+    let out = drawn_out app c.loop-job.engine.progress c.claim.new.self.progress c.next.result c.in_ok-job.field-0 answer c.in_default.not-Job c.loop-job.invariant.drawing.course.over in
     record {
       app = c.claim.ensures.app ∙ c.loop-job.invariant.app;
       drawing = subst (λ now. IsDrawing app g.from.start (values_of g.from.start.cells) g.from.state g.from.text now c.loop-job.jobs.items) (sym out.same) c.loop-job.invariant.drawing;

@@ -1,8 +1,9 @@
-use Rattle.std.proofs.Common.{◌≡◌}
+use Rattle.std.proofs.Common.{◌≡◌, length}
 use Rattle.std.specs.List.{AllByRecursion}
 use Rattle.cell_store.specs.Values.{values_of}
 use Rattle.crew.specs.Jobs.{MayRun}
-use Rattle.source_pool.specs.Course.{IsDrawing, idle_count}
+use Rattle.run_laws.specs.Events.{clear_nodes}
+use Rattle.source_pool.specs.Course.{IsDrawing}
 use Rattle.source_pool.proofs.claiming.draw.Given as goal
 
 abbrev pub invariant-loop-job : goal.invariant-loop-job
@@ -14,4 +15,4 @@ invariant-loop-job g l = record {
 }
 
 abbrev pub decreases-loop-job : goal.decreases-loop-job
-decreases-loop-job g l = idle_count l.engine.progress.nodes
+decreases-loop-job g l = length (clear_nodes (g.A.App.meaning l.fn.engine.app) l.engine.progress.nodes)

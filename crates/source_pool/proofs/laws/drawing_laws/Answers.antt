@@ -1,4 +1,4 @@
-use Rattle.source_pool.proofs.Drawing.{claims_go_on, claims_start_one, drawings_begin, drawn_jobs_are_the_round, drawn_jobs_differ, rounds_have_jobs, starts_are_at_rest}
+use Rattle.source_pool.proofs.Drawing.{claims_go_on, claims_leave_fewer, drawings_begin, drawn_jobs_are_the_round, drawn_jobs_differ, rounds_have_jobs, starts_are_at_rest}
 use Rattle.source_pool.proofs.laws.drawing_laws.Goals as goal
 
 pub returns-clause-starts : goal.returns-clause-starts
@@ -19,5 +19,5 @@ returns-clause-some g c = λ app. rounds_have_jobs (c.basis.ensures app)
 pub returns-clause-differ : goal.returns-clause-differ
 returns-clause-differ g c = λ app. drawn_jobs_differ (c.basis.ensures app)
 
-pub returns-clause-starts_one : goal.returns-clause-starts_one
-returns-clause-starts_one g c = λ app. claims_start_one (c.basis.ensures app)
+pub returns-clause-fewer : goal.returns-clause-fewer
+returns-clause-fewer g c = λ app. claims_leave_fewer (c.basis.ensures app)

@@ -68,7 +68,7 @@ pub renamed-requires-clause-idle : goal.renamed-requires-clause-idle
 renamed-requires-clause-idle g c κs within =
     let app = c.args.engine.app in
     let rest = subst (λ (app : g.row.A.Denot). IsAtRest (g.A.App.meaning app) c.loop-more.engine.progress (values_of c.loop-more.engine.progress.cells) (state_at_rest c.play_leg.new.engine.progress) c.play_leg.new.text c.play_leg.new.engine.progress) c.loop-more.invariant.app c.in_ok-rounds.ensures.rest in
-    (c.rest_laws.ensures.no_jobs app c.play_leg.new.engine.progress [] rest.values rest.come.sound).0 refl
+    (c.rest_laws.ensures.no_jobs app c.play_leg.new.engine.progress [] rest.values rest.course.come.sound).0 refl
 
 pub renamed-requires-clause-silent : goal.renamed-requires-clause-silent
 renamed-requires-clause-silent g c κs within =

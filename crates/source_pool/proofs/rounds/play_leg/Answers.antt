@@ -23,7 +23,7 @@ play_round-requires g c κs within =
 pub overflow_add-rounds : goal.overflow_add-rounds
 overflow_add-rounds g c =
     let limited = c.requires.1.1.1.1.1.1.1.1.1.1.1.1.1.1.0 in
-    let come = c.in_ok-play_round.ensures.rest.come in
+    let come = c.in_ok-play_round.ensures.rest.course.come in
     omega (arith, c.loop-engine.invariant.few, c.in_ok-play_round.ensures.ended, come.sound.keys_and_counts.created, come.sound.keys_and_counts.within, come.limit, limited)
 
 pub returns-then-needs_new_paths-clause-rest : goal.returns-then-needs_new_paths-clause-rest

@@ -1,7 +1,7 @@
 use Rattle.std.proofs.Common.{[], length, sym, ap, subst, ◌∙◌, arith}
 use Rattle.kdg_graph.specs.Nodes.{tasks_of}
 use Rattle.graph_update.specs.Engine.{EngineState}
-use Rattle.run_laws.specs.StandingLaws.{NoneRuns}
+use Rattle.run_laws.specs.Rest.{NoneRuns}
 use Rattle.graph_update.proofs.ReadyIds.{some_are_ready}
 use Rattle.graph_update.proofs.Renamed.{engine_renamed, engine_stays_sound, is_renamed, own_few, own_fit, own_home, own_many, own_names, own_sound, stays_fixed, stays_kept}
 use Rattle.graph_update.proofs.engine.Engine.renamed.Goals as goal
