@@ -7,6 +7,8 @@ mod adder;
 #[cfg(test)]
 mod circuits;
 #[cfg(test)]
+mod crowds;
+#[cfg(test)]
 mod decks;
 #[cfg(test)]
 mod driving;

@@ -14,6 +14,3 @@ mod work;
 
 pub use graph_update::OverCause as RunFault;
 pub use rounds::run_rounds;
-
-#[cfg(test)]
-mod tests;

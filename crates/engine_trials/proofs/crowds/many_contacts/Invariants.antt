@@ -1,6 +1,6 @@
 use Rattle.std.proofs.Common.{◌≡◌, ◌<◌, length}
 use Rattle.std.specs.List.{All}
-use Rattle.source_pool.proofs.tests.many_contacts.Given as goal
+use Rattle.engine_trials.proofs.crowds.many_contacts.Given as goal
 
 abbrev pub invariant-loop-person : goal.invariant-loop-person
 invariant-loop-person l = record {

@@ -1,4 +1,0 @@
-use Rattle.source_pool.proofs.tests.begin.Given as goal
-
-abbrev pub ghosts-counted_begin : goal.ghosts-counted_begin
-ghosts-counted_begin g a = record { name = a.blank.name; parts = a.blank.parts }
