@@ -1,15 +1,15 @@
 -- The nodes that are left behind the one that was looked at last, and which of them are sources.
-use Rattle.std.proofs.Common.{◌≡◌, Bool, true, false, not, cond, List, [], ◌∷◌, Option, Some, refl, ◌∙◌, ap, unwrap_or, filter, option_map, ℕ, zero, suc, ◌+◌, ◌<◌, ◌^◌, ◌==◌, ◌||◌, ◌&&◌, ◌++◌, drop, get_or, length, take, None, sym, subst, arith, Contains, IfSome, MatchOption, slice_get, is_lt, true≢false, append_assoc, append-nil, eq-eqb, eqb-true}
+use Rattle.std.proofs.Common.{◌≡◌, Bool, true, false, not, cond, List, [], ◌∷◌, Option, Some, refl, ◌∙◌, ap, unwrap_or, filter, option_map, ℕ, ◌+◌, ◌<◌, ◌^◌, ◌==◌, ◌||◌, ◌&&◌, ◌++◌, drop, get_or, length, take, None, sym, subst, arith, Contains, IfSome, MatchOption, slice_get, is_lt, true≢false, append_assoc, append-nil, eq-eqb, eqb-true}
 use Rattle.std.proofs.Math.Bool.{and_assoc, and-true}
 use Rattle.std.proofs.lemmas.List.Elements.{filter_more}
 use Rattle.std.specs.Int.{from_bool}
-use Rattle.kdg_graph.proofs.Common.{AllByRecursion, NodeId, Node, IsGraph, ids_of, node_at, sources_of, is_unblocked, not_running, runs, unblocked_of, from_filter, option_eq, false_from_ne_true, map-append, Contains-get_or, key_cmp_total, IsAscending, Absent, Arrival, Standing, is_id, is_id_at, HasNode, is_at, least_of, tasks_of, AreLeft, AreSome, IsInOrder, IsLeft, IsNext, MarkedIds, arrived, has_number, ids_in, is_recent, recent_among, recent_in, settled_among, settled_from, settled_in, is_among, is_behind, is_later, is_left, left_in, listed_in, all_at, from_map, here, in_filter, filter-map}
-use Rattle.kdg_graph.proofs.Blocking.{any_from, found_some, same_found}
+use Rattle.kdg_graph.proofs.Common.{NodeId, Node, IsGraph, ids_of, node_at, sources_of, is_unblocked, not_running, runs, unblocked_of, from_filter, option_eq, false_from_ne_true, map-append, Contains-get_or, key_cmp_total, IsAscending, Absent, Arrival, Standing, is_id, is_id_at, HasNode, is_at, least_of, tasks_of, AreLeft, AreSome, IsInOrder, IsLeft, IsNext, MarkedIds, arrived, has_number, ids_in, is_recent, recent_among, recent_in, settled_among, settled_from, settled_in, is_among, is_behind, is_later, is_left, left_in, listed_in, all_at, from_map, here, in_filter, filter-map}
+use Rattle.kdg_graph.proofs.Blocking.{found_some, same_found}
 use Rattle.kdg_graph.proofs.Fronting.{some_first}
 use Rattle.kdg_graph.proofs.KeyOrder.{filter_twice, filters_commute, ascending_filtered, dropped, kept, same_filter, Less_from_test, all_later, filter-all, not_itself, is_past}
-use Rattle.kdg_graph.proofs.LookUps.{nodes_have_ids, is_at-same, same_id}
+use Rattle.kdg_graph.proofs.LookUps.{nodes_have_ids, same_id}
 use Rattle.kdg_graph.proofs.Ordered.{first_unblocked}
-use Rattle.kdg_graph.proofs.Searches.{id_at, inside_at}
+use Rattle.kdg_graph.proofs.Searches.{inside_at}
 use Rattle.kdg_graph.proofs.Selecting.{among_append}
 
 -- ---- the sources are the unblocked nodes that are not running

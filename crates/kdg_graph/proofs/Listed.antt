@@ -1,11 +1,11 @@
 -- Ids of nodes, some in key order and others that came since, where a node or an id changes.
-use Rattle.std.proofs.Common.{◌≡◌, inl, inr, ℕ, ◌<◌, ◌||◌, Bool, true, false, not, cond, List, [], ◌∷◌, ◌++◌, length, get_or, set, refl, sym, ◌∙◌, ap, eqb-true, eq-eqb, ◌==◌, ne_eqb, true≢false, get_or-set_other, IsPermutation, ◌≤◌, append-nil, Some, subst, Contains, IfSome, IsSome, None, filter, is_lt, ◌≢◌, ◌+◌, drop, Option, arith, get_or-drop, length-drop, slice_get, option_map, nat_cmp, Ordering, Less, Equal, Greater, map}
+use Rattle.std.proofs.Common.{◌≡◌, inl, inr, ℕ, ◌<◌, ◌||◌, Bool, true, false, not, cond, List, [], ◌∷◌, ◌++◌, length, get_or, set, refl, sym, ◌∙◌, ap, eq-eqb, ◌==◌, ne_eqb, true≢false, get_or-set_other, IsPermutation, ◌≤◌, append-nil, Some, subst, Contains, IfSome, IsSome, None, filter, is_lt, ◌≢◌, ◌+◌, drop, Option, arith, get_or-drop, length-drop, slice_get, option_map, nat_cmp, Ordering, Less, Equal, Greater, map}
 use Rattle.std.proofs.Math.Bool.{or-true}
 use Rattle.std.proofs.lemmas.Cmp.{nat_cmp_total, on_total, then_total, ranked}
 use Rattle.std.proofs.lemmas.List.MinMax.{IsStrictWeakOrder-flip, ranks_by}
 use Rattle.std.specs.Cmp.Lexicographic.{options_total, nat_list_cmp_total, slice_cmp}
-use Rattle.task_order.specs.PathCode.{path_beginning, CanCode}
-use Rattle.kdg_graph.proofs.Common.{cases_eq, get_or-set_at, list_any-append, IsPermutation-map, list_any-IsPermutation, Arrival, NodeId, Standing, Absent, Node, ids_of, is_at, put_node, without, AreMarked, arrived, has_number, is_recent, is_settled, IsStrictWeakOrder, IsTotalOrder, AllByRecursion, All-from_recursion, recursion_from_All, All-permutation, key_cmp_total, HasNode, IsGraph, node_at, IsLaneAmong, AreSelected, HaveMarks, IsInOrder, MarkedIds, arrival_cmp, forgotten, ids_in, is_among, key_at, listed_in, recent_in, retested, settled_in, all_at, in_map, option_cmp, ordering_reverse, ordering_then, get_or_default, Contains-get_or, sorted_far, get_or_from_slice_get, slice_get_within, Key, key_cmp, LowerBeginningsComeFirst, Settled, Recent, AreLater, AreInTurn, IsArrival, all_from, false_from_ne_true, length-map, Task, SetChange, HaveOwnIds, started, with_sets, AreSome, from_filter, from_map, in_filter, none_any, none_found, filter-map}
+use Rattle.task_order.specs.PathCode.{path_beginning}
+use Rattle.kdg_graph.proofs.Common.{cases_eq, get_or-set_at, list_any-append, IsPermutation-map, list_any-IsPermutation, Arrival, NodeId, Standing, Absent, Node, ids_of, is_at, put_node, without, AreMarked, arrived, has_number, is_recent, is_settled, IsStrictWeakOrder, IsTotalOrder, AllByRecursion, All-from_recursion, recursion_from_All, All-permutation, key_cmp_total, HasNode, IsGraph, node_at, IsLaneAmong, AreSelected, HaveMarks, IsInOrder, MarkedIds, arrival_cmp, forgotten, ids_in, is_among, key_at, listed_in, recent_in, retested, settled_in, all_at, in_map, option_cmp, ordering_reverse, ordering_then, get_or_default, Contains-get_or, sorted_far, get_or_from_slice_get, slice_get_within, Key, key_cmp, LowerBeginningsComeFirst, Settled, Recent, AreLater, AreInTurn, IsArrival, all_from, false_from_ne_true, length-map, SetChange, HaveOwnIds, started, with_sets, AreSome, from_filter, from_map, in_filter, none_any, none_found, filter-map}
 use Rattle.kdg_graph.proofs.Blocking.{any_from, found_some}
 use Rattle.kdg_graph.proofs.Keeping.{changed, ids-map, start, start_keeps_id}
 use Rattle.kdg_graph.proofs.KeyOrder.{is_before, same_filter, put_dropped, put_without}

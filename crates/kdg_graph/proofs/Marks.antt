@@ -1,11 +1,11 @@
 -- Lists of ids of which some count, by how their numbers are marked.
-use Rattle.std.proofs.Common.{◌≡◌, ◌≢◌, inl, inr, ℕ, zero, suc, ◌+◌, ◌<◌, ◌≤◌, ◌==◌, ◌&&◌, ◌||◌, Bool, true, false, not, cond, List, [], ◌∷◌, ◌++◌, length, take, drop, get_or, set, refl, sym, ◌∙◌, ap, subst, arith, eqb-true, eq-eqb, ne_eqb, true≢false, Contains, MatchOption, Option, None, Some, filter, take_all, append-nil, length-drop, length-set, slice_get}
+use Rattle.std.proofs.Common.{◌≡◌, inl, inr, ℕ, zero, suc, ◌+◌, ◌<◌, ◌≤◌, ◌==◌, ◌&&◌, ◌||◌, Bool, true, false, not, cond, List, [], ◌∷◌, ◌++◌, length, take, drop, get_or, set, refl, sym, ◌∙◌, ap, subst, arith, eqb-true, eq-eqb, ne_eqb, true≢false, Contains, MatchOption, Option, None, Some, filter, take_all, length-drop, length-set, slice_get}
 use Rattle.std.specs.Int.{from_bool}
 use Rattle.std.specs.List.{remove}
 use Rattle.std.proofs.lemmas.List.{take-append-le}
 use Rattle.std.proofs.lemmas.List.Elements.{Contains-push_cases, filter_agree, filter_more}
-use Rattle.kdg_graph.proofs.Common.{cases_eq, count_by-le-length, drop_more, get_or_from_slice_get, slice_get_within, length-filter, take_more, AllByRecursion, Arrival, NodeId, Standing, Absent, Recent, Settled, Node, HasNode, HaveOwnIds, IsGraph, ids_of, is_at, node_at, without, IsLaneAmong, IsInOrder, AreForgotten, AreMarked, AreRetested, AreSome, HasFewGone, HaveMarks, IsNext, MarkedIds, arrived, ids_in, listed_in, recent_in, settled_from, settled_in, has_number, is_among, is_recent, is_settled, recent_among, settled_among, all_at, all_from, from_filter, in_filter, here, there, filter-map, false_from_ne_true}
-use Rattle.kdg_graph.proofs.Blocking.{any_from, some_passes}
+use Rattle.kdg_graph.proofs.Common.{cases_eq, count_by-le-length, drop_more, get_or_from_slice_get, slice_get_within, length-filter, take_more, AllByRecursion, Arrival, NodeId, Standing, Absent, Recent, Settled, Node, HasNode, HaveOwnIds, IsGraph, ids_of, is_at, without, IsLaneAmong, IsInOrder, AreForgotten, AreMarked, AreRetested, AreSome, HasFewGone, HaveMarks, IsNext, MarkedIds, arrived, ids_in, listed_in, recent_in, settled_from, settled_in, has_number, is_among, is_recent, is_settled, recent_among, settled_among, all_at, all_from, from_filter, in_filter, here, there, filter-map, false_from_ne_true}
+use Rattle.kdg_graph.proofs.Blocking.{any_from}
 use Rattle.kdg_graph.proofs.Lanes.{among_own_ids, length-ids, same_by_number}
 use Rattle.kdg_graph.proofs.LookUps.{ids_find_nodes, none_at, same_id, without_none}
 use Rattle.kdg_graph.proofs.Rooms.{all_mapped}

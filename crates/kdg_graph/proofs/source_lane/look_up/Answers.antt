@@ -1,6 +1,6 @@
-use Rattle.std.proofs.Common.{◌≡◌, ◌∙◌, ◌<◌, ℕ, List, arith, get_or, length, subst, sym, refl}
+use Rattle.std.proofs.Common.{◌∙◌, ◌<◌, ℕ, List, arith, length, subst, sym, refl}
 use Rattle.std.proofs.lemmas.List.Elements.{All-from_all_within, All-from_recursion, All-get_or, All-set, AllWithin-more_set, AllWithin-none, AllWithin-upto, recursion_from_All}
-use Rattle.kdg_graph.proofs.Common.{Arrival, HasNode, IsArrival, Node, arrived}
+use Rattle.kdg_graph.proofs.Common.{Arrival, HasNode, IsArrival, Node}
 use Rattle.kdg_graph.proofs.Marks.{arrived_set}
 use Rattle.kdg_graph.proofs.source_lane.look_up.Goals as goal
 

@@ -1,6 +1,6 @@
-use Rattle.std.proofs.Common.{◌≡◌, ◌∙◌, Bool, List, ap, arith, get_or, is_lt, length, rules, subst, sym}
+use Rattle.std.proofs.Common.{◌≡◌, ◌∙◌, List, ap, arith, get_or, is_lt, length, rules, subst, sym}
 use Rattle.std.proofs.lemmas.Fn.{always_returns_same, filter_same}
-use Rattle.kdg_graph.proofs.Common.{Absent, AllByRecursion, Arrival, HasNode, IsArrival, Node, Standing, arrival_cmp, arrived, has_number, is_recent, recent_among}
+use Rattle.kdg_graph.proofs.Common.{Absent, AllByRecursion, Arrival, HasNode, IsArrival, Node, arrival_cmp, arrived, has_number, is_recent}
 use Rattle.kdg_graph.proofs.Listed.{all_moved, latest_first, same_numbers}
 use Rattle.kdg_graph.proofs.Marks.{written_back}
 use Rattle.kdg_graph.proofs.source_lane.order_arrivals.Goals as goal

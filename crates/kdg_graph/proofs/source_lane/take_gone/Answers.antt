@@ -1,4 +1,4 @@
-use Rattle.std.proofs.Common.{◌≡◌, ◌∙◌, ◌≤◌, ℕ, List, Option, Some, None, ap, arith, length, refl, slice_get, subst, sym, take}
+use Rattle.std.proofs.Common.{◌≡◌, ◌∙◌, ℕ, List, Some, None, ap, arith, length, refl, slice_get, subst, sym, take}
 use Rattle.kdg_graph.proofs.Common.{NodeId, Standing, settled_among, slice_get_within}
 use Rattle.kdg_graph.proofs.Marks.{all_walked, front_stays, goes_out, none_gone, stays_in}
 use Rattle.kdg_graph.proofs.source_lane.take_gone.Goals as goal

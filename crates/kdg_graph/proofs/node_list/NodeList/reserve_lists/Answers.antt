@@ -1,4 +1,4 @@
-use Rattle.std.proofs.Common.{◌≡◌, ◌∙◌, ◌≤◌, List, ap, arith, length, refl, rules, subst, sym}
+use Rattle.std.proofs.Common.{◌≡◌, ◌∙◌, ◌≤◌, List, ap, length, refl, rules, subst, sym}
 use Rattle.kdg_graph.specs.Kept.{IsKept}
 use Rattle.kdg_graph.proofs.Common.{AreFiled, AreSome, IsGraph, Location, MarkedIds, Node, listed_in, recent_in, settled_in, unblocked_of}
 use Rattle.kdg_graph.proofs.Marks.{listed_same, some_same}

@@ -1,4 +1,4 @@
-use Rattle.std.proofs.Common.{◌≡◌, ◌∙◌, List, ap, arith, subst, sym}
+use Rattle.std.proofs.Common.{◌∙◌, List, ap, arith, subst, sym}
 use Rattle.kdg_graph.proofs.Common.{HasFewGone, MarkedIds, NodeId, Standing, settled_among, settled_in}
 use Rattle.kdg_graph.proofs.Marks.{marked_cleaned, none_gone}
 use Rattle.kdg_graph.proofs.source_lane.SourceLane.drop_gone.Goals as goal

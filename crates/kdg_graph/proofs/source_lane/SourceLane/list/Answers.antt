@@ -1,5 +1,5 @@
 use Rattle.std.proofs.Common.{◌≡◌, ◌∙◌, ◌∷◌, [], ◌++◌, ◌<◌, Bool, true, false, cond, List, ap, length, get_or, set, subst, sym, refl, arith}
-use Rattle.kdg_graph.proofs.Common.{Absent, AreMarked, AreRetested, AreSome, Arrival, HasFewGone, MarkedIds, Node, NodeId, Recent, Standing, has_number, ids_in, is_settled, recent_among, settled_among}
+use Rattle.kdg_graph.proofs.Common.{Absent, AreMarked, AreRetested, AreSome, Arrival, MarkedIds, Node, NodeId, Recent, Standing, has_number, ids_in, is_settled, recent_among, settled_among}
 use Rattle.kdg_graph.proofs.Listed.{has_mark, selected_set, set_as_it_is}
 use Rattle.kdg_graph.proofs.Marks.{marked_waiting, settled_stays, waits}
 use Rattle.kdg_graph.proofs.Settling.{neither}

@@ -1,5 +1,5 @@
-use Rattle.std.proofs.Common.{◌≡◌, ◌∙◌, [], Bool, true, List, ap, arith, eqb-true, length, sym}
-use Rattle.kdg_graph.proofs.Common.{AreSome, Arrival, MarkedIds, Node, nil_from_length, recent_among, recent_in, settled_in}
+use Rattle.std.proofs.Common.{◌≡◌, ◌∙◌, true, ap, arith, eqb-true, length, sym}
+use Rattle.kdg_graph.proofs.Common.{MarkedIds, nil_from_length, recent_among, recent_in}
 use Rattle.kdg_graph.proofs.Marks.{cleaned, listed_same, some_same}
 use Rattle.kdg_graph.proofs.source_lane.SourceLane.settle.Goals as goal
 

@@ -1,4 +1,4 @@
-use Rattle.std.proofs.Common.{◌≡◌, ◌∙◌, ◌<◌, ◌^◌, Some, None, ap, arith, length, slice_get, sym}
+use Rattle.std.proofs.Common.{◌≡◌, ◌∙◌, Some, None, ap, arith, length, slice_get, sym}
 use Rattle.kdg_graph.proofs.Common.{MarkedIds, slice_get_within}
 use Rattle.kdg_graph.proofs.Marks.{next_here, next_nowhere, settled_past}
 use Rattle.kdg_graph.proofs.source_lane.SourceLane.settled_from.Goals as goal
