@@ -7,6 +7,8 @@ mod answering;
 #[cfg(test)]
 mod decks;
 #[cfg(test)]
+mod distances;
+#[cfg(test)]
 mod examples;
 #[cfg(test)]
 mod failures;

@@ -4,6 +4,11 @@ pub mod Effects
 pub mod AtHome
 pub mod Ranges
 pub mod Readers
-pub mod SafeTasks
+pub mod Nearness
+pub mod OwnMoments
+pub mod Refreshing
+pub mod Threats
+pub mod Queues
+pub mod Touches
 pub mod Sets
 pub mod Chains

@@ -30,7 +30,7 @@ use Rattle.logic_sim.specs.Circuit.{IsFitCells, IsFitTask}
 use Rattle.logic_sim.specs.Event.{Simulation, change_line, change_of, computed_by, eval_at, eval_of, event_of, next_changes, next_ticks, nothing_done, plan_in, plan_of, plan_place, tick_of, time_of, value_in, value_place, with_more}
 use Rattle.logic_sim.specs.Gate.{gate_value}
 use Rattle.logic_sim.specs.Laws.{AllLater, act_of-fit, act_of-later, act_of-not_earlier, either}
-use Rattle.logic_sim.specs.Meaning.{change_set, eval_accesses, eval_set, set_for, is_safe, simulation}
+use Rattle.logic_sim.specs.Meaning.{change_set, eval_accesses, eval_set, set_for, simulation}
 use Rattle.logic_sim.specs.Wiring.{fan_in_of, is_among, readers_of, signal_at}
 
 -- a fact of each pair of a list holds of a listed one
@@ -107,15 +107,8 @@ whole_behind [] text = ends_with_line_feed text
 whole_behind (byte ∷ []) text = ends_with_line_feed (byte ∷ text)
 whole_behind (byte ∷ next ∷ front) text = whole_behind (next ∷ front) text
 
--- children that are later than a key come after it
-none_before : (key parent : Key) (number : ℕ) (starts : List Start) → AllByRecursion (λ child. key.prio < child.prio) starts → tasks_before key (children_from parent number starts) ≡ []
-none_before key parent number [] later = refl
-none_before key parent number (child ∷ starts) later =
-    let after : nat_cmp child.prio key.prio ≡ Greater = grind (arith, nat_tests, later.0) in
-    rw after (none_before key parent (suc number) starts later.1)
-
 -- what holds of each of some tasks holds of the one in the middle
-middle : {X : Type 0} (P : X → Type 0) (before : List X) (x : X) (after : List X) → AllByRecursion P (before ++ x ∷ after) → P x
+pub middle : {X : Type 0} (P : X → Type 0) (before : List X) (x : X) (after : List X) → AllByRecursion P (before ++ x ∷ after) → P x
 middle P [] x after all = all.0
 middle P (first ∷ before) x after all = middle P before x after all.1
 
@@ -327,48 +320,3 @@ module _ (c : Simulation) where
 
   pub fixed_sets_are_known : FixedSetsAreKnown (simulation c)
   fixed_sets_are_known task cells values fit fit-task = refl
-
-  pub safe_alone : IsSafeAlone (simulation c)
-  safe_alone task fit-task = refl
-
-  pub safe_tasks_stay_safe : SafeTasksStaySafe (simulation c)
-  safe_tasks_stay_safe task acted before after cells fit fit-task fit-others ascending earlier safe apart =
-      rw (none_before task.key acted.key 0 ((simulation c).act acted cells).children later) (record { apart = tt; safe = others-safe })
-    where
-      same-prio : Task → Bool
-      same-prio other = other.key.prio == task.key.prio
-
-      acted-fit : IsFitTask c acted.key.prio acted.body
-      acted-fit = middle (IsTaskOf (simulation c)) before acted after fit-others
-
-      parts : (list_all same-prio before ≡ true) × (list_all same-prio (acted ∷ after) ≡ true)
-      parts = and_parts (list_all same-prio before) (list_all same-prio (acted ∷ after)) (sym (list_all-append same-prio before (acted ∷ after)) ∙ safe)
-
-      acted-parts : (same-prio acted ≡ true) × (list_all same-prio after ≡ true)
-      acted-parts = and_parts (same-prio acted) (list_all same-prio after) parts.1
-
-      others-safe : is_safe task (before ++ after) ≡ true
-      others-safe = list_all-append same-prio before after ∙ and_from (list_all same-prio before) (list_all same-prio after) parts.0 acted-parts.1
-
-      later : AllLater task.key.prio ((simulation c).act acted cells).children
-      later = subst (λ prio. AllLater prio ((simulation c).act acted cells).children) (eqb-true acted.key.prio task.key.prio acted-parts.0) (act_of-later c acted cells fit acted-fit)
-
-  pub safety_ignores_paths : SafetyIgnoresPaths (simulation c)
-  safety_ignores_paths task earlier name has_name naming have_names fit-task fit-others = list_all-map (λ other. other.key.prio == task.key.prio) (renamed name) earlier
-
-  pub paths_are_ignored : PathsAreIgnored (simulation c)
-  paths_are_ignored = record { acts = acts_ignore_paths; safety = safety_ignores_paths }
-
-  pub are_lawful : IsLawful (simulation c)
-  are_lawful = record {
-    cells_are_counted = cells_are_counted;
-    sets_are_in_range = sets_are_in_range;
-    acts_are_fit = acts_are_fit;
-    sets_are_local = sets_are_local;
-    acts_are_local = acts_are_local;
-    children_come_no_earlier = children_come_no_earlier;
-    sets_stay_within = sets_stay_within;
-    walks_are_true = walks_are_true;
-    safe_alone = safe_alone;
-    safe_tasks_stay_safe = safe_tasks_stay_safe;
-  }

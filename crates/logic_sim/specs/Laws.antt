@@ -39,7 +39,7 @@ filter_range P p a zero each = tt
 filter_range P p a (suc n) each =
     cons_if P (p a) a (filter p (range_with_len (a + 1) n)) (each a (omega arith)) (filter_range P p (a + 1) n (λ z h. each z (omega arith)))
 
-all_mapped : {X : Type 0} (P : X → Type 0) (f : ℕ → X) (zs : List ℕ) → AllByRecursion (λ z. P (f z)) zs → AllByRecursion P (map f zs)
+pub all_mapped : {X : Type 0} (P : X → Type 0) (f : ℕ → X) (zs : List ℕ) → AllByRecursion (λ z. P (f z)) zs → AllByRecursion P (map f zs)
 all_mapped P f [] all = tt
 all_mapped P f (z ∷ zs) all = (all.0, all_mapped P f zs all.1)
 
@@ -56,12 +56,12 @@ gate_from_reads Input number e = e
 gate_from_reads (Gate kind fan_in) number e = refl
 gate_from_reads (Dff source) number e = e
 
-no_input_from_gate : (form : Form) → is_gate form ≡ true → is_input form ≡ false
+pub no_input_from_gate : (form : Form) → is_gate form ≡ true → is_input form ≡ false
 no_input_from_gate Input e = absurd (false≢true e)
 no_input_from_gate (Gate kind fan_in) e = refl
 no_input_from_gate (Dff source) e = refl
 
-no_input_from_flip_flop : (form : Form) → is_flip_flop form ≡ true → is_input form ≡ false
+pub no_input_from_flip_flop : (form : Form) → is_flip_flop form ≡ true → is_input form ≡ false
 no_input_from_flip_flop Input e = absurd (false≢true e)
 no_input_from_flip_flop (Gate kind fan_in) e = refl
 no_input_from_flip_flop (Dff source) e = refl

@@ -2,9 +2,16 @@ pub mod Gate
 pub mod Wiring
 pub mod Event
 pub mod Circuit
+pub mod Distance
 pub mod Tables
 pub mod Laws
 pub mod Meaning
+pub mod Gaps
+pub mod DistanceLaws
 pub mod Lawful
+pub mod Conflicts
+pub mod Safety
+pub mod Queue
+pub mod Horizon
 pub mod Bundles
 pub mod Chain

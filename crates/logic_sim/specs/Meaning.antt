@@ -1,4 +1,4 @@
--- Circuits as ordered applications: which cells the events read and write, and when one may come before others.
+-- Circuits as ordered applications: which cells the events read and write, and what they do.
 use Rattle.std.specs.Prelude.{ℕ, ◌*◌, ◌==◌, ◌||◌, if◌then◌else◌, Bool, List, [], ◌∷◌, ◌++◌, length, map}
 use Rattle.std.specs.List.{list_all}
 use Rattle.bench_reader.specs.declared.deck.Deck.{Deck}
@@ -8,6 +8,7 @@ use Rattle.rw_sets.specs.Accesses.{Accesses, merged}
 use Rattle.app_laws.specs.declared.app.SetAnswer.TheVariants as answer
 use Rattle.app_laws.specs.Applications.{Application}
 use Rattle.logic_sim.specs.Circuit.{IsFitCells, IsFitTask}
+use Rattle.logic_sim.specs.Distance.{is_safe}
 use Rattle.logic_sim.specs.Event.{Simulation, act_of, change_kind, eval_kind, tick_kind, plan_place, value_place}
 use Rattle.logic_sim.specs.Wiring.{fan_in_of, signal_at}
 
@@ -30,10 +31,6 @@ set_for deck kind at =
     else if kind == eval_kind || kind == tick_kind then eval_set deck at
     else []
 
--- whether an event may come before the earlier ones: these have its own priority, so that what they create comes later
-abbrev pub is_safe : Task → List Task → Bool
-is_safe task earlier = list_all (λ other. other.key.prio == task.key.prio) earlier
-
 -- what a circuit means to those who execute it
 abbrev pub simulation : Simulation → Application ℕ
 simulation c = record {
@@ -43,5 +40,5 @@ simulation c = record {
   set_of = λ body cells. set_for c.deck body.kind body.at;
   walk = λ body cells. answer.Known (set_for c.deck body.kind body.at);
   act = act_of c;
-  is_safe = is_safe;
+  is_safe = is_safe c;
 }

@@ -17,6 +17,8 @@ use std::marker::Model;
 use task_order::StartList;
 
 mod application;
+mod settling;
+mod threats;
 
 /// A circuit that is simulated up to a time. Signal `s` has its value in cell `2s`, and the value
 /// that is planned for it in cell `2s + 1`.

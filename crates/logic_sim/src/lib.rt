@@ -7,9 +7,12 @@ mod chain;
 mod circuit;
 mod event;
 mod gate;
+mod horizon;
 mod laws;
+mod signal_queue;
 mod tables;
 
 pub use chain::chain_deck;
 pub use circuit::Circuit;
+pub use horizon::Horizon;
 pub use laws::circuit_laws;

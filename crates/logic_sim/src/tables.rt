@@ -55,7 +55,7 @@ pub(crate) fn reader_lists(alloc: Global, signals: &[Signal]) -> Result<Vec<NumL
 }
 
 /// The signals of which each change has this one evaluated: a flip-flop waits for its clock.
-fn watched_by(form: &Form) -> &[u32]
+pub(crate) fn watched_by(form: &Form) -> &[u32]
     ensures { result.now ≡ watched_by form.now }
 {
     match form {

@@ -7,9 +7,11 @@ ghost use Rattle.logic_sim.specs.Meaning.{change_set, eval_set, simulation};
 ghost use Rattle.logic_sim.specs.Wiring.{fan_in_of, readers_of, signal_at};
 
 use super::Circuit;
+use super::threats::none_is_before;
 use crate::cells::Cells;
 use crate::event::{CHANGE, EVAL, change_start, eval_start, push_change, tick_start};
 use crate::gate::computed_value;
+use crate::horizon::Horizon;
 use app_laws::{App, Child, ChildList, Effect, SetAnswer};
 use cell_store::{Bundle, Store, home_laws, location_laws, return_laws, value_laws};
 use kdg_text::{NoRoom, Steps, Text};
@@ -19,15 +21,16 @@ use std::sync::ledger::Ledger;
 use task_order::{Body, PendingTasks, Start, Task};
 
 impl App for Circuit {
-    ghost use Rattle.logic_sim.specs.Lawful as lawful;
+    ghost use Rattle.logic_sim.specs.Horizon.{Tells};
+    ghost use Rattle.logic_sim.specs.Safety as safety;
 
     type Val = u8;
 
-    type Horizon = ();
+    type Horizon = Horizon;
 
     ghost meaning = { simulation };
 
-    ghost tells = { λ app horizon tasks. Unit {0} };
+    ghost tells = { Tells };
 
     fn cells(&self) -> u32 {
         2 * self.deck.signals.items().len() as u32
@@ -63,17 +66,22 @@ impl App for Circuit {
         Some(100)
     }
 
-    fn horizon(&self, _alloc: Global) -> Result<(), NoRoom> {
-        Ok(())
+    fn horizon(&self, alloc: Global) -> Result<Horizon, NoRoom> {
+        Horizon::new(alloc, self.deck.signals.items().len())
     }
 
-    fn touch(&self, _horizon: &mut (), _body: &Body) {}
+    fn touch(&self, horizon: &mut Horizon, body: &Body) {
+        horizon.stale.put(body.at);
+    }
 
-    fn safe<P: PendingTasks>(&self, task: &Task, pending: &P, _horizon: &mut ()) -> bool {
-        match pending.earliest() {
-            Some(first) => first.key.prio >= task.key.prio,
-            None => true,
+    /// An event at the time of the earliest one is safe where none conflicts with it: what follows from
+    /// an event at that time is an evaluation of what this event doesn't read, or comes later.
+    fn safe<P: PendingTasks>(&self, task: &Task, pending: &P, horizon: &mut Horizon) -> bool {
+        if none_is_before(task, pending) {
+            return true;
         }
+        self.settle(pending, horizon);
+        self.is_unthreatened(task, pending, horizon)
     }
 
     #[inline(always)]
@@ -115,7 +123,7 @@ impl App for Circuit {
         }
     }
 
-    ghost lawful = { lawful.are_lawful };
+    ghost lawful = { safety.are_lawful };
 }
 
 impl Circuit {
@@ -129,7 +137,7 @@ impl Circuit {
     }
 
     /// The gates that read a signal, each once, in file order.
-    fn gates_reading(&self, signal: u32) -> &[u32]
+    pub(super) fn gates_reading(&self, signal: u32) -> &[u32]
         requires { signal < length self.now.deck.signals }
         ensures all { result.now ≡ readers_of self.now.deck.signals signal }
         ensures few { length result.now ≤ 4096 }
@@ -360,7 +368,7 @@ impl Circuit {
 
     /// How long after its evaluation or tick a signal takes the value that was planned for it.
     #[inline(always)]
-    fn delay(&self, signal: u32) -> u64
+    pub(super) fn delay(&self, signal: u32) -> u64
         requires in_range { signal < length self.now.deck.signals }
         ensures delay { result ≡ delay_of self.now signal }
         ensures short { result ≤ 1000000 }

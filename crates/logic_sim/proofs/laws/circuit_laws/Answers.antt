@@ -1,4 +1,6 @@
-use Rattle.logic_sim.specs.Lawful.{are_lawful, fixed_sets_are_known, paths_are_ignored}
+use Rattle.logic_sim.specs.DistanceLaws.{gaps_tell}
+use Rattle.logic_sim.specs.Lawful.{fixed_sets_are_known}
+use Rattle.logic_sim.specs.Safety.{are_lawful, paths_are_ignored}
 use Rattle.logic_sim.proofs.laws.circuit_laws.Goals as goal
 
 pub returns-clause-lawful : goal.returns-clause-lawful
@@ -9,3 +11,6 @@ returns-clause-fixed context = fixed_sets_are_known
 
 pub returns-clause-paths : goal.returns-clause-paths
 returns-clause-paths context = paths_are_ignored
+
+pub returns-clause-gaps : goal.returns-clause-gaps
+returns-clause-gaps context = gaps_tell
