@@ -155,6 +155,3 @@ fn value_at(store: &Store<u8>, loc: u32) -> u8
         Seen::Out => unreachable!(),
     }
 }
-
-#[cfg(test)]
-mod tests;

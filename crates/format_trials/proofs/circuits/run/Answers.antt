@@ -1,6 +1,6 @@
 use Rattle.std.proofs.Common.{sym, subst}
 use Rattle.cell_store.specs.Values.{AreAllHome}
-use Rattle.logic_sim.proofs.circuit.tests.run.Goals as goal
+use Rattle.format_trials.proofs.circuits.run.Goals as goal
 
 pub print_finals-requires-clause-home : goal.print_finals-requires-clause-home
 print_finals-requires-clause-home c =

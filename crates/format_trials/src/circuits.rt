@@ -1,9 +1,10 @@
-use super::Circuit;
-use crate::gate::output_of;
+//! Circuits that run, and decks made from a number.
+
 use app_laws::{Finals, SerialFault, serial};
-use bench_reader::{GateKind, read_deck};
+use bench_reader::{Form, GateKind, Signal, read_deck};
 use cell_store::value_laws;
 use kdg_text::Text;
+use logic_sim::{Circuit, chain_deck};
 use std::alloc::Global;
 use std::process::Abort;
 use std::test::Fail;
@@ -37,23 +38,6 @@ fn run(alloc: Global, circuit: &Circuit, budget: u64) -> Result<(Finals<u8>, Tex
     let finals = serial(alloc, circuit, cells, first, budget)?;
     let last_lines = circuit.print_finals(&finals.store)?;
     Ok((finals, last_lines))
-}
-
-#[test]
-fn gates_compute_their_tables(rt: HostRuntime) {
-    for (kind, ones, inputs, want) in [
-        (GateKind::Nand, 0, 1, 1),
-        (GateKind::Nand, 1, 1, 0),
-        (GateKind::Nand, 0, 2, 1),
-        (GateKind::Nand, 1, 2, 1),
-        (GateKind::Nand, 2, 2, 0),
-        (GateKind::Nand, 254, 255, 1),
-        (GateKind::Nand, 255, 255, 0),
-        (GateKind::Not, 0, 1, 1),
-        (GateKind::Not, 1, 1, 0),
-    ] {
-        assert_eq!(rt; output_of(kind, ones, inputs), want, "{ones} of {inputs}");
-    }
 }
 
 /// The evaluation of a gate at time 0.
@@ -206,5 +190,37 @@ fn a_run_stays_within_its_budget(rt: HostRuntime) -> Result<(), Fail> {
     let created = 20;
     let limit = 19;
     assert_eq!(rt; fault, Some(SerialFault::Budget { created, limit }));
+    Ok(())
+}
+
+/// Each gate's name, and the number of the signal that it inverts.
+#[test]
+fn gates_invert_the_signals_before_them(rt: HostRuntime) -> Result<(), Fail> {
+    let deck = chain_deck(rt.alloc(), 3)?;
+    let signals = deck.signals.items();
+    assert_eq!(rt; signals.len(), 4);
+    assert_eq!(rt; signals[0].name.bytes(), b"a".as_slice());
+    assert!(rt; matches!(signals[0].form, Form::Input));
+    for (number, name) in ["g1", "g2", "g3"].iter().enumerate() {
+        let Signal { name: given, form } = &signals[number + 1];
+        assert_eq!(rt; given.bytes(), name.as_bytes());
+        let Form::Gate { kind, fan_in } = form else {
+            panic!(rt; "no gate");
+        };
+        assert_eq!(rt; *kind, GateKind::Not);
+        assert_eq!(rt; fan_in.items(), [number as u32].as_slice());
+    }
+    assert_eq!(rt; deck.outputs.items(), [3].as_slice());
+    assert_eq!(rt; deck.delays.items(), [0, 1, 1, 1].as_slice());
+    assert!(rt; deck.stimuli.items().is_empty());
+    Ok(())
+}
+
+#[test]
+fn chains_are_circuits(rt: HostRuntime) -> Result<(), Fail> {
+    for n in [1, 2, 999] {
+        let circuit = Circuit::new(rt.alloc(), chain_deck(rt.alloc(), n)?, 1000, 10)?;
+        assert_eq!(rt; circuit.first_task_count(), u64::from(n));
+    }
     Ok(())
 }
