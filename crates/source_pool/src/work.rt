@@ -46,9 +46,7 @@ impl Work {
     /// Whether a round of so many tasks, which have so many cells in all, has work enough for threads.
     pub(crate) fn note_round(&mut self, tasks: usize, cells: usize) -> bool {
         let is_enough = match self.task_nanos {
-            Some(nanos) => {
-                nanos.saturating_sub(TRANSPORT).saturating_mul(tasks as u64) >= START
-            }
+            Some(nanos) => { nanos.saturating_sub(TRANSPORT).saturating_mul(tasks as u64) >= START }
             None => cells >= MANY_CELLS,
         };
         self.was_enough = Some(is_enough || self.was_enough == Some(true));

@@ -10,7 +10,8 @@ ghost use Rattle.std.specs.Option.{option_map};
 mod form;
 mod in_place;
 mod middle;
-mod ring;mod tier;
+mod ring;
+mod tier;
 mod tiers;
 
 use form::Form;
