@@ -27,6 +27,7 @@ pub mod FinishesKeepSound
 pub mod JobsInHand
 pub mod Listed
 pub mod Marks
+pub mod Moving
 pub mod Performed
 pub mod PerformedTasks
 pub mod Renaming

@@ -11,6 +11,7 @@ pub mod Jobs
 pub mod Laws
 pub mod Lists
 pub mod NodeLists
+pub mod Moves
 pub mod Progress
 pub mod Renaming
 pub mod Rest

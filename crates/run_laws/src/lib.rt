@@ -4,6 +4,7 @@
 mod course_laws;
 mod finish_laws;
 mod laws;
+mod moves;
 
 pub use course_laws::{
     course_act_laws, course_claim_laws, course_drain_laws, course_end_laws, course_event_laws,
@@ -14,3 +15,4 @@ pub use laws::{
     act_laws, basis, begin_laws, claim_laws, clear_claim_laws, clear_laws, drain_laws, event_laws,
     job_laws, lower_laws, renaming_laws, rest_laws, stay_clear_laws, whole_laws,
 };
+pub use moves::move_laws;
