@@ -13,6 +13,7 @@ mod pending;
 mod ready;
 mod renaming;
 mod rewriting;
+mod sends;
 mod touching;
 mod uncounted;
 
@@ -20,6 +21,7 @@ pub use answers::{BeginFault, Counts};
 pub use crew::{OverCause, perform};
 pub use engine::Engine;
 use kdg_graph::NodeId;
+pub use sends::engine_sends;
 
 /// A claimed task of an engine with its bundle.
 pub type Job<V> = crew::Job<NodeId, V>;
