@@ -1,0 +1,13 @@
+pub mod Beginning
+pub mod Closing
+pub mod Continuing
+pub mod Entering
+pub mod Freeing
+pub mod Joining
+pub mod Numbers
+pub mod Places
+pub mod Seats
+pub mod Splitting
+pub mod Sums
+pub mod Taking
+pub mod Waiting

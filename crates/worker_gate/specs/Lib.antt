@@ -1,0 +1,5 @@
+pub mod Fits
+pub mod Hall
+pub mod Laws
+pub mod Steps
+pub mod Turns

@@ -1,0 +1,18 @@
+//! Workers that share one engine: a hall, in which one seat at a time has the turn on it.
+#![tactic(auto)]
+
+mod entry;
+mod hall;
+mod laws;
+mod lending;
+mod slot;
+mod steps;
+mod turn;
+mod view;
+
+pub use entry::{Entry, EntryOf};
+pub use hall::{Hall, HallOf, Seat, SeatOf};
+pub use laws::continuing_laws;
+pub use lending::{Lease, Turn};
+pub use steps::Did;
+pub use view::View;
