@@ -1,5 +1,5 @@
-//! Logic circuits as ordered applications. A task changes a signal or evaluates a gate, and every
-//! gate has a delay of one unit of time.
+//! Logic circuits as ordered applications. A task changes a signal, evaluates a gate or has a flip-flop
+//! tick, and each gate and flip-flop has a delay of its own.
 #![tactic(auto)]
 
 mod cells;
