@@ -1,5 +1,5 @@
 use Rattle.std.proofs.Common.{refl}
-use Rattle.core.specs.Mem.Slots.{slots_items}
+use Rattle.std.specs.Mem.Slots.{slots_items}
 use Rattle.worker_gate.proofs.Closing.{engine_fits, taken_out}
 use Rattle.worker_gate.proofs.Seats.{same_origin, same_view}
 use Rattle.worker_gate.proofs.hall.HallOf+Engine+A+A+Val+Kept.close.Goals as goal
