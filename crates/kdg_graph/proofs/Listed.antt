@@ -1,12 +1,14 @@
 -- Ids of nodes, some in key order and others that came since, where a node or an id changes.
-use Rattle.std.proofs.Common.{◌≡◌, inl, inr, ℕ, ◌<◌, ◌||◌, Bool, true, false, not, cond, List, [], ◌∷◌, ◌++◌, length, get_or, set, refl, sym, ◌∙◌, ap, eq-eqb, ◌==◌, ne_eqb, true≢false, get_or-set_other, IsPermutation, ◌≤◌, append-nil, Some, subst, Contains, IfSome, IsSome, None, filter, is_lt, ◌≢◌, ◌+◌, drop, Option, arith, get_or-drop, length-drop, slice_get, option_map, nat_cmp, Ordering, Less, Equal, Greater, map}
+use Rattle.std.proofs.Common.{◌≡◌, inl, inr, ℕ, ◌<◌, ◌||◌, Bool, true, false, not, cond, List, [], ◌∷◌, ◌++◌, length, get_or, set, refl, sym, ◌∙◌, ap, eq-eqb, ◌==◌, ne_eqb, true≢false, get_or-set_other, IsPermutation, ◌≤◌, append-nil, Some, subst, Contains, IfSome, IsSome, None, filter, is_lt, ◌≢◌, ◌+◌, Option, arith, slice_get, option_map, nat_cmp, take, unwrap_or, Ordering, Less, Equal, Greater, map}
 use Rattle.std.proofs.Math.Bool.{or-true}
+use Rattle.std.proofs.Math.Seq.{take-append_seam}
+use Rattle.std.proofs.lemmas.List.{get_or-take, length-append, length-take-le, take_at, take_more}
 use Rattle.std.proofs.lemmas.Cmp.{nat_cmp_total, on_total, then_total, ranked}
-use Rattle.std.proofs.lemmas.List.MinMax.{IsStrictWeakOrder-flip, ranks_by}
+use Rattle.std.proofs.lemmas.List.MinMax.{ranks_by}
 use Rattle.std.specs.Cmp.Lexicographic.{options_total, nat_list_cmp_total, slice_cmp}
 use Rattle.task_order.specs.PathCode.{path_beginning}
-use Rattle.kdg_graph.proofs.Common.{cases_eq, get_or-set_at, list_any-append, IsPermutation-map, list_any-IsPermutation, Arrival, NodeId, Standing, Absent, Node, ids_of, is_at, put_node, without, AreMarked, arrived, has_number, is_recent, is_settled, IsStrictWeakOrder, IsTotalOrder, AllByRecursion, All-from_recursion, recursion_from_All, All-permutation, key_cmp_total, HasNode, IsGraph, node_at, IsLaneAmong, AreSelected, HaveMarks, IsInOrder, MarkedIds, arrival_cmp, forgotten, ids_in, is_among, key_at, listed_in, recent_in, retested, settled_in, all_at, in_map, option_cmp, ordering_reverse, ordering_then, get_or_default, Contains-get_or, sorted_far, get_or_from_slice_get, slice_get_within, Key, key_cmp, LowerBeginningsComeFirst, Settled, Recent, AreLater, AreInTurn, IsArrival, all_from, false_from_ne_true, length-map, SetChange, HaveOwnIds, started, with_sets, AreSome, from_filter, from_map, in_filter, none_any, none_found, filter-map}
-use Rattle.kdg_graph.proofs.Blocking.{any_from, found_some}
+use Rattle.kdg_graph.proofs.Common.{cases_eq, get_or-set_at, list_any-append, IsPermutation-map, list_any-IsPermutation, Arrival, NodeId, Standing, Absent, Node, ids_of, is_at, put_node, without, AreMarked, arrived, has_number, is_recent, is_settled, IsStrictWeakOrder, IsTotalOrder, AllByRecursion, All-from_recursion, recursion_from_All, All-permutation, key_cmp_total, HasNode, IsGraph, node_at, IsLaneAmong, AreSelected, HaveMarks, IsInOrder, MarkedIds, arrival_cmp, forgotten, ids_in, is_among, key_at, listed_in, recent_in, retested, settled_in, all_at, in_map, option_cmp, ordering_reverse, ordering_then, get_or_default, recent_among, TellsItsKey, sorted_far, get_or_from_slice_get, slice_get_within, Key, key_cmp, LowerBeginningsComeFirst, Settled, Recent, AreLater, AreInTurn, IsArrival, all_from, false_from_ne_true, length-map, SetChange, HaveOwnIds, started, with_sets, AreSome, from_filter, from_map, in_filter, none_any, none_found, filter-map}
+use Rattle.kdg_graph.proofs.Blocking.{any_from}
 use Rattle.kdg_graph.proofs.Keeping.{changed, ids-map, start, start_keeps_id}
 use Rattle.kdg_graph.proofs.KeyOrder.{is_before, same_filter, put_dropped, put_without}
 use Rattle.kdg_graph.proofs.LookUps.{ids_find_nodes, nodes_have_ids, is_at-same, not_at, same_id}
@@ -123,9 +125,8 @@ arrivals_total : (nodes : List Node) → IsTotalOrder (arrival_cmp nodes)
 arrivals_total nodes =
     then_total (on_total (λ (a : Arrival). a.prio) nat_cmp_total) (then_total (on_total (λ (a : Arrival). a.beginning) nat_cmp_total) (on_total (λ (a : Arrival). key_at nodes a.id) (options_total key_cmp_total)))
 
--- and so is the one that has the latest first
-pub latest_first : (nodes : List Node) → IsStrictWeakOrder (λ (a b : Arrival). is_lt (arrival_cmp nodes b a))
-latest_first nodes = IsStrictWeakOrder-flip (λ (a b : Arrival). is_lt (arrival_cmp nodes a b)) (ranks_by (arrivals_total nodes) (λ (a : Arrival). a))
+pub earliest_first : (nodes : List Node) → IsStrictWeakOrder (λ (a b : Arrival). is_lt (arrival_cmp nodes a b))
+earliest_first nodes = ranks_by (arrivals_total nodes) (λ (a : Arrival). a)
 
 pub all_moved : {X : Type 0} (P : X → Type 0) (xs ys : List X) → AllByRecursion P xs → IsPermutation xs ys → AllByRecursion P ys
 all_moved P xs ys all moved = recursion_from_All P ys (All-permutation P xs ys moved (All-from_recursion P xs all))
@@ -186,31 +187,12 @@ has_mark nodes id marks there all =
     let is_node = ids_find_nodes nodes id found.0 found.1 in
     subst (λ (i : NodeId). i.at < marks) is_node.1 (all_at (λ (i : NodeId). i.at < marks) (ids_of nodes) found.0.id all (in_map (λ (n : Node). n.id) nodes found.0 is_node.0))
 
--- ---- ids that came, and are put in order with the others one after another
-
--- ---- their nodes
+-- ---- ids that came, and are put in order with the others one after another, the latest first
 
 pub found_arrival : (nodes : List Node) (arrival : Arrival) (arrives : IsArrival nodes arrival) → IsGraph nodes → node_at nodes arrival.id ≡ Some arrives.node
 found_arrival nodes arrival arrives graph = ap (node_at nodes) (sym arrives.id_is) ∙ nodes_have_ids nodes arrives.node graph arrives.there
 
-pub arrives_at : (nodes : List Node) (arrivals : List Arrival) (i : ℕ) (d : Arrival) → AllByRecursion (IsArrival nodes) arrivals → i < length arrivals → IsArrival nodes (get_or arrivals i d)
-arrives_at nodes arrivals i d all inside = all_at (IsArrival nodes) arrivals (get_or arrivals i d) all (Contains-get_or arrivals i d inside)
-
--- each has a mark
-pub arrival_marked : (nodes : List Node) (arrival : Arrival) (marks : ℕ) → HaveMarks nodes marks → IsArrival nodes arrival → arrival.id.at < marks
-arrival_marked nodes arrival marks have arrives =
-    subst (λ (id : NodeId). id.at < marks) arrives.id_is (all_at (λ (id : NodeId). id.at < marks) (ids_of nodes) arrives.node.id have (in_map (λ (n : Node). n.id) nodes arrives.node arrives.there))
-
 -- ---- their order
-
--- none of those behind one comes after it
-pub none_after : (nodes : List Node) (arrivals : List Arrival) (i : ℕ) (d : Arrival) → AreInTurn nodes arrivals → i < length arrivals → AllByRecursion (λ next. is_lt (arrival_cmp nodes (get_or arrivals i d) next) ≡ false) (drop (i + 1) arrivals)
-none_after nodes arrivals i d turns inside =
-    all_from (λ (next : Arrival). is_lt (arrival_cmp nodes (get_or arrivals i d) next) ≡ false) (drop (i + 1) arrivals) (λ next has.
-    let within : i + 1 + has.0 < length arrivals = omega (arith, has.1, length-drop (i + 1) arrivals) in
-    let here : get_or arrivals (i + 1 + has.0) d ≡ next = get_or_default arrivals (i + 1 + has.0) d next within ∙ sym (get_or-drop (i + 1) arrivals has.0 next) ∙ has.2 in
-    subst (λ (a : Arrival). is_lt (arrival_cmp nodes (get_or arrivals i d) a) ≡ false) here
-    (sorted_far (λ (a b : Arrival). is_lt (arrival_cmp nodes b a)) (latest_first nodes) arrivals turns i (i + 1 + has.0) d (omega arith) within))
 
 -- beginnings that don't turn paths round don't turn keys round
 by_parts : (prios beginnings paths : Ordering) → (beginnings ≡ Greater → paths ≡ Greater) → is_lt (ordering_then prios (ordering_then beginnings (ordering_then prios paths))) ≡ false → is_lt (ordering_then prios paths) ≡ false
@@ -245,68 +227,91 @@ later_unless nodes one other graph has_one has_other differ is = by_case (key_cm
 
 -- ---- how far they are put in order
 
--- none of those that are left comes after the one whose id stands at the place, if one does
-pub record IsReached (nodes : List Node) (ids : List NodeId) (end : ℕ) (left : List Arrival) : Type 0 where
-  pub inside : end ≤ length ids
-  pub last : end < length ids → (arrival : Arrival) × IsArrival nodes arrival × (slice_get ids end ≡ Some arrival.id) × AllByRecursion (λ next. is_lt (arrival_cmp nodes arrival next) ≡ false) left
+-- the ids from the place on are those of later nodes than that of each one that is left, where its own isn't there
+abbrev pub IsReached : List Node → List NodeId → ℕ → List Arrival → Type 0
+IsReached nodes ids end left = AllByRecursion (λ next. has_number next.id.at ids ≡ false → IfSome (node_at nodes next.id) (λ node. AreLater nodes node.task.key ids end)) left
 
-reached_rest : (nodes : List Node) (ids : List NodeId) (end : ℕ) (arrival : Arrival) (rest : List Arrival) → IsReached nodes ids end (arrival ∷ rest) → IsReached nodes ids end rest
-reached_rest nodes ids end arrival rest reached = record {
-  inside = reached.inside;
-  last = λ within. let was = reached.last within in (was.0, was.1, was.2, was.3.1);
-}
+pub reached_end : (nodes : List Node) (ids : List NodeId) (left : List Arrival) → IsReached nodes ids (length ids) left
+reached_end nodes ids left =
+    all_from (λ (next : Arrival). has_number next.id.at ids ≡ false → IfSome (node_at nodes next.id) (λ node. AreLater nodes node.task.key ids (length ids))) left (λ next has absent.
+    elim (node_at nodes next.id) as (λ found. IfSome found (λ (node : Node). AreLater nodes node.task.key ids (length ids))) [
+      | None ↦ tt
+      | Some node ↦ record { inside = omega arith; later = λ within. absurd (omega (arith, within)) }
+    ])
 
-reached_next : (nodes : List Node) (ids : List NodeId) (place : ℕ) (arrival : Arrival) (rest : List Arrival) → IsArrival nodes arrival → slice_get ids place ≡ Some arrival.id → AllByRecursion (λ next. is_lt (arrival_cmp nodes arrival next) ≡ false) rest → IsReached nodes ids place rest
-reached_next nodes ids place arrival rest arrives at turns =
-    let inside : place < length ids = slice_get_within ids place arrival.id at in
+-- those behind an arrival are later than the next one, which comes no later, where its own id isn't there
+reached_later : LowerBeginningsComeFirst → (nodes : List Node) (ids : List NodeId) (place : ℕ) (arrival next : Arrival) (before : IsArrival nodes arrival) (arrives : IsArrival nodes next) → IsGraph nodes → slice_get ids place ≡ Some arrival.id → is_lt (arrival_cmp nodes arrival next) ≡ false → has_number next.id.at ids ≡ false
+    → AreLater nodes arrives.node.task.key ids place
+reached_later lower nodes ids place arrival next before arrives graph at turns absent =
+    let within : place < length ids = slice_get_within ids place arrival.id at in
+    let stands : slice_get ids place ≡ Some before.node.id = at ∙ ap (λ (id : NodeId). Some id) (sym before.id_is) in
+    let differ : before.node ≢ arrives.node = λ same.
+    let there : Contains ids next.id = (place, within, get_or_from_slice_get ids place next.id next.id (stands ∙ ap (λ (id : NodeId). Some id) (ap (λ (n : Node). n.id) same ∙ arrives.id_is))) in
+    true≢false (sym (any_from (λ (id : NodeId). next.id.at == id.at) ids next.id there (eq-eqb next.id.at next.id.at refl)) ∙ absent) in
     record {
-      inside = omega (arith, inside);
-      last = λ within. (arrival, arrives, at, turns);
+      inside = omega (arith, within);
+      later = λ _. (before.node, before.there, stands, later_unless nodes before.node arrives.node graph before.there arrives.there differ (not_earlier lower nodes arrival next before arrives graph turns));
     }
 
--- then the ids from the place on are those of later nodes than the next one's, where its own isn't there
-reached_later : LowerBeginningsComeFirst → (nodes : List Node) (ids : List NodeId) (end : ℕ) (arrival : Arrival) (rest : List Arrival) (arrives : IsArrival nodes arrival) → IsGraph nodes → IsReached nodes ids end (arrival ∷ rest) → has_number arrival.id.at ids ≡ false → AreLater nodes arrives.node.task.key ids end
-reached_later lower nodes ids end arrival rest arrives graph reached absent = record {
-  inside = reached.inside;
-  later = λ within.
-      let last = reached.last within in
-      let before : IsArrival nodes last.0 = last.1 in
-      let at : slice_get ids end ≡ Some before.node.id = last.2 ∙ ap (λ (id : NodeId). Some id) (sym before.id_is) in
-      let differ : before.node ≢ arrives.node = λ same.
-      let there : Contains ids arrival.id = (end, within, get_or_from_slice_get ids end arrival.id arrival.id (last.2 ∙ ap (λ (id : NodeId). Some id) (sym before.id_is ∙ ap (λ (n : Node). n.id) same ∙ arrives.id_is))) in
-      true≢false (sym (any_from (λ (id : NodeId). arrival.id.at == id.at) ids arrival.id there (eq-eqb arrival.id.at arrival.id.at refl)) ∙ absent) in
-      (before.node, before.there, at, later_unless nodes before.node arrives.node graph before.there arrives.there differ (not_earlier lower nodes last.0 arrival before arrives graph last.3.0));
-}
+reached_next : LowerBeginningsComeFirst → (nodes : List Node) (all : List Arrival) (arrival : Arrival) (has : Contains all arrival) (ids : List NodeId) (place : ℕ) → IsGraph nodes → AreInTurn nodes all → (1 < length all → AllByRecursion (TellsItsKey nodes) all) → HasNode nodes arrival.id → slice_get ids place ≡ Some arrival.id
+    → IsReached nodes ids place (take has.0 all)
+reached_next lower nodes all arrival has ids place graph turns told there at =
+    let inside : has.0 < length all = has.1 in
+    all_from (λ (next : Arrival). has_number next.id.at ids ≡ false → IfSome (node_at nodes next.id) (λ node. AreLater nodes node.task.key ids place)) (take has.0 all) (λ next in_front absent.
+    let before : in_front.0 < has.0 = omega (arith, in_front.1, length-take-le has.0 all (omega (arith, inside))) in
+    let within : in_front.0 < length all = omega (arith, before, inside) in
+    let here : get_or all in_front.0 next ≡ next = sym (get_or-take has.0 all in_front.0 next before) ∙ in_front.2 in
+    let tells : AllByRecursion (TellsItsKey nodes) all = told (omega (arith, before, inside)) in
+    let arrives : IsArrival nodes arrival = all_at (TellsItsKey nodes) all arrival tells has there in
+    let after : is_lt (arrival_cmp nodes arrival next) ≡ false = (λ i. is_lt (arrival_cmp nodes (sym has.2 i) (sym (get_or_default all in_front.0 arrival next within ∙ here) i)))
+    ∙ sorted_far (λ (a b : Arrival). is_lt (arrival_cmp nodes a b)) (earliest_first nodes) all turns in_front.0 has.0 arrival (omega (arith, before)) inside in
+    let by_found : (found : Option Node) → node_at nodes next.id ≡ found → IfSome found (λ (node : Node). AreLater nodes node.task.key ids place) = elim [
+      | None ↦ λ _. tt
+      | Some node ↦ λ is.
+          let next_is : IsArrival nodes next = all_at (TellsItsKey nodes) all next tells (in_front.0, within, here) (subst IsSome (sym is) refl) in
+          let same : next_is.node ≡ node = some_same_node _ _ (sym (found_arrival nodes next next_is graph) ∙ is) in
+          subst (λ (n : Node). AreLater nodes n.task.key ids place) same (reached_later lower nodes ids place arrival next arrives next_is graph at after absent)
+    ] in
+    by_found (node_at nodes next.id) refl)
+  where
+    some_same_node : (a b : Node) → Some a ≡ Some b → a ≡ b
+    some_same_node a b is = ap (λ (found : Option Node). unwrap_or found a) is
 
 -- ---- their standings
 
 -- some of those that came are left, and the others are in order with the ids that were before
-pub record AreMarkedSoFar (before : List NodeId) (arrivals left : List Arrival) (ids : List NodeId) (standings : List Standing) : Type 0 where
+pub record AreMarkedSoFar (before : List NodeId) (was : List Standing) (left : List Arrival) (ids : List NodeId) (standings : List Standing) : Type 0 where
   pub settled : (at : ℕ) → is_settled (get_or standings at Absent) ≡ has_number at ids
   pub left_out : (at : ℕ) → is_recent (get_or standings at Absent) ≡ true → has_number at (arrived left) ≡ true
-  pub all : (at : ℕ) → (has_number at ids || is_recent (get_or standings at Absent)) ≡ (has_number at before || has_number at (arrived arrivals))
+  pub came : (at : ℕ) → is_recent (get_or standings at Absent) ≡ true → is_recent (get_or was at Absent) ≡ true
+  pub all : (at : ℕ) → (has_number at ids || is_recent (get_or standings at Absent)) ≡ (has_number at before || is_recent (get_or was at Absent))
 
--- a number that isn't that of the first is among the rest
-rest_number : (at : ℕ) (arrival : Arrival) (rest : List Arrival) → at ≢ arrival.id.at → has_number at (arrived (arrival ∷ rest)) ≡ true → has_number at (arrived rest) ≡ true
-rest_number at arrival rest differs is = sym (ap (λ b. b || has_number at (arrived rest)) (ne_eqb at arrival.id.at differs)) ∙ is
+-- a number that isn't that of the last is among the rest
+rest_number : (at : ℕ) (arrival : Arrival) (rest : List Arrival) → at ≢ arrival.id.at → has_number at (arrived (rest ++ arrival ∷ [])) ≡ true → has_number at (arrived rest) ≡ true
+rest_number at arrival [] differs is = sym (ap (λ b. b || false) (ne_eqb at arrival.id.at differs)) ∙ is
+rest_number at arrival (first ∷ rest) differs is = elim (at == first.id.at) as (λ b. (b || has_number at (arrived (rest ++ arrival ∷ []))) ≡ true → (b || has_number at (arrived rest)) ≡ true) [
+  | true ↦ λ _. refl
+  | false ↦ rest_number at arrival rest differs
+] is
 
-is_Recent : (standing : Standing) → is_recent standing ≡ true → standing ≡ Recent
+pub is_Recent : (standing : Standing) → is_recent standing ≡ true → standing ≡ Recent
 is_Recent Absent is = absurd (true≢false (sym is))
 is_Recent Settled is = absurd (true≢false (sym is))
 is_Recent Recent is = refl
 
 -- one that isn't marked any more is passed over
-marked_rest : (before : List NodeId) (arrivals rest : List Arrival) (arrival : Arrival) (ids : List NodeId) (standings : List Standing) → AreMarkedSoFar before arrivals (arrival ∷ rest) ids standings → get_or standings arrival.id.at Absent ≢ Recent → AreMarkedSoFar before arrivals rest ids standings
-marked_rest before arrivals rest arrival ids standings marked other = record {
+marked_rest : (before : List NodeId) (was : List Standing) (rest : List Arrival) (arrival : Arrival) (ids : List NodeId) (standings : List Standing) → AreMarkedSoFar before was (rest ++ arrival ∷ []) ids standings → get_or standings arrival.id.at Absent ≢ Recent → AreMarkedSoFar before was rest ids standings
+marked_rest before was rest arrival ids standings marked other = record {
   settled = marked.settled;
   left_out = λ at is. rest_number at arrival rest (λ same. other (ap (λ n. get_or standings n Absent) (sym same) ∙ is_Recent (get_or standings at Absent) is)) (marked.left_out at is);
+  came = marked.came;
   all = marked.all;
 }
 
 -- one that is goes over to the others
-marked_next : (before : List NodeId) (arrivals rest : List Arrival) (arrival : Arrival) (ids now : List NodeId) (standings : List Standing) → AreMarkedSoFar before arrivals (arrival ∷ rest) ids standings → get_or standings arrival.id.at Absent ≡ Recent → arrival.id.at < length standings
-    → IsSetIn true arrival.id ids now → AreMarkedSoFar before arrivals rest now (set standings arrival.id.at Settled)
-marked_next before arrivals rest arrival ids now standings marked is inside sets = record {
+marked_next : (before : List NodeId) (was : List Standing) (rest : List Arrival) (arrival : Arrival) (ids now : List NodeId) (standings : List Standing) → AreMarkedSoFar before was (rest ++ arrival ∷ []) ids standings → get_or standings arrival.id.at Absent ≡ Recent → arrival.id.at < length standings
+    → IsSetIn true arrival.id ids now → AreMarkedSoFar before was rest now (set standings arrival.id.at Settled)
+marked_next before was rest arrival ids now standings marked is inside sets = record {
   settled = λ at. elim (cases_eq at arrival.id.at) [
     | inl same ↦ ap is_settled (here at same) ∙ sym (put_here at same)
     | inr differs ↦ ap is_settled (elsewhere at differs) ∙ marked.settled at ∙ sym (put_elsewhere at differs)
@@ -314,6 +319,10 @@ marked_next before arrivals rest arrival ids now standings marked is inside sets
   left_out = λ at recent. elim (cases_eq at arrival.id.at) [
     | inl same ↦ absurd (true≢false (sym recent ∙ ap is_recent (here at same)))
     | inr differs ↦ rest_number at arrival rest differs (marked.left_out at (sym (ap is_recent (elsewhere at differs)) ∙ recent))
+  ];
+  came = λ at recent. elim (cases_eq at arrival.id.at) [
+    | inl same ↦ absurd (true≢false (sym recent ∙ ap is_recent (here at same)))
+    | inr differs ↦ marked.came at (sym (ap is_recent (elsewhere at differs)) ∙ recent)
   ];
   all = λ at. elim (cases_eq at arrival.id.at) [
     | inl same ↦
@@ -336,48 +345,67 @@ marked_next before arrivals rest arrival ids now standings marked is inside sets
     put_elsewhere at differs = sets at ∙ ap (λ b. cond b true (has_number at ids)) (ne_eqb at arrival.id.at differs)
 
 -- a number that is marked as that of one that came isn't that of another
-absent_recent : (before : List NodeId) (arrivals left : List Arrival) (ids : List NodeId) (standings : List Standing) (at : ℕ) → AreMarkedSoFar before arrivals left ids standings → get_or standings at Absent ≡ Recent → has_number at ids ≡ false
-absent_recent before arrivals left ids standings at marked is = sym (marked.settled at) ∙ ap is_settled is
+absent_recent : (before : List NodeId) (was : List Standing) (left : List Arrival) (ids : List NodeId) (standings : List Standing) (at : ℕ) → AreMarkedSoFar before was left ids standings → get_or standings at Absent ≡ Recent → has_number at ids ≡ false
+absent_recent before was left ids standings at marked is = sym (marked.settled at) ∙ ap is_settled is
 
 -- ---- from one to the next
 
 -- of those that came these are left, and the others are in order with the ids that were there before
-pub record ArePut (nodes : List Node) (before : List NodeId) (arrivals left : List Arrival) (ids : List NodeId) (standings : List Standing) (end : ℕ) : Type 0 where
+pub record ArePut (nodes : List Node) (before : List NodeId) (was : List Standing) (left : List Arrival) (ids : List NodeId) (standings : List Standing) (end : ℕ) : Type 0 where
   pub in_order : IsInOrder nodes ids
-  pub marked : AreMarkedSoFar before arrivals left ids standings
+  pub marked : AreMarkedSoFar before was left ids standings
   pub reached : IsReached nodes ids end left
 
-pub put_rest : (nodes : List Node) (before : List NodeId) (arrivals rest : List Arrival) (arrival : Arrival) (ids : List NodeId) (standings : List Standing) (end : ℕ) → ArePut nodes before arrivals (arrival ∷ rest) ids standings end → get_or standings arrival.id.at Absent ≢ Recent → ArePut nodes before arrivals rest ids standings end
-put_rest nodes before arrivals rest arrival ids standings end put other = record {
+-- what holds of all but the last, and of the last
+pub all_but_last : {X : Type 0} (P : X → Type 0) (xs : List X) (x : X) → AllByRecursion P (xs ++ x ∷ []) → AllByRecursion P xs × P x
+all_but_last P [] x all = (tt, all.0)
+all_but_last P (first ∷ xs) x all = let rest = all_but_last P xs x all.1 in ((all.0, rest.0), rest.1)
+
+pub put_rest : (nodes : List Node) (before : List NodeId) (was : List Standing) (rest : List Arrival) (arrival : Arrival) (ids : List NodeId) (standings : List Standing) (end : ℕ) → ArePut nodes before was (rest ++ arrival ∷ []) ids standings end → get_or standings arrival.id.at Absent ≢ Recent → ArePut nodes before was rest ids standings end
+put_rest nodes before was rest arrival ids standings end put other = record {
   in_order = put.in_order;
-  marked = marked_rest before arrivals rest arrival ids standings put.marked other;
-  reached = reached_rest nodes ids end arrival rest put.reached;
+  marked = marked_rest before was rest arrival ids standings put.marked other;
+  reached = (all_but_last _ rest arrival put.reached).0;
 }
 
-pub put_next : (nodes : List Node) (before : List NodeId) (arrivals rest : List Arrival) (arrival : Arrival) (ids now : List NodeId) (standings : List Standing) (end place : ℕ) → IsGraph nodes → IsArrival nodes arrival → ArePut nodes before arrivals (arrival ∷ rest) ids standings end
-    → AllByRecursion (λ next. is_lt (arrival_cmp nodes arrival next) ≡ false) rest → get_or standings arrival.id.at Absent ≡ Recent → arrival.id.at < length standings → slice_get now place ≡ Some arrival.id
-    → IsPutInto nodes arrival.id ids now → ArePut nodes before arrivals rest now (set standings arrival.id.at Settled) place
-put_next nodes before arrivals rest arrival ids now standings end place graph arrives put turns is inside at puts =
-    let absent : has_number arrival.id.at ids ≡ false = absent_recent before arrivals (arrival ∷ rest) ids standings arrival.id.at put.marked is in
-    let there : HasNode nodes arrival.id = found_some nodes arrival.id arrives.node graph arrives.there arrives.id_is in
-    record {
-      in_order = in_order_putting nodes arrival.id ids now graph there put.in_order absent puts;
-      marked = marked_next before arrivals rest arrival ids now standings put.marked is inside (set_by_putting nodes arrival.id ids now graph there put.in_order puts);
-      reached = reached_next nodes now place arrival rest arrives at turns;
-    }
+pub put_next : LowerBeginningsComeFirst → (nodes : List Node) (before : List NodeId) (was : List Standing) (all rest : List Arrival) (arrival : Arrival) (has : Contains all arrival) (ids now : List NodeId) (standings : List Standing) (end place : ℕ) → IsGraph nodes → AreInTurn nodes all → (1 < length all → AllByRecursion (TellsItsKey nodes) all)
+    → rest ≡ take has.0 all → HasNode nodes arrival.id → ArePut nodes before was (rest ++ arrival ∷ []) ids standings end → get_or standings arrival.id.at Absent ≡ Recent → arrival.id.at < length standings → slice_get now place ≡ Some arrival.id → IsPutInto nodes arrival.id ids now
+    → ArePut nodes before was rest now (set standings arrival.id.at Settled) place
+put_next lower nodes before was all rest arrival has ids now standings end place graph turns told is_rest there put is inside at puts = record {
+  in_order = in_order_putting nodes arrival.id ids now graph there put.in_order (absent_recent before was (rest ++ arrival ∷ []) ids standings arrival.id.at put.marked is) puts;
+  marked = marked_next before was rest arrival ids now standings put.marked is inside (set_by_putting nodes arrival.id ids now graph there put.in_order puts);
+  reached = subst (IsReached nodes now place) (sym is_rest) (reached_next lower nodes all arrival has now place graph turns told there at);
+}
+
+-- the last of those that are left
+last_at : (rest : List Arrival) (arrival : Arrival) → get_or (rest ++ arrival ∷ []) (length rest) arrival ≡ arrival
+last_at [] arrival = refl
+last_at (first ∷ rest) arrival = last_at rest arrival
+
+pub popped : (all left rest : List Arrival) (arrival : Arrival) → left ≡ rest ++ arrival ∷ [] → left ≡ take (length left) all → length left ≤ length all → (rest ≡ take (length rest) all) × (length rest < length all) × (get_or all (length rest) arrival ≡ arrival)
+popped all left rest arrival is front fits =
+    let long : length left ≡ length rest + 1 = ap length is ∙ length-append rest (arrival ∷ []) in
+    let inside : length rest < length all = omega (arith, long, fits) in
+    let seen : take (length rest + 1) all ≡ rest ++ arrival ∷ [] = ap (λ n. take n all) (sym long) ∙ sym front ∙ is in (
+      sym (take-append_seam rest (arrival ∷ [])) ∙ ap (take (length rest)) (sym seen ∙ take_more all (length rest) arrival inside) ∙ take_at (take (length rest) all) (get_or all (length rest) arrival ∷ []) (length rest) (length-take-le (length rest) all (omega (arith, inside))),
+      inside,
+      sym (get_or-take (length rest + 1) all (length rest) arrival (omega arith)) ∙ ap (λ l. get_or l (length rest) arrival) seen ∙ last_at rest arrival,
+    )
 
 -- the next one's id has room
-pub room_next : (nodes : List Node) (before : List NodeId) (arrivals left : List Arrival) (arrival : Arrival) (ids : List NodeId) (standings : List Standing) (end room : ℕ) → IsGraph nodes → IsArrival nodes arrival → ArePut nodes before arrivals left ids standings end
-    → get_or standings arrival.id.at Absent ≡ Recent → length nodes ≤ room → length ids < room
-room_next nodes before arrivals left arrival ids standings end room graph arrives put is fits =
-    room_for_one nodes arrival.id ids room graph (found_some nodes arrival.id arrives.node graph arrives.there arrives.id_is) put.in_order (absent_recent before arrivals left ids standings arrival.id.at put.marked is) fits
+pub room_next : (nodes : List Node) (before : List NodeId) (was : List Standing) (left : List Arrival) (arrival : Arrival) (ids : List NodeId) (standings : List Standing) (end room : ℕ) → IsGraph nodes → HasNode nodes arrival.id → ArePut nodes before was left ids standings end → get_or standings arrival.id.at Absent ≡ Recent → length nodes ≤ room → length ids < room
+room_next nodes before was left arrival ids standings end room graph there put is fits = room_for_one nodes arrival.id ids room graph there put.in_order (absent_recent before was left ids standings arrival.id.at put.marked is) fits
 
 -- and is that of an earlier node than those from the place that was reached on
-pub known_next : LowerBeginningsComeFirst → (nodes : List Node) (before : List NodeId) (arrivals rest : List Arrival) (arrival : Arrival) (ids : List NodeId) (standings : List Standing) (end : ℕ) → IsGraph nodes → IsArrival nodes arrival → ArePut nodes before arrivals (arrival ∷ rest) ids standings end
-    → get_or standings arrival.id.at Absent ≡ Recent → IfSome (node_at nodes arrival.id) (λ (node : Node). AreLater nodes node.task.key ids end)
-known_next lower nodes before arrivals rest arrival ids standings end graph arrives put is =
-    subst (λ (o : Option Node). IfSome o (λ (node : Node). AreLater nodes node.task.key ids end)) (sym (found_arrival nodes arrival arrives graph))
-    (reached_later lower nodes ids end arrival rest arrives graph put.reached (absent_recent before arrivals (arrival ∷ rest) ids standings arrival.id.at put.marked is))
+pub known_next : (nodes : List Node) (before : List NodeId) (was : List Standing) (rest : List Arrival) (arrival : Arrival) (ids : List NodeId) (standings : List Standing) (end : ℕ) → ArePut nodes before was (rest ++ arrival ∷ []) ids standings end → get_or standings arrival.id.at Absent ≡ Recent
+    → IfSome (node_at nodes arrival.id) (λ (node : Node). AreLater nodes node.task.key ids end)
+known_next nodes before was rest arrival ids standings end put is = (all_but_last _ rest arrival put.reached).1 (absent_recent before was (rest ++ arrival ∷ []) ids standings arrival.id.at put.marked is)
+
+-- and is that of a node
+pub there_next : (nodes : List Node) (before : List NodeId) (was : List Standing) (all left : List Arrival) (arrival : Arrival) (ids : List NodeId) (standings : List Standing) (end : ℕ) → AllByRecursion (λ a. HasNode nodes a.id) (recent_among was all) → Contains all arrival → ArePut nodes before was left ids standings end → get_or standings arrival.id.at Absent ≡ Recent
+    → HasNode nodes arrival.id
+there_next nodes before was all left arrival ids standings end there has put is =
+    all_at (λ (a : Arrival). HasNode nodes a.id) (recent_among was all) arrival there (in_filter (λ (a : Arrival). is_recent (get_or was a.id.at Absent)) all arrival has (put.marked.came arrival.id.at (ap is_recent is)))
 
 -- ---- the listed ids where the nodes change and the lists stay
 

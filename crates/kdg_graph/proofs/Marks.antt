@@ -1,17 +1,19 @@
 -- Lists of ids of which some count, by how their numbers are marked.
-use Rattle.std.proofs.Common.{◌≡◌, inl, inr, ℕ, zero, suc, ◌+◌, ◌<◌, ◌≤◌, ◌==◌, ◌&&◌, ◌||◌, Bool, true, false, not, cond, List, [], ◌∷◌, ◌++◌, length, take, drop, get_or, set, refl, sym, ◌∙◌, ap, subst, arith, eqb-true, eq-eqb, ne_eqb, true≢false, Contains, MatchOption, Option, None, Some, filter, take_all, length-drop, length-set, slice_get}
+use Rattle.std.proofs.Common.{◌≡◌, inl, inr, ℕ, zero, suc, ◌+◌, ◌<◌, ◌≤◌, ◌==◌, ◌&&◌, ◌||◌, Bool, true, false, not, cond, List, [], ◌∷◌, ◌++◌, length, take, drop, get_or, set, refl, sym, ◌∙◌, ap, subst, arith, eqb-true, eq-eqb, ne_eqb, true≢false, Contains, IsPermutation, MatchOption, Option, None, Some, filter, take_all, length-drop, length-set, slice_get}
+use Rattle.std.proofs.Math.Bool.{or-false}
+use Rattle.std.proofs.lemmas.List.Sorted.{Contains-permutation, IsPermutation-sym}
 use Rattle.std.specs.Int.{from_bool}
 use Rattle.std.specs.List.{remove}
 use Rattle.std.proofs.lemmas.List.{take-append-le}
 use Rattle.std.proofs.lemmas.List.Elements.{Contains-push_cases, filter_agree, filter_more}
-use Rattle.kdg_graph.proofs.Common.{cases_eq, count_by-le-length, drop_more, get_or_from_slice_get, slice_get_within, length-filter, take_more, AllByRecursion, Arrival, NodeId, Standing, Absent, Recent, Settled, Node, HasNode, HaveOwnIds, IsGraph, ids_of, is_at, without, IsLaneAmong, IsInOrder, AreForgotten, AreMarked, AreRetested, AreSome, HasFewGone, HaveMarks, IsNext, MarkedIds, arrived, ids_in, listed_in, recent_in, settled_from, settled_in, has_number, is_among, is_recent, is_settled, recent_among, settled_among, all_at, all_from, from_filter, in_filter, here, there, filter-map, false_from_ne_true}
+use Rattle.kdg_graph.proofs.Common.{cases_eq, count_by-le-length, drop_more, get_or_from_slice_get, slice_get_within, list_any-IsPermutation, and_parts, from_map, in_map, length-filter, take_more, AllByRecursion, Arrival, NodeId, Standing, Absent, Recent, Settled, Node, HasNode, HaveOwnIds, IsGraph, ids_of, is_at, without, IsLaneAmong, IsInOrder, AreForgotten, AreMarked, AreRetested, AreSome, HasFewGone, HaveMarks, IsNext, MarkedIds, arrived, ids_in, listed_in, recent_in, settled_from, settled_in, has_number, is_among, is_recent, is_settled, recent_among, settled_among, all_at, all_from, from_filter, in_filter, here, there, filter-map, false_from_ne_true}
 use Rattle.kdg_graph.proofs.Blocking.{any_from}
 use Rattle.kdg_graph.proofs.Lanes.{among_own_ids, length-ids, same_by_number}
 use Rattle.kdg_graph.proofs.LookUps.{ids_find_nodes, none_at, same_id, without_none}
 use Rattle.kdg_graph.proofs.Rooms.{all_mapped}
 use Rattle.kdg_graph.proofs.Selecting.{found_node}
 use Rattle.kdg_graph.proofs.Settling.{neither}
-use Rattle.kdg_graph.proofs.Listed.{IsPutInto, IsSetIn, IsTakenFrom, has_either, has_mark, number_listed, in_order_putting, in_order_taking, lane_in_order, mark_set, marked_set, selected_set, set_as_it_is, set_by_arrival, set_by_putting, set_in_either}
+use Rattle.kdg_graph.proofs.Listed.{ArePut, IsPutInto, IsReached, IsSetIn, IsTakenFrom, has_either, has_mark, number_listed, in_order_putting, in_order_taking, lane_in_order, mark_set, marked_set, reached_end, selected_set, set_as_it_is, set_by_arrival, set_by_putting, set_in_either}
 
 -- ---- filters of any list
 
@@ -370,12 +372,44 @@ arrived_set [] i arrival d inside same = absurd (omega (arith, inside))
 arrived_set (first ∷ arrivals) zero arrival d inside same = ap (λ (id : NodeId). id ∷ arrived arrivals) same
 arrived_set (first ∷ arrivals) (suc i) arrival d inside same = ap (λ l. first.id ∷ l) (arrived_set arrivals i arrival d (omega (arith, inside)) same)
 
--- the lists hold just those that are marked so
-pub marked_alone : (standings : List Standing) (entries : List NodeId) (arrivals now : List Arrival) → AreMarked (settled_among standings entries) (recent_among standings arrivals) standings → settled_among standings entries ≡ entries → ((at : ℕ) → has_number at (arrived now) ≡ has_number at (arrived (recent_among standings arrivals))) → AreMarked entries now standings
-marked_alone standings entries arrivals now marked all same = record {
-  are_settled = λ at. marked.are_settled at ∙ ap (has_number at) all;
-  are_recent = λ at. marked.are_recent at ∙ sym (same at);
+-- arrivals in another order, of which what they tell may be looked up anew
+pub moved_numbers : (standings : List Standing) (arrivals now : List Arrival) → IsPermutation (arrived arrivals) (arrived now) → (at : ℕ) → has_number at (arrived (recent_among standings now)) ≡ has_number at (arrived (recent_among standings arrivals))
+moved_numbers standings arrivals now moved at =
+    has-recent standings now at ∙ ap (λ b. b && is_recent (get_or standings at Absent)) (sym (list_any-IsPermutation (λ (i : NodeId). at == i.at) (arrived arrivals) (arrived now) moved)) ∙ sym (has-recent standings arrivals at)
+
+pub moved_marked : (standings : List Standing) (entries : List NodeId) (arrivals now : List Arrival) → IsPermutation (arrived arrivals) (arrived now) → AreMarked entries (recent_among standings arrivals) standings → AreMarked entries (recent_among standings now) standings
+moved_marked standings entries arrivals now moved marked = record { are_settled = marked.are_settled; are_recent = λ at. marked.are_recent at ∙ sym (moved_numbers standings arrivals now moved at) }
+
+pub moved_there : (nodes : List Node) (standings : List Standing) (arrivals now : List Arrival) → IsPermutation (arrived arrivals) (arrived now) → AllByRecursion (λ a. HasNode nodes a.id) (recent_among standings arrivals) → AllByRecursion (λ a. HasNode nodes a.id) (recent_among standings now)
+moved_there nodes standings arrivals now moved all =
+    let waits : NodeId → Bool = λ id. is_recent (get_or standings id.at Absent) in
+    all_from (λ (a : Arrival). HasNode nodes a.id) (recent_among standings now) (λ a has.
+    let its = from_filter (λ (x : Arrival). waits x.id) now a has in
+    let was = from_map (λ (x : Arrival). x.id) arrivals a.id (Contains-permutation (arrived now) (arrived arrivals) a.id (IsPermutation-sym (arrived arrivals) (arrived now) moved) (in_map (λ (x : Arrival). x.id) now a its.0)) in
+    subst (HasNode nodes) was.2 (all_at (λ (x : Arrival). HasNode nodes x.id) (recent_among standings arrivals) was.0 all (in_filter (λ (x : Arrival). waits x.id) arrivals was.0 was.1 (ap waits was.2 ∙ its.1))))
+
+-- before the first one is put, and once none is left
+pub put_none : (nodes : List Node) (before : List NodeId) (arrivals : List Arrival) (standings : List Standing) (end : ℕ) → end ≡ length before → IsInOrder nodes before → AreMarked before (recent_among standings arrivals) standings → ArePut nodes before standings arrivals before standings end
+put_none nodes before arrivals standings end at_end in_order marked = record {
+  in_order = in_order;
+  marked = record {
+    settled = marked.are_settled;
+    left_out = λ at is. (and_parts (has_number at (arrived arrivals)) (is_recent (get_or standings at Absent)) (sym (has-recent standings arrivals at) ∙ sym (marked.are_recent at) ∙ is)).0;
+    came = λ at is. is;
+    all = λ at. refl;
+  };
+  reached = subst (λ (n : ℕ). IsReached nodes before n arrivals) (sym at_end) (reached_end nodes before arrivals);
 }
+
+pub put_all : (nodes : List Node) (before : List NodeId) (was : List Standing) (arrivals : List Arrival) (ids : List NodeId) (standings : List Standing) (end : ℕ) → ArePut nodes before was [] ids standings end → AreMarked before (recent_among was arrivals) was
+    → AreMarked ids [] standings × ((at : ℕ) → has_number at ids ≡ (has_number at before || has_number at (arrived (recent_among was arrivals))))
+put_all nodes before was arrivals ids standings end put marked = (
+  record { are_settled = put.marked.settled; are_recent = none_waits },
+  λ at. sym (ap (λ b. has_number at ids || b) (none_waits at) ∙ or-false (has_number at ids)) ∙ put.marked.all at ∙ ap (λ b. has_number at before || b) (marked.are_recent at),
+)
+  where
+    none_waits : (at : ℕ) → is_recent (get_or standings at Absent) ≡ false
+    none_waits at = false_from_ne_true _ (λ is. true≢false (sym (put.marked.left_out at is)))
 
 -- ---- ids that are gone are taken out
 
@@ -422,6 +456,16 @@ next_here some place id at is =
 pub next_nowhere : (some : MarkedIds) (place : ℕ) → slice_get some.entries place ≡ None → IsNext some place
 next_nowhere some place at =
     subst (λ (found : Option NodeId). MatchOption found (settled_from some place ≡ []) (λ i. settled_from some place ≡ i ∷ settled_from some (place + 1))) (sym at) (ap (settled_among some.standings) (drop_end some.entries place at))
+
+-- where all that were put in order are marked so, each place counts
+pub next_where_all : (some : MarkedIds) (place : ℕ) → settled_in some ≡ some.entries → IsNext some place
+next_where_all some place all = by_case (slice_get some.entries place) refl
+  where
+    by_case : (found : Option NodeId) → slice_get some.entries place ≡ found → IsNext some place
+    by_case None at = next_nowhere some place at
+    by_case (Some id) at =
+        let has : Contains (settled_in some) id = subst (λ (l : List NodeId). Contains l id) (sym all) (place, slice_get_within some.entries place id at, get_or_from_slice_get some.entries place id id at) in
+        next_here some place id at (from_filter (λ (i : NodeId). is_settled (get_or some.standings i.at Absent)) some.entries id has).1
 
 -- ---- all others are put in order first
 

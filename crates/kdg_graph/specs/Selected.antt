@@ -63,6 +63,10 @@ pub record IsArrival (nodes : List Node) (arrival : Arrival) : Type 0 where
   pub beginning_is : arrival.beginning ≡ path_beginning node.task.key.path
   pub fits : CanCode 0 node.task.key.path
 
+-- it is that of its id's node, if there is one
+abbrev pub TellsItsKey : List Node → Arrival → Type 0
+TellsItsKey nodes arrival = HasNode nodes arrival.id → IsArrival nodes arrival
+
 -- the key of the node with the id, if there is one
 abbrev pub key_at : List Node → NodeId → Option Key
 key_at nodes id = option_map (λ node. node.task.key) (node_at nodes id)
@@ -71,9 +75,9 @@ key_at nodes id = option_map (λ node. node.task.key) (node_at nodes id)
 abbrev pub arrival_cmp : List Node → Arrival → Arrival → Ordering
 arrival_cmp nodes a b = ordering_then (nat_cmp a.prio b.prio) (ordering_then (nat_cmp a.beginning b.beginning) (option_cmp key_cmp (key_at nodes a.id) (key_at nodes b.id)))
 
--- none comes after the one in front of it
+-- none comes before the one in front of it
 abbrev pub AreInTurn : List Node → List Arrival → Type 0
-AreInTurn nodes arrivals = IsSortedBy (λ a b. is_lt (arrival_cmp nodes b a)) arrivals
+AreInTurn nodes arrivals = IsSortedBy (λ a b. is_lt (arrival_cmp nodes a b)) arrivals
 
 abbrev pub arrived : List Arrival → List NodeId
 arrived recent = map (λ arrival. arrival.id) recent

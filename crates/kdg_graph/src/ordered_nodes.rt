@@ -8,7 +8,7 @@ ghost use Rattle.kdg_graph.specs.Nodes.{IsGraph, HasNode, ids_of, least_of, node
 ghost use Rattle.kdg_graph.specs.Lanes.{AreLater, IsRank, IsRankPast, IsSearched};
 ghost use Rattle.kdg_graph.specs.Locations.{IsLaneAmong, is_first_before};
 ghost use Rattle.kdg_graph.specs.Rewrite.{with_sets, without};
-ghost use Rattle.kdg_graph.specs.Selected.{IsArrival, arrival_cmp, is_behind, key_at};
+ghost use Rattle.kdg_graph.specs.Selected.{TellsItsKey, arrival_cmp, is_behind, key_at};
 
 use crate::NodeId;
 use crate::arrival::Arrival;
@@ -184,19 +184,19 @@ impl OrderedNodes {
         }
     }
 
-    /// A node that is to be put in order among others.
+    /// An id that is to be put in order among others, with what its node's key tells, if there is one.
     #[inline(always)]
     pub(crate) fn arrival(&self, id: NodeId) -> Arrival
-        requires { HasNode self.now.nodes id }
-        ensures arrival { IsArrival self.now.nodes result }
+        ensures told { TellsItsKey self.now.nodes result }
         ensures id { result.id ≡ id }
     {
-        let node = self.entry(id);
-        let key = &node.task.key;
-        Arrival {
-            prio: key.prio,
-            beginning: key.path.beginning(),
-            id,
+        match self.slots.get(id.at as usize) {
+            Some(node) => Arrival {
+                prio: node.task.key.prio,
+                beginning: node.task.key.path.beginning(),
+                id,
+            },
+            None => Arrival::new(id),
         }
     }
 

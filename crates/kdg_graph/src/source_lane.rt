@@ -1,4 +1,4 @@
-ghost use Rattle.std.specs.Prelude.{◌≡◌, ◌∷◌, ◌≤◌, ◌||◌, ℕ, [], Bool, true, false, filter, get_or, length, IfSome, OnOk};
+ghost use Rattle.std.specs.Prelude.{◌≡◌, ◌∷◌, ◌≤◌, ◌<◌, ◌||◌, ℕ, [], Bool, true, false, filter, get_or, length, IfSome, IsPermutation, OnOk};
 ghost use Rattle.std.specs.List.{AllByRecursion};
 ghost use Rattle.kdg_graph.specs.Node.{Node};
 ghost use Rattle.kdg_graph.specs.Nodes.{HasKey, HasNode, IsGraph, ids_of, least_of, node_at};
@@ -6,7 +6,7 @@ ghost use Rattle.kdg_graph.specs.Edges.{is_blocked};
 ghost use Rattle.kdg_graph.specs.Fronts.{fronts_after};
 ghost use Rattle.kdg_graph.specs.Lanes.{IsRankPast};
 ghost use Rattle.kdg_graph.specs.Locations.{AreFiled, clashing_at, front_after};
-ghost use Rattle.kdg_graph.specs.Selected.{AreForgotten, AreInTurn, AreMarked, AreRefreshed, AreRetested, AreSelected, AreSome, HasFewGone, HaveMarks, IsArrival, IsInOrder, IsNext, arrived, forgotten, has_number, ids_in, is_left, is_recent, is_settled, listed_in, recent_among, recent_in, settled_among, settled_from, settled_in};
+ghost use Rattle.kdg_graph.specs.Selected.{AreForgotten, AreInTurn, AreMarked, AreRefreshed, AreRetested, AreSelected, AreSome, HasFewGone, HaveMarks, IsInOrder, IsNext, TellsItsKey, arrived, forgotten, has_number, ids_in, is_left, is_recent, is_settled, listed_in, recent_among, recent_in, settled_among, settled_from, settled_in};
 ghost use Rattle.kdg_graph.specs.declared.source_lane.Standing.TheVariants.{Absent};
 
 use crate::NodeId;
@@ -93,6 +93,9 @@ impl SourceLane {
         ensures left { settled_from self.now result ≡ settled_from self.now start }
         ensures next { IsNext self.now result }
     {
+        if self.gone == 0 {
+            return start;
+        }
         let mut place = start;
         while let Some(id) = self.settled.get(place) {
             if self.is_in_order(id) {
@@ -265,14 +268,13 @@ impl SourceLane {
         ensures room { self.old.room ≤ self.new.room }
         ensures marks { length self.new.standings ≡ length self.old.standings }
     {
-        order_arrivals(&mut self.arrivals, &self.standings, nodes);
+        order_arrivals(&mut self.arrivals, nodes);
         put_in_order(
             &mut self.settled,
             &mut self.standings,
-            &self.arrivals,
+            &mut self.arrivals,
             nodes,
         );
-        self.arrivals.clear();
     }
 
     /// Puts the id of a node in or takes it out, by whether an earlier node is in conflict with it.
@@ -510,48 +512,49 @@ fn take_gone(settled: &mut Lane, standings: &[Standing], gone: usize)
     }
 }
 
-/// Leaves those that are marked as having come, the latest first.
-fn order_arrivals(arrivals: &mut Vec<Arrival>, standings: &[Standing], nodes: &OrderedNodes)
-    requires { AllByRecursion (λ arrival. HasNode nodes.now.nodes arrival.id) (recent_among standings.now arrivals.old.items) }
-    ensures numbers { (at : ℕ) → has_number at (arrived arrivals.new.items) ≡ has_number at (arrived (recent_among standings.now arrivals.old.items)) }
-    ensures arrivals { AllByRecursion (IsArrival nodes.now.nodes) arrivals.new.items }
-    ensures in_turn { AreInTurn nodes.now.nodes arrivals.new.items }
+/// Sorts those that came. One alone is in order as it is, and what its key tells isn't looked up.
+#[inline(always)]
+fn order_arrivals(arrivals: &mut [Arrival], nodes: &OrderedNodes)
+    ensures moved { IsPermutation (arrived arrivals.old) (arrived arrivals.new) }
+    ensures told { 1 < length arrivals.new → AllByRecursion (TellsItsKey nodes.now.nodes) arrivals.new }
+    ensures in_turn { AreInTurn nodes.now.nodes arrivals.new }
 {
-    arrivals.retain(|arrival| marks_waiting(standings, arrival.id));
-    look_up(arrivals, nodes);
-    // They mostly came the earliest first, and what is in order already is sorted at once.
-    arrivals.reverse();
-    arrivals.sort_unstable_by(|one, other| nodes.compare(other, one));
+    if arrivals.len() > 1 {
+        look_up(arrivals, nodes);
+        arrivals.sort_unstable_by(|one, other| nodes.compare(one, other));
+    }
 }
 
 /// Looks up what mostly tells how the key of each compares. Since it came its id may have become that
-/// of another node.
+/// of another node, or of none.
 fn look_up(arrivals: &mut [Arrival], nodes: &OrderedNodes)
-    requires { AllByRecursion (λ arrival. HasNode nodes.now.nodes arrival.id) arrivals.old }
     ensures ids { arrived arrivals.new ≡ arrived arrivals.old }
-    ensures arrivals { AllByRecursion (IsArrival nodes.now.nodes) arrivals.new }
+    ensures told { AllByRecursion (TellsItsKey nodes.now.nodes) arrivals.new }
 {
     for arrival in arrivals.iter_mut() {
         *arrival = nodes.arrival(arrival.id);
     }
 }
 
-/// Puts the ids of nodes that came, the latest first, in order with the others, each by a search back from
-/// the one before it. The others mostly are later than all that came, and then none is moved.
+/// Puts the ids that are marked as having come in order with the others, the latest first, each by a
+/// search back from the one before it. The others mostly are later than all that came, and then none is
+/// moved. It leaves none of those that came, also of those that went or came twice.
 fn put_in_order(
     settled: &mut Lane,
     standings: &mut [Standing],
-    arrivals: &[Arrival],
+    arrivals: &mut Vec<Arrival>,
     nodes: &OrderedNodes,
 )
     requires graph { IsGraph nodes.now.nodes }
-    requires arrivals { AllByRecursion (IsArrival nodes.now.nodes) arrivals.now }
-    requires in_turn { AreInTurn nodes.now.nodes arrivals.now }
+    requires there { AllByRecursion (λ arrival. HasNode nodes.now.nodes arrival.id) (recent_among standings.old arrivals.old.items) }
+    requires told { 1 < length arrivals.old.items → AllByRecursion (TellsItsKey nodes.now.nodes) arrivals.old.items }
+    requires in_turn { AreInTurn nodes.now.nodes arrivals.old.items }
     requires in_order { IsInOrder nodes.now.nodes settled.old.ids.items }
-    requires marked { AreMarked settled.old.ids.items arrivals.now standings.old }
+    requires marked { AreMarked settled.old.ids.items (recent_among standings.old arrivals.old.items) standings.old }
     requires room { length nodes.now.nodes ≤ settled.old.ids.capacity }
     requires marks { HaveMarks nodes.now.nodes (length standings.old) }
-    ensures ids { (at : ℕ) → has_number at settled.new.ids.items ≡ (has_number at settled.old.ids.items || has_number at (arrived arrivals.now)) }
+    ensures ids { (at : ℕ) → has_number at settled.new.ids.items ≡ (has_number at settled.old.ids.items || has_number at (arrived (recent_among standings.old arrivals.old.items))) }
+    ensures none_left { arrivals.new.items ≡ [] }
     ensures in_order { IsInOrder nodes.now.nodes settled.new.ids.items }
     ensures marked { AreMarked settled.new.ids.items [] standings.new }
     ensures marks { length standings.new ≡ length standings.old }
@@ -559,10 +562,9 @@ fn put_in_order(
 {
     beginning_laws();
     let mut end = settled.len();
-    for arrival in arrivals {
+    while let Some(arrival) = arrivals.pop() {
         let id = arrival.id;
-        // None is there twice, but nothing here rests on that.
-        if standings[id.at as usize] == Standing::Recent {
+        if marks_waiting(standings, id) {
             end = nodes.put_before(settled, id, end);
             standings[id.at as usize] = Standing::Settled;
         }

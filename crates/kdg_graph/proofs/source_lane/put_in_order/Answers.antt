@@ -1,71 +1,99 @@
-use Rattle.std.proofs.Common.{rules, ◌≡◌, ◌≢◌, ◌+◌, ◌<◌, ℕ, List, arith, drop, get_or, length, refl, subst, sym, IsSome}
-use Rattle.kdg_graph.proofs.Common.{drop_more, Arrival, NodeId, Absent, Recent, Node, IsArrival}
-use Rattle.kdg_graph.proofs.Listed.{ArePut, arrives_at, found_arrival, arrival_marked, known_next, none_after, put_next, put_rest, room_next}
-use Rattle.kdg_graph.proofs.source_lane.put_in_order.Goals.{then-eq, else-eq}
+use Rattle.std.proofs.Common.{◌≡◌, ◌∙◌, [], ◌++◌, List, Option, ap, arith, get_or, length, subst, sym, take_all, true≢false}
+use Rattle.std.specs.Option.{option_to_list}
+use Rattle.kdg_graph.proofs.Common.{Absent, Arrival, Node, NodeId, Recent, Standing, is_recent, nil_from_length}
+use Rattle.kdg_graph.proofs.Listed.{ArePut, has_mark, is_Recent, known_next, popped, put_next, put_rest, room_next, there_next}
+use Rattle.kdg_graph.proofs.Marks.{put_all, put_none}
 use Rattle.kdg_graph.proofs.source_lane.put_in_order.Goals as goal
 
--- past the end
-abbrev no_arrival : Arrival
-no_arrival = record { prio = 0; beginning = 0; id = record { at = 0 } }
+pub loop-arrival-init : goal.loop-arrival-init
+loop-arrival-init c = record {
+  front = sym (take_all (length c.args.arrivals.now.items) c.args.arrivals.now.items (omega arith));
+  fits = omega arith;
+  put = put_none c.args.nodes.now.nodes c.args.settled.now.ids.items c.args.arrivals.now.items c.args.standings.now c.len-end.result c.len-end.ensures.len c.requires.in_order c.requires.marked;
+  room = omega arith;
+}
 
-pub bounds-standings-id : goal.bounds-standings-id
-bounds-standings-id c =
-    let nodes : List Node = c.args.nodes.now.nodes in
-    let arrivals : List Arrival = c.args.arrivals.now in
-    let arrival : Arrival = get_or arrivals c.loop-arrival.arrival-index no_arrival in
-    let arrives : IsArrival nodes arrival = arrives_at nodes arrivals c.loop-arrival.arrival-index no_arrival c.requires.arrivals c.loop-arrival-test.true in
-    omega (arith, c.loop-arrival.auto.standings, arrival_marked nodes arrival (length c.args.standings.now) c.requires.marks arrives)
+-- ---- the last one that is left
 
 pub put_before-end-requires-clause-there : goal.put_before-end-requires-clause-there
 put_before-end-requires-clause-there c =
-    let nodes : List Node = c.args.nodes.now.nodes in
-    let arrivals : List Arrival = c.args.arrivals.now in
-    let arrival : Arrival = get_or arrivals c.loop-arrival.arrival-index no_arrival in
-    let arrives : IsArrival nodes arrival = arrives_at nodes arrivals c.loop-arrival.arrival-index no_arrival c.requires.arrivals c.loop-arrival-test.true in
-    subst IsSome (sym (found_arrival nodes arrival arrives c.requires.graph)) refl
+    let all : List Arrival = c.args.arrivals.now.items in
+    let rest : List Arrival = c.pop.new.self.items in
+    let last = popped all c.loop-arrival.arrivals.items rest c.in-Some.arrival (c.pop.ensures.items ∙ ap (λ (o : Option Arrival). rest ++ option_to_list o) c.in-Some.is) c.loop-arrival.invariant.front c.loop-arrival.invariant.fits in
+    there_next c.args.nodes.now.nodes c.args.settled.now.ids.items c.args.standings.now all c.loop-arrival.arrivals.items c.in-Some.arrival c.loop-arrival.settled.ids.items c.loop-arrival.standings c.loop-arrival.end c.requires.there (length rest, last.1, last.2) c.loop-arrival.invariant.put
+    (is_Recent _ (sym c.marks_waiting.ensures ∙ c.if-marks_waiting.true))
 
 pub put_before-end-requires-clause-room : goal.put_before-end-requires-clause-room
 put_before-end-requires-clause-room c =
-    let nodes : List Node = c.args.nodes.now.nodes in
-    let arrivals : List Arrival = c.args.arrivals.now in
-    let i : ℕ = c.loop-arrival.arrival-index in
-    let arrival : Arrival = get_or arrivals i no_arrival in
-    let arrives : IsArrival nodes arrival = arrives_at nodes arrivals i no_arrival c.requires.arrivals c.loop-arrival-test.true in
-    let is : get_or c.loop-arrival.standings arrival.id.at Absent ≡ Recent = search rules in
-    room_next nodes c.args.settled.now.ids.items arrivals (drop i arrivals) arrival c.loop-arrival.settled.ids.items c.loop-arrival.standings c.loop-arrival.end c.loop-arrival.settled.ids.capacity c.requires.graph arrives c.loop-arrival.invariant.put is
+    let all : List Arrival = c.args.arrivals.now.items in
+    let rest : List Arrival = c.pop.new.self.items in
+    let last = popped all c.loop-arrival.arrivals.items rest c.in-Some.arrival (c.pop.ensures.items ∙ ap (λ (o : Option Arrival). rest ++ option_to_list o) c.in-Some.is) c.loop-arrival.invariant.front c.loop-arrival.invariant.fits in
+    let is : get_or c.loop-arrival.standings c.in-Some.arrival.id.at Absent ≡ Recent = is_Recent _ (sym c.marks_waiting.ensures ∙ c.if-marks_waiting.true) in
+    let there = there_next c.args.nodes.now.nodes c.args.settled.now.ids.items c.args.standings.now all c.loop-arrival.arrivals.items c.in-Some.arrival c.loop-arrival.settled.ids.items c.loop-arrival.standings c.loop-arrival.end c.requires.there (length rest, last.1, last.2) c.loop-arrival.invariant.put is in
+    room_next c.args.nodes.now.nodes c.args.settled.now.ids.items c.args.standings.now c.loop-arrival.arrivals.items c.in-Some.arrival c.loop-arrival.settled.ids.items c.loop-arrival.standings c.loop-arrival.end c.loop-arrival.settled.ids.capacity c.requires.graph there c.loop-arrival.invariant.put is
     (omega (arith, c.requires.room, c.loop-arrival.invariant.room))
 
 pub put_before-end-requires-clause-known : goal.put_before-end-requires-clause-known
 put_before-end-requires-clause-known c =
-    let nodes : List Node = c.args.nodes.now.nodes in
-    let arrivals : List Arrival = c.args.arrivals.now in
+    let rest : List Arrival = c.pop.new.self.items in
     let before : List NodeId = c.args.settled.now.ids.items in
-    let i : ℕ = c.loop-arrival.arrival-index in
-    let arrival : Arrival = get_or arrivals i no_arrival in
-    let arrives : IsArrival nodes arrival = arrives_at nodes arrivals i no_arrival c.requires.arrivals c.loop-arrival-test.true in
-    let is : get_or c.loop-arrival.standings arrival.id.at Absent ≡ Recent = search rules in
-    let put = subst (λ (left : List Arrival). ArePut nodes before arrivals left c.loop-arrival.settled.ids.items c.loop-arrival.standings c.loop-arrival.end) (drop_more arrivals i no_arrival c.loop-arrival-test.true) c.loop-arrival.invariant.put in
-    known_next c.beginning_laws.ensures nodes before arrivals (drop (i + 1) arrivals) arrival c.loop-arrival.settled.ids.items c.loop-arrival.standings c.loop-arrival.end c.requires.graph arrives put is
+    let put = subst (λ (left : List Arrival). ArePut c.args.nodes.now.nodes before c.args.standings.now left c.loop-arrival.settled.ids.items c.loop-arrival.standings c.loop-arrival.end) (c.pop.ensures.items ∙ ap (λ (o : Option Arrival). rest ++ option_to_list o) c.in-Some.is) c.loop-arrival.invariant.put in
+    known_next c.args.nodes.now.nodes before c.args.standings.now rest c.in-Some.arrival c.loop-arrival.settled.ids.items c.loop-arrival.standings c.loop-arrival.end put (is_Recent _ (sym c.marks_waiting.ensures ∙ c.if-marks_waiting.true))
+
+pub loop-arrival-preserved-then-marks_waiting : goal.loop-arrival-preserved-then-marks_waiting
+loop-arrival-preserved-then-marks_waiting c =
+    let nodes : List Node = c.args.nodes.now.nodes in
+    let before : List NodeId = c.args.settled.now.ids.items in
+    let was : List Standing = c.args.standings.now in
+    let all : List Arrival = c.args.arrivals.now.items in
+    let rest : List Arrival = c.pop.new.self.items in
+    let arrival : Arrival = c.in-Some.arrival in
+    let ids : List NodeId = c.loop-arrival.settled.ids.items in
+    let standings : List Standing = c.loop-arrival.standings in
+    let left = c.pop.ensures.items ∙ ap (λ (o : Option Arrival). rest ++ option_to_list o) c.in-Some.is in
+    let last = popped all c.loop-arrival.arrivals.items rest arrival left c.loop-arrival.invariant.front c.loop-arrival.invariant.fits in
+    let is : get_or standings arrival.id.at Absent ≡ Recent = is_Recent _ (sym c.marks_waiting.ensures ∙ c.if-marks_waiting.true) in
+    let there = there_next nodes before was all c.loop-arrival.arrivals.items arrival ids standings c.loop-arrival.end c.requires.there (length rest, last.1, last.2) c.loop-arrival.invariant.put is in
+    let put = subst (λ (l : List Arrival). ArePut nodes before was l ids standings c.loop-arrival.end) left c.loop-arrival.invariant.put in
+    record {
+      front = last.0;
+      fits = omega (arith, last.1);
+      put = put_next c.beginning_laws.ensures nodes before was all rest arrival (length rest, last.1, last.2) ids c.put_before-end.new.lane.ids.items standings c.loop-arrival.end c.put_before-end.result c.requires.graph c.requires.in_turn c.requires.told last.0 there put is
+          (omega (arith, c.loop-arrival.auto.standings, has_mark nodes arrival.id (length was) there c.requires.marks)) c.put_before-end.ensures.place c.put_before-end.ensures.ids;
+      room = omega (arith, c.loop-arrival.invariant.room, c.put_before-end.ensures.room);
+    }
 
 pub loop-arrival-preserved : goal.loop-arrival-preserved
 loop-arrival-preserved c =
     let nodes : List Node = c.args.nodes.now.nodes in
-    let arrivals : List Arrival = c.args.arrivals.now in
     let before : List NodeId = c.args.settled.now.ids.items in
+    let was : List Standing = c.args.standings.now in
+    let rest : List Arrival = c.pop.new.self.items in
+    let arrival : Arrival = c.in-Some.arrival in
     let ids : List NodeId = c.loop-arrival.settled.ids.items in
-    let i : ℕ = c.loop-arrival.arrival-index in
-    let rest : List Arrival = drop (i + 1) arrivals in
-    let arrival : Arrival = get_or arrivals i no_arrival in
-    let arrives : IsArrival nodes arrival = arrives_at nodes arrivals i no_arrival c.requires.arrivals c.loop-arrival-test.true in
-    let put = subst (λ (left : List Arrival). ArePut nodes before arrivals left ids c.loop-arrival.standings c.loop-arrival.end) (drop_more arrivals i no_arrival c.loop-arrival-test.true) c.loop-arrival.invariant.put in
-    elim c.if-eq.branch [
-      | then-eq w ↦
-          let is : get_or c.loop-arrival.standings arrival.id.at Absent ≡ Recent = search rules in
-          let inside : arrival.id.at < length c.loop-arrival.standings = omega (arith, c.loop-arrival.auto.standings, arrival_marked nodes arrival (length c.args.standings.now) c.requires.marks arrives) in
-          let next = put_next nodes before arrivals rest arrival ids w.put_before-end.new.lane.ids.items c.loop-arrival.standings c.loop-arrival.end w.put_before-end.result c.requires.graph arrives put
-          (none_after nodes arrivals i no_arrival c.requires.in_turn c.loop-arrival-test.true) is inside w.put_before-end.ensures.place w.put_before-end.ensures.ids in
-          rw (w.settled-is, w.standings-is, w.end-is) (record { put = next; room = omega (arith, c.loop-arrival.invariant.room, w.put_before-end.ensures.room) })
-      | else-eq w ↦
-          let other : get_or c.loop-arrival.standings arrival.id.at Absent ≢ Recent = search rules in
-          rw (w.settled-is, w.standings-is, w.end-is) (record { put = put_rest nodes before arrivals rest arrival ids c.loop-arrival.standings c.loop-arrival.end put other; room = c.loop-arrival.invariant.room })
-    ]
+    let standings : List Standing = c.loop-arrival.standings in
+    let left = c.pop.ensures.items ∙ ap (λ (o : Option Arrival). rest ++ option_to_list o) c.in-Some.is in
+    let last = popped c.args.arrivals.now.items c.loop-arrival.arrivals.items rest arrival left c.loop-arrival.invariant.front c.loop-arrival.invariant.fits in
+    let put = subst (λ (l : List Arrival). ArePut nodes before was l ids standings c.loop-arrival.end) left c.loop-arrival.invariant.put in
+    record {
+      front = last.0;
+      fits = omega (arith, last.1);
+      put = put_rest nodes before was rest arrival ids standings c.loop-arrival.end put (λ is. true≢false (sym (ap is_recent is) ∙ sym c.marks_waiting.ensures ∙ c.if-marks_waiting.false));
+      room = c.loop-arrival.invariant.room;
+    }
+
+-- ---- none is left
+
+done : (c : goal.In_default) → ArePut c.args.nodes.now.nodes c.args.settled.now.ids.items c.args.standings.now [] c.loop-arrival.settled.ids.items c.loop-arrival.standings c.loop-arrival.end
+done c =
+    let none : c.loop-arrival.arrivals.items ≡ [] = nil_from_length c.loop-arrival.arrivals.items (omega (arith, c.loop-arrival.arrivals.ok.0, c.in_default.ensures.cases.0)) in
+    subst (λ (left : List Arrival). ArePut c.args.nodes.now.nodes c.args.settled.now.ids.items c.args.standings.now left c.loop-arrival.settled.ids.items c.loop-arrival.standings c.loop-arrival.end) none c.loop-arrival.invariant.put
+
+pub returns-clause-ids : goal.returns-clause-ids
+returns-clause-ids c = (put_all c.args.nodes.now.nodes c.args.settled.now.ids.items c.args.standings.now c.args.arrivals.now.items c.loop-arrival.settled.ids.items c.loop-arrival.standings c.loop-arrival.end (done c) c.requires.marked).1
+
+pub returns-clause-in_order : goal.returns-clause-in_order
+returns-clause-in_order c = c.loop-arrival.invariant.put.in_order
+
+pub returns-clause-marked : goal.returns-clause-marked
+returns-clause-marked c = (put_all c.args.nodes.now.nodes c.args.settled.now.ids.items c.args.standings.now c.args.arrivals.now.items c.loop-arrival.settled.ids.items c.loop-arrival.standings c.loop-arrival.end (done c) c.requires.marked).0

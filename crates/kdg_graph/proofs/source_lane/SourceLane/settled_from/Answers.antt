@@ -1,7 +1,11 @@
 use Rattle.std.proofs.Common.{◌≡◌, ◌∙◌, Some, None, ap, arith, length, slice_get, sym}
-use Rattle.kdg_graph.proofs.Common.{MarkedIds, slice_get_within}
-use Rattle.kdg_graph.proofs.Marks.{next_here, next_nowhere, settled_past}
+use Rattle.kdg_graph.proofs.Common.{MarkedIds, settled_in, slice_get_within}
+use Rattle.kdg_graph.proofs.Marks.{next_here, next_nowhere, next_where_all, none_gone, settled_past}
 use Rattle.kdg_graph.proofs.source_lane.SourceLane.settled_from.Goals as goal
+
+pub returns-then-self-eq0-clause-next : goal.returns-then-self-eq0-clause-next
+returns-then-self-eq0-clause-next c =
+    next_where_all c.args.self.now c.args.start (ap settled_in (sym c.self.view_is) ∙ sym (none_gone c.self.inside.standings.items c.self.inside.settled.ids.items c.self.inside.gone c.self.invariant.1 (omega arith)) ∙ ap (λ (m : MarkedIds). m.entries) c.self.view_is)
 
 pub loop-id-preserved : goal.loop-id-preserved
 loop-id-preserved c =
