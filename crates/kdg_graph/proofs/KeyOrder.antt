@@ -330,15 +330,6 @@ past_nothing key some place up rank end = record {
   point = ((λ k d from upto. earlier_not_past key (get_or some k d) (rank.point.0 k d from upto)), (λ k d from upto. absurd (omega (arith, from, upto, end))));
 }
 
--- behind a node stand those that are later than it
-pub past_at : (nodes : List Node) (place : ℕ) (d : Node) → IsAscending (tasks_of nodes) → place < length nodes → (let node : Node = get_or nodes place d in IsRankPast node.task.key nodes (suc place))
-past_at [] place d up inside = absurd (omega (arith, inside))
-past_at (node ∷ nodes) zero d up inside = past_cons node.task.key node nodes 0 (not_itself node.task.key) (all_past node.task.key node.task.key nodes (tied_itself key_cmp_total node.task.key) up.0)
-past_at (node ∷ nodes) (suc place) d up inside =
-    let within : place < length nodes = omega (arith, inside) in
-    let key : Key = (let last : Node = get_or nodes place d in last.task.key) in
-    past_cons key node nodes (suc place) (earlier_not_past key node (ap is_lt (earlier_at (λ other. key_cmp node.task.key other.key ≡ Less) nodes place d within up.0))) (past_at nodes place d up.1 within)
-
 -- from there on stand exactly those that are later
 pub drop_past : (key : Key) (some : List Node) (place : ℕ) → IsRankPast key some place → drop place some ≡ later_than key some
 drop_past key [] zero rank = refl

@@ -7,7 +7,7 @@ use Rattle.std.proofs.lemmas.Cmp.{nat_cmp_total, on_total, then_total, ranked}
 use Rattle.std.proofs.lemmas.List.MinMax.{ranks_by}
 use Rattle.std.specs.Cmp.Lexicographic.{options_total, nat_list_cmp_total, slice_cmp}
 use Rattle.task_order.specs.PathCode.{path_beginning}
-use Rattle.kdg_graph.proofs.Common.{cases_eq, get_or-set_at, list_any-append, IsPermutation-map, list_any-IsPermutation, Arrival, NodeId, Standing, Absent, Node, ids_of, is_at, put_node, without, AreMarked, arrived, has_number, is_recent, is_settled, IsStrictWeakOrder, IsTotalOrder, AllByRecursion, All-from_recursion, recursion_from_All, All-permutation, key_cmp_total, HasNode, IsGraph, node_at, IsLaneAmong, AreSelected, HaveMarks, IsInOrder, MarkedIds, arrival_cmp, forgotten, ids_in, is_among, key_at, listed_in, recent_in, retested, settled_in, all_at, in_map, option_cmp, ordering_reverse, ordering_then, get_or_default, recent_among, TellsItsKey, sorted_far, get_or_from_slice_get, slice_get_within, Key, key_cmp, LowerBeginningsComeFirst, Settled, Recent, AreLater, AreInTurn, IsArrival, all_from, false_from_ne_true, length-map, SetChange, HaveOwnIds, started, with_sets, AreSome, from_filter, from_map, in_filter, none_any, none_found, filter-map}
+use Rattle.kdg_graph.proofs.Common.{cases_eq, get_or-set_at, list_any-append, Arrival, NodeId, Standing, Absent, Node, ids_of, is_at, put_node, without, AreMarked, arrived, has_number, is_recent, is_settled, IsStrictWeakOrder, IsTotalOrder, AllByRecursion, All-from_recursion, recursion_from_All, All-permutation, key_cmp_total, HasNode, IsGraph, node_at, IsLaneAmong, AreSelected, HaveMarks, IsInOrder, MarkedIds, arrival_cmp, forgotten, ids_in, is_among, key_at, listed_in, recent_in, retested, settled_in, all_at, in_map, option_cmp, ordering_reverse, ordering_then, get_or_default, recent_among, TellsItsKey, sorted_far, get_or_from_slice_get, slice_get_within, Key, key_cmp, LowerBeginningsComeFirst, Settled, Recent, AreLater, AreInTurn, IsArrival, all_from, false_from_ne_true, length-map, SetChange, HaveOwnIds, started, with_sets, AreSome, from_filter, from_map, in_filter, none_any, none_found, filter-map}
 use Rattle.kdg_graph.proofs.Blocking.{any_from}
 use Rattle.kdg_graph.proofs.Keeping.{changed, ids-map, start, start_keeps_id}
 use Rattle.kdg_graph.proofs.KeyOrder.{is_before, same_filter, put_dropped, put_without}
@@ -84,11 +84,6 @@ marked_set standings before ids recent now id standing marked inside settled cam
   are_settled = λ at. mark_set is_settled standings id.at at standing inside ∙ ap (cond (at == id.at) (is_settled standing)) (marked.are_settled at) ∙ sym (settled at);
   are_recent = λ at. mark_set is_recent standings id.at at standing inside ∙ ap (cond (at == id.at) (is_recent standing)) (marked.are_recent at) ∙ sym (came at);
 }
-
--- ---- arrivals in another order
-
-pub same_numbers : (recent now : List Arrival) → IsPermutation recent now → (at : ℕ) → has_number at (arrived now) ≡ has_number at (arrived recent)
-same_numbers recent now moved at = sym (list_any-IsPermutation (λ (i : NodeId). at == i.at) (arrived recent) (arrived now) (IsPermutation-map (λ (arrival : Arrival). arrival.id) recent now moved))
 
 -- ---- ids of nodes, some in key order and others that came since, where one comes in or goes out
 

@@ -32,11 +32,6 @@ place_inside id [] place at = absurd at
 place_inside id (node ∷ nodes) zero at = omega arith
 place_inside id (node ∷ nodes) (suc place) at = omega (arith, place_inside id nodes place at.1)
 
-pub node_at-place : (id : NodeId) (nodes : List Node) (place : ℕ) (d : Node) → IsPlaceOf id nodes place → node_at nodes id ≡ Some (get_or nodes place d)
-node_at-place id [] place d at = absurd at
-node_at-place id (node ∷ nodes) zero d at = ap (λ test. cond test (Some node) (node_at nodes id)) at
-node_at-place id (node ∷ nodes) (suc place) d at = ap (λ test. cond test (Some node) (node_at nodes id)) at.0 ∙ node_at-place id nodes place d at.1
-
 pub id_at-place : (id : NodeId) (nodes : List Node) (place : ℕ) (d : Node) → IsPlaceOf id nodes place → (get_or nodes place d).id ≡ id
 id_at-place id [] place d at = absurd at
 id_at-place id (node ∷ nodes) zero d at = same_id id node at

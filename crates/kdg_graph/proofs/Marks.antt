@@ -241,11 +241,6 @@ some_same nodes before after settled recent room long are = record {
   marks = all_mapped (λ (id : NodeId). id.at < length before.standings) (λ (id : NodeId). id.at < length after.standings) (ids_of nodes) (λ id inside. omega (arith, inside, long)) are.marks;
 }
 
--- those that are marked otherwise were taken out
-pub cleaned : (before after : MarkedIds) → after.entries ≡ settled_in before → after.standings ≡ before.standings → settled_in after ≡ settled_in before
-cleaned before after entries standings =
-    (λ i. settled_among (standings i) (entries i)) ∙ filter_again (λ (id : NodeId). is_settled (get_or before.standings id.at Absent)) before.entries
-
 -- ---- an id is forgotten
 
 mark_lost_settled : (standings : List Standing) (entries : List NodeId) (id : NodeId) → id.at < length standings → IsSetIn false id (settled_among standings entries) (settled_among (set standings id.at Absent) entries)
@@ -413,12 +408,13 @@ put_all nodes before was arrivals ids standings end put marked = (
 
 -- ---- ids that are gone are taken out
 
+pub cleaned : (standings : List Standing) (entries now : List NodeId) → now ≡ settled_among standings entries → settled_among standings now ≡ settled_among standings entries
+cleaned standings entries now is = ap (settled_among standings) is ∙ filter_again (λ (id : NodeId). is_settled (get_or standings id.at Absent)) entries
+
 pub marked_cleaned : (standings : List Standing) (entries now : List NodeId) (arrivals : List Arrival) → AreMarked (settled_among standings entries) (recent_among standings arrivals) standings → now ≡ settled_among standings entries → AreMarked (settled_among standings now) (recent_among standings arrivals) standings × HasFewGone standings now 0
 marked_cleaned standings entries now arrivals marked is =
-    let again : settled_among standings now ≡ settled_among standings entries = ap (settled_among standings) is ∙ filter_again (λ (id : NodeId). is_settled (get_or standings id.at Absent)) entries in (
-      subst (λ (l : List NodeId). AreMarked l (recent_among standings arrivals) standings) (sym again) marked,
-      omega (arith, ap length is, ap length again),
-    )
+    let again = cleaned standings entries now is in
+    (subst (λ (l : List NodeId). AreMarked l (recent_among standings arrivals) standings) (sym again) marked, omega (arith, ap length is, ap length again))
 
 pub none_gone : (standings : List Standing) (entries : List NodeId) (gone : ℕ) → HasFewGone standings entries gone → gone ≤ 0 → entries ≡ settled_among standings entries
 none_gone standings entries gone few none = sym (filter_full (λ (id : NodeId). is_settled (get_or standings id.at Absent)) entries (omega (arith, few, none)))

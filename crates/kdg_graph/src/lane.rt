@@ -326,6 +326,10 @@ impl Lane {
             self.put_at -= 1;
         }
         self.taken_at = place;
+        // Mostly it is the first, which goes by moves of a known number.
+        if place == 0 {
+            return self.ids.remove(0);
+        }
         self.ids.remove(place)
     }
 }

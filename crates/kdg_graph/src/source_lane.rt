@@ -245,10 +245,11 @@ impl SourceLane {
     /// Takes the ids that are marked otherwise out of the list in key order.
     #[inline(always)]
     fn drop_gone(&mut self)
-        ensures entries { self.new.entries ≡ settled_in self.old }
-        ensures arrivals { self.new.arrivals ≡ self.old.arrivals }
-        ensures standings { self.new.standings ≡ self.old.standings }
+        ensures none_gone { settled_in self.new ≡ self.new.entries }
+        ensures settled { settled_in self.new ≡ settled_in self.old }
+        ensures recent { recent_in self.new ≡ recent_in self.old }
         ensures room { self.old.room ≤ self.new.room }
+        ensures marks { length self.new.standings ≡ length self.old.standings }
     {
         if self.gone > 0 {
             take_gone(&mut self.settled, &self.standings, self.gone);

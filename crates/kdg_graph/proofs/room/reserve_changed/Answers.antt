@@ -7,9 +7,8 @@ pub loop-change-preserved : goal.loop-change-preserved
 loop-change-preserved c =
     let before : List ℕ = rooms_of c.loop-change.locations.locations.items in
     let after : List ℕ = rooms_of c.reserve.new.self.locations.items in
-    let item : SetChange = c.change-item.result in
     record {
-      room = all_more (λ (x : SetChange). HasRoom c.args.coming x.set after) c.args.changed.now c.loop-change.change-index item c.loop-change-test.true
+      room = all_more (λ (x : SetChange). HasRoom c.args.coming x.set after) c.args.changed.now c.loop-change.change-index c.change-item.result c.loop-change-test.true
           (all_mapped (λ (x : SetChange). HasRoom c.args.coming x.set before) (λ (x : SetChange). HasRoom c.args.coming x.set after) _ (λ x has. room_kept c.args.coming x.set before after c.reserve.ensures.no_less has) c.loop-change.invariant.room)
           (subst (λ (x : SetChange). HasRoom c.args.coming x.set after) c.change-item.is c.in_ok-reserve.ensures.room);
       no_less = no_less_twice _ before after c.loop-change.invariant.no_less c.reserve.ensures.no_less;

@@ -7,9 +7,8 @@ pub loop-item-preserved : goal.loop-item-preserved
 loop-item-preserved c =
     let before : List ℕ = rooms_of c.loop-item.locations.locations.items in
     let after : List ℕ = rooms_of c.reserve.new.self.locations.items in
-    let item : Fresh = c.item-item.result in
     record {
-      room = all_more (λ (x : Fresh). HasRoom c.args.coming x.set after) c.args.fresh.now c.loop-item.item-index item c.loop-item-test.true
+      room = all_more (λ (x : Fresh). HasRoom c.args.coming x.set after) c.args.fresh.now c.loop-item.item-index c.item-item.result c.loop-item-test.true
           (all_mapped (λ (x : Fresh). HasRoom c.args.coming x.set before) (λ (x : Fresh). HasRoom c.args.coming x.set after) _ (λ x has. room_kept c.args.coming x.set before after c.reserve.ensures.no_less has) c.loop-item.invariant.room)
           (subst (λ (x : Fresh). HasRoom c.args.coming x.set after) c.item-item.is c.in_ok-reserve.ensures.room);
       no_less = no_less_twice _ before after c.loop-item.invariant.no_less c.reserve.ensures.no_less;

@@ -1,4 +1,4 @@
-use Rattle.std.proofs.Common.{◌∙◌, ◌<◌, ℕ, List, arith, length, refl}
+use Rattle.std.proofs.Common.{◌∙◌, ◌<◌, List, arith, length, refl}
 use Rattle.std.proofs.lemmas.List.Elements.{All-from_all_within, AllWithin-more_set, AllWithin-none, AllWithin-upto, recursion_from_All}
 use Rattle.kdg_graph.proofs.Common.{Arrival, TellsItsKey}
 use Rattle.kdg_graph.proofs.Marks.{arrived_set}
@@ -12,12 +12,10 @@ loop-arrival-init c = record { same = refl; told = AllWithin-none (TellsItsKey c
 
 pub loop-arrival-preserved : goal.loop-arrival-preserved
 loop-arrival-preserved c =
-    let items : List Arrival = c.loop-arrival.arrivals in
-    let i : ℕ = c.loop-arrival.arrival-index in
-    let inside : i < length items = omega (arith, c.loop-arrival-test.true, c.loop-arrival.auto.arrivals) in
+    let inside : c.loop-arrival.arrival-index < length c.loop-arrival.arrivals = omega (arith, c.loop-arrival-test.true, c.loop-arrival.auto.arrivals) in
     record {
-      same = arrived_set items i c.arrival.result blank inside c.arrival.ensures.id ∙ c.loop-arrival.invariant.same;
-      told = AllWithin-more_set items i c.arrival.result inside (TellsItsKey c.args.nodes.now.nodes) c.loop-arrival.invariant.told c.arrival.ensures.told;
+      same = arrived_set c.loop-arrival.arrivals c.loop-arrival.arrival-index c.arrival.result blank inside c.arrival.ensures.id ∙ c.loop-arrival.invariant.same;
+      told = AllWithin-more_set c.loop-arrival.arrivals c.loop-arrival.arrival-index c.arrival.result inside (TellsItsKey c.args.nodes.now.nodes) c.loop-arrival.invariant.told c.arrival.ensures.told;
     }
 
 pub returns-clause-told : goal.returns-clause-told

@@ -1,6 +1,6 @@
 use Rattle.std.proofs.Common.{◌≡◌, IsPermutation, List, is_lt, rules, subst}
 use Rattle.std.proofs.lemmas.Fn.{always_returns_same}
-use Rattle.kdg_graph.proofs.Common.{Arrival, IsPermutation-map, Node, NodeId, TellsItsKey, arrival_cmp, arrived}
+use Rattle.kdg_graph.proofs.Common.{Arrival, IsPermutation-map, NodeId, TellsItsKey, arrival_cmp, arrived}
 use Rattle.kdg_graph.proofs.Listed.{all_moved, earliest_first}
 use Rattle.kdg_graph.proofs.source_lane.order_arrivals.Goals as goal
 
@@ -13,5 +13,4 @@ returns-then-arrivals-gt1-clause-told c _ = all_moved (TellsItsKey c.args.nodes.
 
 pub returns-then-arrivals-gt1-clause-in_turn : goal.returns-then-arrivals-gt1-clause-in_turn
 returns-then-arrivals-gt1-clause-in_turn c =
-    let nodes : List Node = c.args.nodes.now.nodes in
-    c.sort_unstable_by.ensures.sorted (λ one other. is_lt (arrival_cmp nodes one other)) (earliest_first nodes) (always_returns_same _ (λ a r. is_lt r ≡ is_lt (arrival_cmp nodes a.0.now a.1.0.now)) _ (λ a r f k. search rules))
+    c.sort_unstable_by.ensures.sorted (λ one other. is_lt (arrival_cmp c.args.nodes.now.nodes one other)) (earliest_first c.args.nodes.now.nodes) (always_returns_same _ (λ a r. is_lt r ≡ is_lt (arrival_cmp c.args.nodes.now.nodes a.0.now a.1.0.now)) _ (λ a r f k. search rules))

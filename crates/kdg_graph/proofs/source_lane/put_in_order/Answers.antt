@@ -15,70 +15,52 @@ loop-arrival-init c = record {
 
 -- ---- the last one that is left
 
-pub put_before-end-requires-clause-there : goal.put_before-end-requires-clause-there
-put_before-end-requires-clause-there c =
-    let all : List Arrival = c.args.arrivals.now.items in
-    let rest : List Arrival = c.pop.new.self.items in
-    let last = popped all c.loop-arrival.arrivals.items rest c.in-Some.arrival (c.pop.ensures.items ∙ ap (λ (o : Option Arrival). rest ++ option_to_list o) c.in-Some.is) c.loop-arrival.invariant.front c.loop-arrival.invariant.fits in
-    there_next c.args.nodes.now.nodes c.args.settled.now.ids.items c.args.standings.now all c.loop-arrival.arrivals.items c.in-Some.arrival c.loop-arrival.settled.ids.items c.loop-arrival.standings c.loop-arrival.end c.requires.there (length rest, last.1, last.2) c.loop-arrival.invariant.put
-    (is_Recent _ (sym c.marks_waiting.ensures ∙ c.if-marks_waiting.true))
-
-pub put_before-end-requires-clause-room : goal.put_before-end-requires-clause-room
-put_before-end-requires-clause-room c =
-    let all : List Arrival = c.args.arrivals.now.items in
-    let rest : List Arrival = c.pop.new.self.items in
-    let last = popped all c.loop-arrival.arrivals.items rest c.in-Some.arrival (c.pop.ensures.items ∙ ap (λ (o : Option Arrival). rest ++ option_to_list o) c.in-Some.is) c.loop-arrival.invariant.front c.loop-arrival.invariant.fits in
-    let is : get_or c.loop-arrival.standings c.in-Some.arrival.id.at Absent ≡ Recent = is_Recent _ (sym c.marks_waiting.ensures ∙ c.if-marks_waiting.true) in
-    let there = there_next c.args.nodes.now.nodes c.args.settled.now.ids.items c.args.standings.now all c.loop-arrival.arrivals.items c.in-Some.arrival c.loop-arrival.settled.ids.items c.loop-arrival.standings c.loop-arrival.end c.requires.there (length rest, last.1, last.2) c.loop-arrival.invariant.put is in
-    room_next c.args.nodes.now.nodes c.args.settled.now.ids.items c.args.standings.now c.loop-arrival.arrivals.items c.in-Some.arrival c.loop-arrival.settled.ids.items c.loop-arrival.standings c.loop-arrival.end c.loop-arrival.settled.ids.capacity c.requires.graph there c.loop-arrival.invariant.put is
-    (omega (arith, c.requires.room, c.loop-arrival.invariant.room))
-
-pub put_before-end-requires-clause-known : goal.put_before-end-requires-clause-known
-put_before-end-requires-clause-known c =
-    let rest : List Arrival = c.pop.new.self.items in
+pub put_before-end-requires : goal.put_before-end-requires
+put_before-end-requires c =
+    let nodes : List Node = c.args.nodes.now.nodes in
     let before : List NodeId = c.args.settled.now.ids.items in
-    let put = subst (λ (left : List Arrival). ArePut c.args.nodes.now.nodes before c.args.standings.now left c.loop-arrival.settled.ids.items c.loop-arrival.standings c.loop-arrival.end) (c.pop.ensures.items ∙ ap (λ (o : Option Arrival). rest ++ option_to_list o) c.in-Some.is) c.loop-arrival.invariant.put in
-    known_next c.args.nodes.now.nodes before c.args.standings.now rest c.in-Some.arrival c.loop-arrival.settled.ids.items c.loop-arrival.standings c.loop-arrival.end put (is_Recent _ (sym c.marks_waiting.ensures ∙ c.if-marks_waiting.true))
+    let was : List Standing = c.args.standings.now in
+    let rest : List Arrival = c.pop.new.self.items in
+    let ids : List NodeId = c.loop-arrival.settled.ids.items in
+    let left = c.pop.ensures.items ∙ ap (λ (o : Option Arrival). rest ++ option_to_list o) c.in-Some.is in
+    let last = popped c.args.arrivals.now.items c.loop-arrival.arrivals.items rest c.in-Some.arrival left c.loop-arrival.invariant.front c.loop-arrival.invariant.fits in
+    let is : get_or c.loop-arrival.standings c.in-Some.arrival.id.at Absent ≡ Recent = is_Recent _ (sym c.marks_waiting.ensures ∙ c.if-marks_waiting.true) in
+    let there = there_next nodes before was c.args.arrivals.now.items c.loop-arrival.arrivals.items c.in-Some.arrival ids c.loop-arrival.standings c.loop-arrival.end c.requires.there (length rest, last.1, last.2) c.loop-arrival.invariant.put is in
+    record {
+      there = there;
+      room = room_next nodes before was c.loop-arrival.arrivals.items c.in-Some.arrival ids c.loop-arrival.standings c.loop-arrival.end c.loop-arrival.settled.ids.capacity c.requires.graph there c.loop-arrival.invariant.put is (omega (arith, c.requires.room, c.loop-arrival.invariant.room));
+      known = known_next nodes before was rest c.in-Some.arrival ids c.loop-arrival.standings c.loop-arrival.end (subst (λ (l : List Arrival). ArePut nodes before was l ids c.loop-arrival.standings c.loop-arrival.end) left c.loop-arrival.invariant.put) is;
+    }
 
 pub loop-arrival-preserved-then-marks_waiting : goal.loop-arrival-preserved-then-marks_waiting
 loop-arrival-preserved-then-marks_waiting c =
     let nodes : List Node = c.args.nodes.now.nodes in
-    let before : List NodeId = c.args.settled.now.ids.items in
     let was : List Standing = c.args.standings.now in
-    let all : List Arrival = c.args.arrivals.now.items in
     let rest : List Arrival = c.pop.new.self.items in
     let arrival : Arrival = c.in-Some.arrival in
-    let ids : List NodeId = c.loop-arrival.settled.ids.items in
     let standings : List Standing = c.loop-arrival.standings in
     let left = c.pop.ensures.items ∙ ap (λ (o : Option Arrival). rest ++ option_to_list o) c.in-Some.is in
-    let last = popped all c.loop-arrival.arrivals.items rest arrival left c.loop-arrival.invariant.front c.loop-arrival.invariant.fits in
+    let last = popped c.args.arrivals.now.items c.loop-arrival.arrivals.items rest arrival left c.loop-arrival.invariant.front c.loop-arrival.invariant.fits in
     let is : get_or standings arrival.id.at Absent ≡ Recent = is_Recent _ (sym c.marks_waiting.ensures ∙ c.if-marks_waiting.true) in
-    let there = there_next nodes before was all c.loop-arrival.arrivals.items arrival ids standings c.loop-arrival.end c.requires.there (length rest, last.1, last.2) c.loop-arrival.invariant.put is in
-    let put = subst (λ (l : List Arrival). ArePut nodes before was l ids standings c.loop-arrival.end) left c.loop-arrival.invariant.put in
+    let there = there_next nodes c.args.settled.now.ids.items was c.args.arrivals.now.items c.loop-arrival.arrivals.items arrival c.loop-arrival.settled.ids.items standings c.loop-arrival.end c.requires.there (length rest, last.1, last.2) c.loop-arrival.invariant.put is in
+    let put = subst (λ (l : List Arrival). ArePut nodes c.args.settled.now.ids.items was l c.loop-arrival.settled.ids.items standings c.loop-arrival.end) left c.loop-arrival.invariant.put in
     record {
       front = last.0;
       fits = omega (arith, last.1);
-      put = put_next c.beginning_laws.ensures nodes before was all rest arrival (length rest, last.1, last.2) ids c.put_before-end.new.lane.ids.items standings c.loop-arrival.end c.put_before-end.result c.requires.graph c.requires.in_turn c.requires.told last.0 there put is
+      put = put_next c.beginning_laws.ensures nodes c.args.settled.now.ids.items was c.args.arrivals.now.items rest arrival (length rest, last.1, last.2) c.loop-arrival.settled.ids.items c.put_before-end.new.lane.ids.items standings c.loop-arrival.end c.put_before-end.result c.requires.graph c.requires.in_turn c.requires.told last.0 there put is
           (omega (arith, c.loop-arrival.auto.standings, has_mark nodes arrival.id (length was) there c.requires.marks)) c.put_before-end.ensures.place c.put_before-end.ensures.ids;
       room = omega (arith, c.loop-arrival.invariant.room, c.put_before-end.ensures.room);
     }
 
 pub loop-arrival-preserved : goal.loop-arrival-preserved
 loop-arrival-preserved c =
-    let nodes : List Node = c.args.nodes.now.nodes in
-    let before : List NodeId = c.args.settled.now.ids.items in
-    let was : List Standing = c.args.standings.now in
-    let rest : List Arrival = c.pop.new.self.items in
-    let arrival : Arrival = c.in-Some.arrival in
-    let ids : List NodeId = c.loop-arrival.settled.ids.items in
-    let standings : List Standing = c.loop-arrival.standings in
-    let left = c.pop.ensures.items ∙ ap (λ (o : Option Arrival). rest ++ option_to_list o) c.in-Some.is in
-    let last = popped c.args.arrivals.now.items c.loop-arrival.arrivals.items rest arrival left c.loop-arrival.invariant.front c.loop-arrival.invariant.fits in
-    let put = subst (λ (l : List Arrival). ArePut nodes before was l ids standings c.loop-arrival.end) left c.loop-arrival.invariant.put in
+    let left = c.pop.ensures.items ∙ ap (λ (o : Option Arrival). c.pop.new.self.items ++ option_to_list o) c.in-Some.is in
+    let last = popped c.args.arrivals.now.items c.loop-arrival.arrivals.items c.pop.new.self.items c.in-Some.arrival left c.loop-arrival.invariant.front c.loop-arrival.invariant.fits in
+    let put = subst (λ (l : List Arrival). ArePut c.args.nodes.now.nodes c.args.settled.now.ids.items c.args.standings.now l c.loop-arrival.settled.ids.items c.loop-arrival.standings c.loop-arrival.end) left c.loop-arrival.invariant.put in
     record {
       front = last.0;
       fits = omega (arith, last.1);
-      put = put_rest nodes before was rest arrival ids standings c.loop-arrival.end put (λ is. true≢false (sym (ap is_recent is) ∙ sym c.marks_waiting.ensures ∙ c.if-marks_waiting.false));
+      put = put_rest c.args.nodes.now.nodes c.args.settled.now.ids.items c.args.standings.now c.pop.new.self.items c.in-Some.arrival c.loop-arrival.settled.ids.items c.loop-arrival.standings c.loop-arrival.end put (λ is. true≢false (sym (ap is_recent is) ∙ sym c.marks_waiting.ensures ∙ c.if-marks_waiting.false));
       room = c.loop-arrival.invariant.room;
     }
 

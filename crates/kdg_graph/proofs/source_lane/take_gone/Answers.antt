@@ -8,11 +8,9 @@ loop-left-init c = record { same = refl; few = c.requires; front = refl; inside 
 
 pub returns-in_default : goal.returns-in_default
 returns-in_default c =
-    let standings : List Standing = c.args.standings.now in
-    let ids : List NodeId = c.loop-left.settled.ids.items in
-    let at : slice_get ids c.loop-left.place ≡ None = sym c.get.ensures.id ∙ c.in_default.is in
+    let at : slice_get c.loop-left.settled.ids.items c.loop-left.place ≡ None = sym c.get.ensures.id ∙ c.in_default.is in
     record {
-      left = sym (all_walked standings ids c.loop-left.place at c.loop-left.invariant.front) ∙ c.loop-left.invariant.same;
+      left = sym (all_walked c.args.standings.now c.loop-left.settled.ids.items c.loop-left.place at c.loop-left.invariant.front) ∙ c.loop-left.invariant.same;
       room = c.loop-left.invariant.room;
     }
 
@@ -21,15 +19,13 @@ remove-requires c = slice_get_within c.loop-left.settled.ids.items c.loop-left.p
 
 pub loop-left-preserved-then-marks_in_order : goal.loop-left-preserved-then-marks_in_order
 loop-left-preserved-then-marks_in_order c =
-    let ids : List NodeId = c.loop-left.settled.ids.items in
-    let place : ℕ = c.loop-left.place in
-    let at : slice_get ids place ≡ Some c.in-Some.id = sym c.get.ensures.id ∙ c.in-Some.is in
+    let at : slice_get c.loop-left.settled.ids.items c.loop-left.place ≡ Some c.in-Some.id = sym c.get.ensures.id ∙ c.in-Some.is in
     let was = c.loop-left.invariant in
     record {
       same = was.same;
       few = was.few;
-      front = stays_in c.args.standings.now ids place c.in-Some.id at was.front (sym c.marks_in_order.ensures ∙ c.if-marks_in_order.true);
-      inside = omega (arith, slice_get_within ids place c.in-Some.id at);
+      front = stays_in c.args.standings.now c.loop-left.settled.ids.items c.loop-left.place c.in-Some.id at was.front (sym c.marks_in_order.ensures ∙ c.if-marks_in_order.true);
+      inside = omega (arith, slice_get_within c.loop-left.settled.ids.items c.loop-left.place c.in-Some.id at);
       room = was.room;
     }
 
@@ -40,12 +36,11 @@ loop-left-preserved c =
     let place : ℕ = c.loop-left.place in
     let at : slice_get ids place ≡ Some c.in-Some.id = sym c.get.ensures.id ∙ c.in-Some.is in
     let was = c.loop-left.invariant in
-    let items = c.remove.ensures.ids in
-    let same = ap (settled_among standings) items ∙ goes_out standings ids place c.in-Some.id at (sym c.marks_in_order.ensures ∙ c.if-marks_in_order.false) in
+    let same = ap (settled_among standings) c.remove.ensures.ids ∙ goes_out standings ids place c.in-Some.id at (sym c.marks_in_order.ensures ∙ c.if-marks_in_order.false) in
     record {
       same = same ∙ was.same;
       few = omega (arith, was.few, c.remove.ensures.len, ap length same);
-      front = subst (λ (l : List NodeId). settled_among standings (take place l) ≡ take place l) (sym items) (front_stays standings ids place was.front);
+      front = subst (λ (l : List NodeId). settled_among standings (take place l) ≡ take place l) (sym c.remove.ensures.ids) (front_stays standings ids place was.front);
       inside = omega (arith, slice_get_within ids place c.in-Some.id at, c.remove.ensures.len);
       room = omega (arith, was.room, c.remove.ensures.room);
     }
@@ -64,8 +59,7 @@ overflow_add-place c =
 
 pub returns : goal.returns
 returns c =
-    let standings : List Standing = c.args.standings.now in
     record {
-      left = none_gone standings c.loop-left.settled.ids.items c.loop-left.left c.loop-left.invariant.few (omega arith) ∙ c.loop-left.invariant.same;
+      left = none_gone c.args.standings.now c.loop-left.settled.ids.items c.loop-left.left c.loop-left.invariant.few (omega arith) ∙ c.loop-left.invariant.same;
       room = c.loop-left.invariant.room;
     }

@@ -1,5 +1,5 @@
 use Rattle.std.proofs.Common.{◌<◌, ◌∙◌, ℕ, Some, arith, ap, get_or, sym}
-use Rattle.kdg_graph.proofs.Common.{Access, Read, Accesses, is_same}
+use Rattle.kdg_graph.proofs.Common.{Access, Read, is_same}
 use Rattle.kdg_graph.proofs.Filing.{not_there, step_ascends, step_passes}
 use Rattle.kdg_graph.proofs.exchange.SetWalk.has.Goals as goal
 
@@ -12,10 +12,9 @@ returns-then-pair-loc-clause-ascending c = step_ascends c.loop-self.self.left.no
 
 pub loop-self-preserved : goal.loop-self-preserved
 loop-self-preserved c =
-    let left : Accesses = c.loop-self.self.left.now in
-    let first : ℕ × Access = get_or left 0 (0, Read) in
+    let first : ℕ × Access = get_or c.loop-self.self.left.now 0 (0, Read) in
     let before : first.0 < c.args.loc = omega (arith, c.if-loc-pair.false, c.if-pair-loc.false) in
     record {
-      ascending = step_ascends left c.loop-self.invariant.ascending c.in-len1-up.len_at_least;
-      beyond = step_passes left c.args.self.now.left.now c.args.loc (0, Read) c.in-len1-up.len_at_least before c.loop-self.invariant.beyond;
+      ascending = step_ascends c.loop-self.self.left.now c.loop-self.invariant.ascending c.in-len1-up.len_at_least;
+      beyond = step_passes c.loop-self.self.left.now c.args.self.now.left.now c.args.loc (0, Read) c.in-len1-up.len_at_least before c.loop-self.invariant.beyond;
     }

@@ -25,21 +25,19 @@ put_all-requires-clause-new c =
 pub set_sets-requires-clause-rooms : goal.set_sets-requires-clause-rooms
 set_sets-requires-clause-rooms c =
     let changed : List SetChange = c.args.changed.items in
-    let fresh : List Fresh = c.args.fresh.now.items in
     let rooms : List ℕ = c.reserve_all.new.self.rooms in
     let reserved : AllByRecursion (λ (x : SetChange). HasRoom (length c.deref.result.now + length c.deref-2.result.now) x.set rooms) c.deref.result.now = search rules in
-    let all : AllByRecursion (λ (x : SetChange). HasRoom (length changed + length fresh) x.set rooms) changed =
-    subst (λ (l : List SetChange). AllByRecursion (λ (x : SetChange). HasRoom (length l + length fresh) x.set rooms) l) c.deref.ensures.value
+    let all : AllByRecursion (λ (x : SetChange). HasRoom (length changed + length c.args.fresh.now.items) x.set rooms) changed =
+    subst (λ (l : List SetChange). AllByRecursion (λ (x : SetChange). HasRoom (length l + length c.args.fresh.now.items) x.set rooms) l) c.deref.ensures.value
     (subst (λ (l : List Fresh). AllByRecursion (λ (x : SetChange). HasRoom (length c.deref.result.now + length l) x.set rooms) c.deref.result.now) c.deref-2.ensures.value reserved) in
-    all_room (λ (x : SetChange). x.set) (length changed) (length changed + length fresh) 0 changed rooms c.remove-task.new.self.rooms (λ loc. omega (arith, c.remove-task.ensures.rooms loc)) (omega arith) all
+    all_room (λ (x : SetChange). x.set) (length changed) (length changed + length c.args.fresh.now.items) 0 changed rooms c.remove-task.new.self.rooms (λ loc. omega (arith, c.remove-task.ensures.rooms loc)) (omega arith) all
 
 pub put_all-requires-clause-rooms : goal.put_all-requires-clause-rooms
 put_all-requires-clause-rooms c =
-    let changed : List SetChange = c.args.changed.items in
     let fresh : List Fresh = c.args.fresh.now.items in
     let rooms : List ℕ = c.reserve_all.new.self.rooms in
     let reserved : AllByRecursion (λ (x : Fresh). HasRoom (length c.deref.result.now + length c.deref-2.result.now) x.set rooms) c.deref-2.result.now = search rules in
-    let all : AllByRecursion (λ (x : Fresh). HasRoom (length changed + length fresh) x.set rooms) fresh =
+    let all : AllByRecursion (λ (x : Fresh). HasRoom (length c.args.changed.items + length fresh) x.set rooms) fresh =
     subst (λ (l : List SetChange). AllByRecursion (λ (x : Fresh). HasRoom (length l + length fresh) x.set rooms) fresh) c.deref.ensures.value
     (subst (λ (l : List Fresh). AllByRecursion (λ (x : Fresh). HasRoom (length c.deref.result.now + length l) x.set rooms) l) c.deref-2.ensures.value reserved) in
-    all_room (λ (x : Fresh). x.set) (length fresh) (length changed + length fresh) (length changed) fresh rooms c.set_sets.new.self.rooms (λ loc. omega (arith, c.remove-task.ensures.rooms loc, c.set_sets.ensures.rooms loc)) (omega arith) all
+    all_room (λ (x : Fresh). x.set) (length fresh) (length c.args.changed.items + length fresh) (length c.args.changed.items) fresh rooms c.set_sets.new.self.rooms (λ loc. omega (arith, c.remove-task.ensures.rooms loc, c.set_sets.ensures.rooms loc)) (omega arith) all

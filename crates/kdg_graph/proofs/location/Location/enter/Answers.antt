@@ -51,12 +51,11 @@ either_ranked found Write some writers place all writing = writing
 stoppers_ranked : (c : Joined-is_write-2) (some writers : List Node) → IsLaneAmong c.args.nodes.now.nodes some (ids_for Write c.args.self.now) → IsLaneAmong c.args.nodes.now.nodes writers (ids_for Read c.args.self.now)
     → IfSome (node_at c.args.nodes.now.nodes c.args.id) (λ node. IsRank node.task.key (stoppers c.args.access some writers) c.if-self.stoppers)
 stoppers_ranked c some writers among writing =
-    let nodes : List Node = c.args.nodes.now.nodes in
-    let found : Option Node = node_at nodes c.args.id in
+    let found : Option Node = node_at c.args.nodes.now.nodes c.args.id in
     elim c.if-self.branch [
       | then-self+then-is_write w ↦
           let writes : is_write c.args.access ≡ true = sym w.is_write-then-self.ensures ∙ w.if-is_write.true in
-          let ranked = w.put_into-stoppers.ensures.place writers (subst (IsLaneAmong nodes writers) (own_writers c w.if-self.true writes) writing) in
+          let ranked = w.put_into-stoppers.ensures.place writers (subst (IsLaneAmong c.args.nodes.now.nodes writers) (own_writers c w.if-self.true writes) writing) in
           subst (λ (access : Access). IfSome found (λ node. IsRank node.task.key (stoppers access some writers) c.if-self.stoppers)) (sym (write_by_test c.args.access writes))
           (subst (λ (place : ℕ). IfSome found (λ node. IsRank node.task.key writers place)) (sym w.stoppers-is) ranked)
       | else-self w ↦
@@ -66,7 +65,7 @@ stoppers_ranked c some writers among writing =
                 subst (λ (access : Access). IfSome found (λ node. IsRank node.task.key (stoppers access some writers) c.put_into-earlier.result)) (sym (read_by_test c.args.access (sym v.is_write-then-self.ensures ∙ v.if-is_write.false)))
                 (named_ranked c some among)
             | else-self-via-else-self v ↦
-                either_ranked found c.args.access some writers c.put_into-earlier.result (named_ranked c some among) (c.put_into-earlier.ensures.place writers (subst (IsLaneAmong nodes writers) (all_write c v.if-self.false) writing))
+                either_ranked found c.args.access some writers c.put_into-earlier.result (named_ranked c some among) (c.put_into-earlier.ensures.place writers (subst (IsLaneAmong c.args.nodes.now.nodes writers) (all_write c v.if-self.false) writing))
           ])
     ]
 

@@ -16,34 +16,30 @@ loop-pair-init c = record {
 
 pub index_mut-requires : goal.index_mut-requires
 index_mut-requires c =
-    let nodes : List Node = c.args.nodes.now.nodes in
     let node : Node = record { id = c.node.inside.id; task = c.node.inside.task; set = c.node.inside.set; running = c.node.inside.running } in
-    let found : node_at nodes c.args.id ≡ Some node = c.entry-node.ensures ∙ ap (λ (n : Node). Some n) (sym c.node.view_is) in
+    let found : node_at c.args.nodes.now.nodes c.args.id ≡ Some node = c.entry-node.ensures ∙ ap (λ (n : Node). Some n) (sym c.node.view_is) in
     let ps : Accesses = c.items-pair-items.result.now in
     let up : IsAscendingSet ps = subst IsAscendingSet (sym c.items-pair-items.ensures.all) c.items-pair-items.ensures.ascending in
     let i : ℕ = c.loop-pair.pair-index in
-    let inside : i < length ps = c.loop-pair-test.true in
     let p : ℕ × Access = get_or ps i (0, Read) in
-    let at : p ≡ get_or ps i p = again ps i (0, Read) p inside in
+    let at : p ≡ get_or ps i p = again ps i (0, Read) p c.loop-pair-test.true in
     let all : HasRoom 1 node.set (rooms_of c.args.self.now.locations.items) = subst (λ (o : Option Node). IfSome o (λ (n : Node). HasRoom 1 n.set (rooms_of c.args.self.now.locations.items))) found c.requires.room in
     let own : HasRoom 1 ps (rooms_of c.args.self.now.locations.items) = subst (λ (l : Accesses). HasRoom 1 l (rooms_of c.args.self.now.locations.items)) (sym c.items-pair-items.ensures.all) all in
-    let within = within_room c.loop-pair.self.locations.items p.0 (room_next ps i p c.args.self.now.locations.items c.loop-pair.self.locations.items up inside at own c.loop-pair.invariant.room) in
+    let within = within_room c.loop-pair.self.locations.items p.0 (room_next ps i p c.args.self.now.locations.items c.loop-pair.self.locations.items up c.loop-pair-test.true at own c.loop-pair.invariant.room) in
     search (rules, within)
 
 pub enter-here-requires-clause-room : goal.enter-here-requires-clause-room
 enter-here-requires-clause-room c =
-    let nodes : List Node = c.args.nodes.now.nodes in
     let node : Node = record { id = c.node.inside.id; task = c.node.inside.task; set = c.node.inside.set; running = c.node.inside.running } in
-    let found : node_at nodes c.args.id ≡ Some node = c.entry-node.ensures ∙ ap (λ (n : Node). Some n) (sym c.node.view_is) in
+    let found : node_at c.args.nodes.now.nodes c.args.id ≡ Some node = c.entry-node.ensures ∙ ap (λ (n : Node). Some n) (sym c.node.view_is) in
     let ps : Accesses = c.items-pair-items.result.now in
     let up : IsAscendingSet ps = subst IsAscendingSet (sym c.items-pair-items.ensures.all) c.items-pair-items.ensures.ascending in
     let i : ℕ = c.loop-pair.pair-index in
-    let inside : i < length ps = c.loop-pair-test.true in
     let p : ℕ × Access = get_or ps i (0, Read) in
-    let at : p ≡ get_or ps i p = again ps i (0, Read) p inside in
+    let at : p ≡ get_or ps i p = again ps i (0, Read) p c.loop-pair-test.true in
     let all : HasRoom 1 node.set (rooms_of c.args.self.now.locations.items) = subst (λ (o : Option Node). IfSome o (λ (n : Node). HasRoom 1 n.set (rooms_of c.args.self.now.locations.items))) found c.requires.room in
     let own : HasRoom 1 ps (rooms_of c.args.self.now.locations.items) = subst (λ (l : Accesses). HasRoom 1 l (rooms_of c.args.self.now.locations.items)) (sym c.items-pair-items.ensures.all) all in
-    let now : 1 ≤ room_at (rooms_of c.loop-pair.self.locations.items) p.0 = room_next ps i p c.args.self.now.locations.items c.loop-pair.self.locations.items up inside at own c.loop-pair.invariant.room in
+    let now : 1 ≤ room_at (rooms_of c.loop-pair.self.locations.items) p.0 = room_next ps i p c.args.self.now.locations.items c.loop-pair.self.locations.items up c.loop-pair-test.true at own c.loop-pair.invariant.room in
     let within = within_room c.loop-pair.self.locations.items p.0 now in
     omega (arith, now, room_there c.loop-pair.self.locations.items p.0 c.index_mut.result.now within, ap room_in c.index_mut.ensures.value)
 
@@ -95,32 +91,28 @@ loop-pair-preserved c =
 
 pub returns-clause-filed : goal.returns-clause-filed
 returns-clause-filed c =
-    let nodes : List Node = c.args.nodes.now.nodes in
     let node : Node = record { id = c.node.inside.id; task = c.node.inside.task; set = c.node.inside.set; running = c.node.inside.running } in
-    let found : node_at nodes c.args.id ≡ Some node = c.entry-node.ensures ∙ ap (λ (n : Node). Some n) (sym c.node.view_is) in
-    let ps : Accesses = c.items-pair-items.result.now in
-    let whole = take_all c.loop-pair.pair-index ps (omega (arith, c.loop-pair-test.false)) ∙ c.items-pair-items.ensures.all in
-    filed_own nodes c.args.id node c.loop-pair.self.locations.items c.len-graph.ensures.graph found
-    (subst (λ (l : Accesses). AreFiledWith (without c.args.id nodes) node (access_at l) c.loop-pair.self.locations.items) whole (c.loop-pair.invariant.filed node found))
+    let found : node_at c.args.nodes.now.nodes c.args.id ≡ Some node = c.entry-node.ensures ∙ ap (λ (n : Node). Some n) (sym c.node.view_is) in
+    let whole = take_all c.loop-pair.pair-index c.items-pair-items.result.now (omega (arith, c.loop-pair-test.false)) ∙ c.items-pair-items.ensures.all in
+    filed_own c.args.nodes.now.nodes c.args.id node c.loop-pair.self.locations.items c.len-graph.ensures.graph found
+    (subst (λ (l : Accesses). AreFiledWith (without c.args.id c.args.nodes.now.nodes) node (access_at l) c.loop-pair.self.locations.items) whole (c.loop-pair.invariant.filed node found))
 
 pub returns-clause-first : goal.returns-clause-first
 returns-clause-first c =
     let nodes : List Node = c.args.nodes.now.nodes in
     let node : Node = record { id = c.node.inside.id; task = c.node.inside.task; set = c.node.inside.set; running = c.node.inside.running } in
     let found : node_at nodes c.args.id ≡ Some node = c.entry-node.ensures ∙ ap (λ (n : Node). Some n) (sym c.node.view_is) in
-    let ps : Accesses = c.items-pair-items.result.now in
-    let end : length ps ≤ c.loop-pair.pair-index = omega (arith, c.loop-pair-test.false) in
+    let end : length c.items-pair-items.result.now ≤ c.loop-pair.pair-index = omega (arith, c.loop-pair-test.false) in
     let none : ℕ × Access → Type 0 = λ p. earlier_than node.task.key (clashing_at p.0 Write (without c.args.id nodes)) ≡ [] in
     subst (λ (o : Option Node). IfSome o (λ (n : Node). c.loop-pair.first ≡ true → is_blocked nodes n ≡ false)) (sym found) (λ is.
     first_unblocked c.conflict_laws.ensures.decided c.conflict_laws.ensures.mutual nodes c.args.id node c.len-graph.ensures.graph c.items-pair-items.ensures.ascending found
-    (each_pair none ps node.set c.loop-pair.pair-index c.items-pair-items.ensures.all end (c.loop-pair.invariant.first node found is)))
+    (each_pair none c.items-pair-items.result.now node.set c.loop-pair.pair-index c.items-pair-items.ensures.all end (c.loop-pair.invariant.first node found is)))
 
 pub returns-clause-blocked : goal.returns-clause-blocked
 returns-clause-blocked c =
-    let nodes : List Node = c.args.nodes.now.nodes in
     let node : Node = record { id = c.node.inside.id; task = c.node.inside.task; set = c.node.inside.set; running = c.node.inside.running } in
-    let found : node_at nodes c.args.id ≡ Some node = c.entry-node.ensures ∙ ap (λ (n : Node). Some n) (sym c.node.view_is) in
-    subst (λ (o : Option Node). IfSome o (λ (n : Node). c.loop-pair.blocked ≡ true → is_blocked nodes n ≡ true)) (sym found) (c.loop-pair.invariant.blocked node found)
+    let found : node_at c.args.nodes.now.nodes c.args.id ≡ Some node = c.entry-node.ensures ∙ ap (λ (n : Node). Some n) (sym c.node.view_is) in
+    subst (λ (o : Option Node). IfSome o (λ (n : Node). c.loop-pair.blocked ≡ true → is_blocked c.args.nodes.now.nodes n ≡ true)) (sym found) (c.loop-pair.invariant.blocked node found)
 
 pub returns-clause-blocks_none : goal.returns-clause-blocks_none
 returns-clause-blocks_none c =
@@ -128,8 +120,7 @@ returns-clause-blocks_none c =
     let others : List Node = without c.args.id nodes in
     let node : Node = record { id = c.node.inside.id; task = c.node.inside.task; set = c.node.inside.set; running = c.node.inside.running } in
     let found : node_at nodes c.args.id ≡ Some node = c.entry-node.ensures ∙ ap (λ (n : Node). Some n) (sym c.node.view_is) in
-    let ps : Accesses = c.items-pair-items.result.now in
-    let end : length ps ≤ c.loop-pair.pair-index = omega (arith, c.loop-pair-test.false) in
+    let end : length c.items-pair-items.result.now ≤ c.loop-pair.pair-index = omega (arith, c.loop-pair-test.false) in
     let none : ℕ × Access → Type 0 = λ p. BlocksNoneAlone p.1 node.task.key (clashing_at p.0 Write others) (clashing_at p.0 Read others) in
     subst (λ (o : Option Node). IfSome o (λ (n : Node). c.loop-pair.blocks_none ≡ true → AllByRecursion (λ other. is_blocked others other ≡ true) (fronts_after n.set n.task.key nodes))) (sym found) (λ is.
-    fronts_blocked c.conflict_laws.ensures.decided nodes c.args.id node c.len-graph.ensures.graph found (each_pair none ps node.set c.loop-pair.pair-index c.items-pair-items.ensures.all end (c.loop-pair.invariant.blocks_none node found is)))
+    fronts_blocked c.conflict_laws.ensures.decided nodes c.args.id node c.len-graph.ensures.graph found (each_pair none c.items-pair-items.result.now node.set c.loop-pair.pair-index c.items-pair-items.ensures.all end (c.loop-pair.invariant.blocks_none node found is)))

@@ -34,13 +34,12 @@ next c =
     let held : Node = record { id = c.node.inside.id; task = c.node.inside.task; set = c.node.inside.set; running = c.node.inside.running } in
     let found : node_at c.args.nodes.now.nodes c.args.id ≡ Some held = c.entry-node.ensures ∙ ap (λ (n : Node). Some n) (sym c.node.view_is) in
     let ps : Accesses = c.items-pair-items.result.now in
-    let i : ℕ = c.loop-pair.pair-index in
-    let p : ℕ × Access = get_or ps i (0, Read) in
+    let p : ℕ × Access = get_or ps c.loop-pair.pair-index (0, Read) in
     let first = c.args.self.now.locations.items in
     let up : IsAscendingSet ps = subst IsAscendingSet (sym c.items-pair-items.ensures.all) c.items-pair-items.ensures.ascending in
     let all : HasRoom 1 held.set (rooms_of first) = subst (λ (o : Option Node). IfSome o (λ (n : Node). HasRoom 1 n.set (rooms_of first))) found c.requires.room in
     let own : HasRoom 1 ps (rooms_of first) = subst (λ (l : Accesses). HasRoom 1 l (rooms_of first)) (sym c.items-pair-items.ensures.all) all in
-    room_next ps i p first c.loop-pair.self.locations.items up c.loop-pair-test.true (again ps i (0, Read) p c.loop-pair-test.true) own c.loop-pair.invariant.room
+    room_next ps c.loop-pair.pair-index p first c.loop-pair.self.locations.items up c.loop-pair-test.true (again ps c.loop-pair.pair-index (0, Read) p c.loop-pair-test.true) own c.loop-pair.invariant.room
 
 pub index_mut-requires : goal.index_mut-requires
 index_mut-requires c =
@@ -66,7 +65,6 @@ loop-pair-preserved c =
     let at : p ≡ get_or held.set i p = subst (λ (l : Accesses). p ≡ get_or l i p) c.items-pair-items.ensures.all (again ps i (0, Read) p c.loop-pair-test.true) in
     let beside : access_at c.loop-pair.walk.left.now p.0 ≡ access_at before p.0 = c.loop-pair.invariant.beside held found i (0, Read) (omega arith) c.loop-pair-test.true in
     let lacks : is_same (Some p.1) (access_at before p.0) ≡ false = ap (is_same (Some p.1)) (sym beside) ∙ sym c.has.ensures.found ∙ c.if-has.false in
-    let first = c.args.self.now.locations.items in
     let up : IsAscendingSet ps = subst IsAscendingSet (sym c.items-pair-items.ensures.all) c.items-pair-items.ensures.ascending in
     let there : p ≡ get_or ps i p = again ps i (0, Read) p c.loop-pair-test.true in
     let within = within_room c.loop-pair.self.locations.items p.0 (next (goal.at.loop-pair-preserved c).Else-has) in
@@ -82,17 +80,14 @@ loop-pair-preserved c =
       beside = for_found nodes c.args.id held (λ n. (k : ℕ) (d : ℕ × Access) → i + 1 ≤ k → k < length ps → access_at c.has.new.self.left.now (get_or ps k d).0 ≡ access_at before (get_or ps k d).0) found
           (still_beside ps c.loop-pair.walk.left.now c.has.new.self.left.now before i p up (again ps i (0, Read) p c.loop-pair-test.true) (c.loop-pair.invariant.beside held found) c.has.ensures.beyond);
       filed = for_found nodes c.args.id held (λ n. AreFiledWith (without c.args.id nodes) n (midway before n.set (take (i + 1) n.set)) locations) found (rw add-one filed);
-      room = rw add-one (room_step ps i p first c.loop-pair.self.locations.items c.index_mut.result.now c.enter.new.self up c.loop-pair-test.true there within c.index_mut.ensures.value c.enter.ensures.room c.loop-pair.invariant.room);
+      room = rw add-one (room_step ps i p c.args.self.now.locations.items c.loop-pair.self.locations.items c.index_mut.result.now c.enter.new.self up c.loop-pair-test.true there within c.index_mut.ensures.value c.enter.ensures.room c.loop-pair.invariant.room);
     }
 
 pub returns-clause-filed : goal.returns-clause-filed
 returns-clause-filed c =
-    let nodes : List Node = c.args.nodes.now.nodes in
     let held : Node = record { id = c.node.inside.id; task = c.node.inside.task; set = c.node.inside.set; running = c.node.inside.running } in
-    let found : node_at nodes c.args.id ≡ Some held = c.entry-node.ensures ∙ ap (λ (n : Node). Some n) (sym c.node.view_is) in
-    let before : Accesses = c.args.before.now in
-    let i : ℕ = c.loop-pair.pair-index in
-    let end : i ≡ length held.set = omega (arith, c.loop-pair-test.false, c.loop-pair.auto.pair-index-end, ap length c.items-pair-items.ensures.all) in
-    let whole : take i held.set ≡ held.set = ap (λ n. take n held.set) end ∙ take-length held.set in
-    filed_own nodes c.args.id held c.loop-pair.self.locations.items c.len-graph.ensures.graph found
-    (filed_as (without c.args.id nodes) held (midway before held.set (take i held.set)) (access_at held.set) c.loop-pair.self.locations.items (λ loc. ap (λ (l : Accesses). midway before held.set l loc) whole ∙ midway_last before held.set loc) (c.loop-pair.invariant.filed held found))
+    let found : node_at c.args.nodes.now.nodes c.args.id ≡ Some held = c.entry-node.ensures ∙ ap (λ (n : Node). Some n) (sym c.node.view_is) in
+    let end : c.loop-pair.pair-index ≡ length held.set = omega (arith, c.loop-pair-test.false, c.loop-pair.auto.pair-index-end, ap length c.items-pair-items.ensures.all) in
+    let whole : take c.loop-pair.pair-index held.set ≡ held.set = ap (λ n. take n held.set) end ∙ take-length held.set in
+    filed_own c.args.nodes.now.nodes c.args.id held c.loop-pair.self.locations.items c.len-graph.ensures.graph found
+    (filed_as (without c.args.id c.args.nodes.now.nodes) held (midway c.args.before.now held.set (take c.loop-pair.pair-index held.set)) (access_at held.set) c.loop-pair.self.locations.items (λ loc. ap (λ (l : Accesses). midway c.args.before.now held.set l loc) whole ∙ midway_last c.args.before.now held.set loc) (c.loop-pair.invariant.filed held found))

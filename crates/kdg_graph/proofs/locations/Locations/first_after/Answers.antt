@@ -12,9 +12,7 @@ returns-in_err-lane c =
 
 pub returns : goal.returns
 returns c =
-    let nodes : List Node = c.args.nodes.now.nodes in
-    let some : List Node = clashing_at c.args.loc c.args.access nodes in
-    let ids : List NodeId = c.in_ok-lane.lane.now.ids.items in
-    let are : ids ≡ ids_of some = c.in_ok-lane.ensures.kept ∙ c.requires.filed c.args.loc c.args.access in
-    let rank : IsRankPast c.args.key.now some c.rank_past-place.result = c.rank_past-place.ensures.rank some (filed_among nodes c.args.loc c.args.access ids c.rank_past-place.ensures.graph are) in
-    c.get.ensures.id ∙ ap (λ (l : List NodeId). slice_get l c.rank_past-place.result) are ∙ first_from c.rank_past-place.result some ∙ ap least_of (later_clashing c.args.key.now c.args.loc c.args.access nodes c.rank_past-place.result rank)
+    let some : List Node = clashing_at c.args.loc c.args.access c.args.nodes.now.nodes in
+    let are : c.in_ok-lane.lane.now.ids.items ≡ ids_of some = c.in_ok-lane.ensures.kept ∙ c.requires.filed c.args.loc c.args.access in
+    let rank : IsRankPast c.args.key.now some c.rank_past-place.result = c.rank_past-place.ensures.rank some (filed_among c.args.nodes.now.nodes c.args.loc c.args.access c.in_ok-lane.lane.now.ids.items c.rank_past-place.ensures.graph are) in
+    c.get.ensures.id ∙ ap (λ (l : List NodeId). slice_get l c.rank_past-place.result) are ∙ first_from c.rank_past-place.result some ∙ ap least_of (later_clashing c.args.key.now c.args.loc c.args.access c.args.nodes.now.nodes c.rank_past-place.result rank)

@@ -17,9 +17,8 @@ pub returns : goal.returns
 returns c =
     let nodes : List Node = c.args.nodes.now.nodes in
     let some : List Node = clashing_at c.args.loc c.args.access nodes in
-    let ids : List NodeId = c.in_ok-lane.lane.now.ids.items in
-    let are : ids ≡ ids_of some = c.in_ok-lane.ensures.kept ∙ c.requires.filed c.args.loc c.args.access in
-    let among : IsLaneAmong nodes some ids = filed_among nodes c.args.loc c.args.access ids c.rank_behind-next.ensures.graph are in
+    let are : c.in_ok-lane.lane.now.ids.items ≡ ids_of some = c.in_ok-lane.ensures.kept ∙ c.requires.filed c.args.loc c.args.access in
+    let among : IsLaneAmong nodes some c.in_ok-lane.lane.now.ids.items = filed_among nodes c.args.loc c.args.access c.in_ok-lane.lane.now.ids.items c.rank_behind-next.ensures.graph are in
     let behind : IsRankPast c.requires.key.node.task.key some c.rank_behind-next.result = subst (λ (o : Option Node). IfSome o (λ (n : Node). IsRankPast n.task.key some c.rank_behind-next.result)) c.requires.key.there (c.rank_behind-next.ensures.rank some among) in
     let rank : IsRankPast c.args.key.now some c.rank_behind-next.result = subst (λ k. IsRankPast k some c.rank_behind-next.result) c.requires.key.key_is behind in
     c.get.ensures.id ∙ ap (λ (l : List NodeId). slice_get l c.rank_behind-next.result) are ∙ first_from c.rank_behind-next.result some ∙ ap least_of (later_clashing c.args.key.now c.args.loc c.args.access nodes c.rank_behind-next.result rank)

@@ -1,14 +1,12 @@
-use Rattle.std.proofs.Common.{◌≡◌, ◌∙◌, List, [], ap, sym}
-use Rattle.kdg_graph.proofs.Common.{NodeId, clashing_at, up_to_writer, Node, ids_of}
+use Rattle.std.proofs.Common.{◌≡◌, ◌∙◌, [], ap, sym}
+use Rattle.kdg_graph.proofs.Common.{clashing_at, up_to_writer, ids_of}
 use Rattle.kdg_graph.proofs.Filing.{filed_among, no_ids}
 use Rattle.kdg_graph.proofs.Fronting.{none_clashing}
 use Rattle.kdg_graph.proofs.locations.Locations.front.Goals as goal
 
 pub front_from-requires-clause-rank : goal.front_from-requires-clause-rank
 front_from-requires-clause-rank c =
-    let nodes : List Node = c.args.nodes.now.nodes in
-    let ids : List NodeId = c.in-Some.lane.now.ids.items in
-    c.rank_known-start.ensures.rank (clashing_at c.args.loc c.args.access nodes) (filed_among nodes c.args.loc c.args.access ids c.rank_known-start.ensures.graph (c.in-Some.ensures.kept ∙ c.requires.filed c.args.loc c.args.access)) c.requires.first
+    c.rank_known-start.ensures.rank (clashing_at c.args.loc c.args.access c.args.nodes.now.nodes) (filed_among c.args.nodes.now.nodes c.args.loc c.args.access c.in-Some.lane.now.ids.items c.rank_known-start.ensures.graph (c.in-Some.ensures.kept ∙ c.requires.filed c.args.loc c.args.access)) c.requires.first
 
 pub returns-in-None-clause-ids : goal.returns-in-None-clause-ids
 returns-in-None-clause-ids c =

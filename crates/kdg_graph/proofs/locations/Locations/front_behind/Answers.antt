@@ -1,5 +1,5 @@
 use Rattle.std.proofs.Common.{◌≡◌, ◌∙◌, List, Option, [], ap, refl, subst, sym, IfSome, IsSome}
-use Rattle.kdg_graph.proofs.Common.{NodeId, IsRankPast, IsLaneAmong, clashing_at, up_to_writer, Node, ids_of}
+use Rattle.kdg_graph.proofs.Common.{IsRankPast, IsLaneAmong, clashing_at, up_to_writer, Node, ids_of}
 use Rattle.kdg_graph.proofs.Filing.{filed_among, no_ids}
 use Rattle.kdg_graph.proofs.Fronting.{none_clashing}
 use Rattle.kdg_graph.proofs.locations.Locations.front_behind.Goals as goal
@@ -9,10 +9,8 @@ rank_behind-start-requires c = subst IsSome (sym c.requires.key.there) refl
 
 pub front_from-requires-clause-rank : goal.front_from-requires-clause-rank
 front_from-requires-clause-rank c =
-    let nodes : List Node = c.args.nodes.now.nodes in
-    let ids : List NodeId = c.in-Some.lane.now.ids.items in
-    let some : List Node = clashing_at c.args.loc c.args.access nodes in
-    let among : IsLaneAmong nodes some ids = filed_among nodes c.args.loc c.args.access ids c.rank_behind-start.ensures.graph (c.in-Some.ensures.kept ∙ c.requires.filed c.args.loc c.args.access) in
+    let some : List Node = clashing_at c.args.loc c.args.access c.args.nodes.now.nodes in
+    let among : IsLaneAmong c.args.nodes.now.nodes some c.in-Some.lane.now.ids.items = filed_among c.args.nodes.now.nodes c.args.loc c.args.access c.in-Some.lane.now.ids.items c.rank_behind-start.ensures.graph (c.in-Some.ensures.kept ∙ c.requires.filed c.args.loc c.args.access) in
     let behind : IsRankPast c.requires.key.node.task.key some c.rank_behind-start.result = subst (λ (o : Option Node). IfSome o (λ (n : Node). IsRankPast n.task.key some c.rank_behind-start.result)) c.requires.key.there (c.rank_behind-start.ensures.rank some among) in
     subst (λ k. IsRankPast k some c.rank_behind-start.result) c.requires.key.key_is behind
 

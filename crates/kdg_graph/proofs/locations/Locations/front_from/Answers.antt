@@ -7,24 +7,19 @@ use Rattle.kdg_graph.proofs.locations.Locations.front_from.Goals as goal
 
 pub returns-then-start-len-clause-ids : goal.returns-then-start-len-clause-ids
 returns-then-start-len-clause-ids c =
-    let nodes : List Node = c.args.nodes.now.nodes in
-    let some : List Node = clashing_at c.args.loc c.args.access nodes in
-    let lane : List NodeId = c.args.lane.now.ids.items in
+    let some : List Node = clashing_at c.args.loc c.args.access c.args.nodes.now.nodes in
     let filed : lane_of c.args.self.now.locations.items c.args.loc c.args.access ≡ ids_of some = c.requires.filed c.args.loc c.args.access in
-    let rank : IsRankPast c.args.key.now some c.args.start = c.requires.rank in
     let end : c.args.start ≡ length (lane_of c.args.self.now.locations.items c.args.loc c.args.access) = omega (arith, c.if-start-len.true, c.len.ensures.len, ap length c.requires.lane) in
-    front_none c.args.key.now c.args.loc c.args.access nodes (lane_of c.args.self.now.locations.items c.args.loc c.args.access) c.args.start filed end rank
+    front_none c.args.key.now c.args.loc c.args.access c.args.nodes.now.nodes (lane_of c.args.self.now.locations.items c.args.loc c.args.access) c.args.start filed end c.requires.rank
 
 pub returns-then-all_write-clause-ids : goal.returns-then-all_write-clause-ids
 returns-then-all_write-clause-ids c =
     let nodes : List Node = c.args.nodes.now.nodes in
     let some : List Node = clashing_at c.args.loc c.args.access nodes in
-    let lane : List NodeId = c.args.lane.now.ids.items in
     let filed : lane_of c.args.self.now.locations.items c.args.loc c.args.access ≡ ids_of some = c.requires.filed c.args.loc c.args.access in
-    let rank : IsRankPast c.args.key.now some c.args.start = c.requires.rank in
     let same : length (lane_of c.args.self.now.locations.items c.args.loc c.args.access) ≡ length (lane_of c.args.self.now.locations.items c.args.loc Read) = eqb-true _ _ (sym c.all_write.ensures ∙ c.if-all_write.true) in
     let full : length some ≡ length (clashing_at c.args.loc Read nodes) = omega (arith, same, ap length filed, ap length (c.requires.filed c.args.loc Read), length-ids some, length-ids (clashing_at c.args.loc Read nodes)) in
-    front_alone c.args.key.now c.args.loc c.args.access nodes (lane_of c.args.self.now.locations.items c.args.loc c.args.access) c.args.start filed full rank
+    front_alone c.args.key.now c.args.loc c.args.access nodes (lane_of c.args.self.now.locations.items c.args.loc c.args.access) c.args.start filed full c.requires.rank
 
 pub returns-in-Some-clause-ordered : goal.returns-in-Some-clause-ordered
 returns-in-Some-clause-ordered c =
@@ -56,15 +51,12 @@ pub returns-in-None-clause-ids : goal.returns-in-None-clause-ids
 returns-in-None-clause-ids c =
     let nodes : List Node = c.args.nodes.now.nodes in
     let some : List Node = clashing_at c.args.loc c.args.access nodes in
-    let ids : List NodeId = c.args.lane.now.ids.items in
-    let are : ids ≡ ids_of some = c.requires.lane ∙ c.requires.filed c.args.loc c.args.access in
-    let rank : IsRankPast c.args.key.now some c.args.start = c.requires.rank in
+    let are : c.args.lane.now.ids.items ≡ ids_of some = c.requires.lane ∙ c.requires.filed c.args.loc c.args.access in
     let none : clashing_at c.args.loc Read (later_than c.args.key.now nodes) ≡ [] = none_first (clashing_at c.args.loc Read (later_than c.args.key.now nodes)) (sym c.in-None.ensures) in
     (λ i. take (c.len-end.ensures.len i - c.args.start) (drop c.args.start (sym c.requires.lane i)))
-    ∙ front_to_end c.args.key.now c.args.loc c.args.access nodes ids c.args.start are none rank
+    ∙ front_to_end c.args.key.now c.args.loc c.args.access nodes c.args.lane.now.ids.items c.args.start are none c.requires.rank
 
 pub rank_behind-end-requires : goal.rank_behind-end-requires
 rank_behind-end-requires c =
-    let nodes : List Node = c.args.nodes.now.nodes in
-    let first : least_of (clashing_at c.args.loc Read (later_than c.args.key.now nodes)) ≡ Some c.in-Some.writer = sym c.in-Some.ensures in
-    subst IsSome (sym (first_writer c.args.key.now c.args.loc nodes c.in-Some.writer c.len-graph.ensures.graph first).3) refl
+    let first : least_of (clashing_at c.args.loc Read (later_than c.args.key.now c.args.nodes.now.nodes)) ≡ Some c.in-Some.writer = sym c.in-Some.ensures in
+    subst IsSome (sym (first_writer c.args.key.now c.args.loc c.args.nodes.now.nodes c.in-Some.writer c.len-graph.ensures.graph first).3) refl

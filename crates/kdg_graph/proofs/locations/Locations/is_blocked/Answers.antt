@@ -10,12 +10,10 @@ is_blocked_at-requires-clause-key c =
 
 pub is_blocked_at-requires-clause-access : goal.is_blocked_at-requires-clause-access
 is_blocked_at-requires-clause-access c =
-    let nodes : List Node = c.args.nodes.now.nodes in
     let node : Node = record { id = c.node.inside.id; task = c.node.inside.task; set = c.node.inside.set; running = c.node.inside.running } in
-    let found : node_at nodes c.args.id ≡ Some node = c.entry-node.ensures ∙ ap (λ (n : Node). Some n) (sym c.node.view_is) in
-    let ps : Accesses = c.items-pair-items.result.now in
-    let p : ℕ × Access = get_or ps c.loop-pair.pair-index (0, Read) in
-    let has : Contains node.set p = subst (λ (l : Accesses). Contains l p) c.items-pair-items.ensures.all (Contains-get_or ps c.loop-pair.pair-index (0, Read) c.loop-pair-test.true) in
+    let found : node_at c.args.nodes.now.nodes c.args.id ≡ Some node = c.entry-node.ensures ∙ ap (λ (n : Node). Some n) (sym c.node.view_is) in
+    let p : ℕ × Access = get_or c.items-pair-items.result.now c.loop-pair.pair-index (0, Read) in
+    let has : Contains node.set p = subst (λ (l : Accesses). Contains l p) c.items-pair-items.ensures.all (Contains-get_or c.items-pair-items.result.now c.loop-pair.pair-index (0, Read) c.loop-pair-test.true) in
     subst (λ (o : Option Node). IfSome o (λ (n : Node). access_at n.set p.0 ≡ Some p.1)) (sym found) (access_of node.set p c.items-pair-items.ensures.ascending has)
 
 pub returns-then-is_blocked_at : goal.returns-then-is_blocked_at
@@ -24,9 +22,8 @@ returns-then-is_blocked_at c =
     let node : Node = record { id = c.node.inside.id; task = c.node.inside.task; set = c.node.inside.set; running = c.node.inside.running } in
     let found : node_at nodes c.args.id ≡ Some node = c.entry-node.ensures ∙ ap (λ (n : Node). Some n) (sym c.node.view_is) in
     let ps : Accesses = c.items-pair-items.result.now in
-    let i : ℕ = c.loop-pair.pair-index in
-    let p : ℕ × Access = get_or ps i (0, Read) in
-    let any : list_any (is_blocked_at nodes node) ps ≡ true = any_from (is_blocked_at nodes node) ps p (Contains-get_or ps i (0, Read) c.loop-pair-test.true) (sym c.is_blocked_at.ensures ∙ c.if-is_blocked_at.true) in
+    let p : ℕ × Access = get_or ps c.loop-pair.pair-index (0, Read) in
+    let any : list_any (is_blocked_at nodes node) ps ≡ true = any_from (is_blocked_at nodes node) ps p (Contains-get_or ps c.loop-pair.pair-index (0, Read) c.loop-pair-test.true) (sym c.is_blocked_at.ensures ∙ c.if-is_blocked_at.true) in
     let is : true ≡ is_blocked nodes node =
     sym (blocked_by_first c.conflict_laws.ensures.decided c.conflict_laws.ensures.mutual nodes node c.len-graph.ensures.graph.ascending c.items-pair-items.ensures.ascending ∙ ap (list_any (is_blocked_at nodes node)) (sym c.items-pair-items.ensures.all) ∙ any) in
     subst (λ (o : Option Node). IfSome o (λ (n : Node). true ≡ is_blocked nodes n)) (sym found) is
@@ -37,9 +34,8 @@ returns c =
     let node : Node = record { id = c.node.inside.id; task = c.node.inside.task; set = c.node.inside.set; running = c.node.inside.running } in
     let found : node_at nodes c.args.id ≡ Some node = c.entry-node.ensures ∙ ap (λ (n : Node). Some n) (sym c.node.view_is) in
     let ps : Accesses = c.items-pair-items.result.now in
-    let i : ℕ = c.loop-pair.pair-index in
-    let end : i ≡ length ps = omega (arith, c.loop-pair-test.false, c.loop-pair.auto.pair-index-end) in
-    let all : take i ps ≡ node.set = ap (λ n. take n ps) end ∙ take-length ps ∙ c.items-pair-items.ensures.all in
+    let end : c.loop-pair.pair-index ≡ length ps = omega (arith, c.loop-pair-test.false, c.loop-pair.auto.pair-index-end) in
+    let all : take c.loop-pair.pair-index ps ≡ node.set = ap (λ n. take n ps) end ∙ take-length ps ∙ c.items-pair-items.ensures.all in
     let is : false ≡ is_blocked nodes node =
     sym (blocked_by_first c.conflict_laws.ensures.decided c.conflict_laws.ensures.mutual nodes node c.len-graph.ensures.graph.ascending c.items-pair-items.ensures.ascending ∙ ap (list_any (is_blocked_at nodes node)) (sym all) ∙ c.loop-pair.invariant) in
     subst (λ (o : Option Node). IfSome o (λ (n : Node). false ≡ is_blocked nodes n)) (sym found) is

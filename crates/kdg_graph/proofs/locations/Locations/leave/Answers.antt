@@ -19,29 +19,25 @@ loop-pair-init c =
 
 pub index_mut-here-requires : goal.index_mut-here-requires
 index_mut-here-requires c =
-    let nodes : List Node = c.args.nodes.now.nodes in
     let node : Node = record { id = c.node.inside.id; task = c.node.inside.task; set = c.node.inside.set; running = c.node.inside.running } in
-    let found : node_at nodes c.args.id ≡ Some node = c.entry-node.ensures ∙ ap (λ (n : Node). Some n) (sym c.node.view_is) in
+    let found : node_at c.args.nodes.now.nodes c.args.id ≡ Some node = c.entry-node.ensures ∙ ap (λ (n : Node). Some n) (sym c.node.view_is) in
     let ps : Accesses = c.items-pair-items.result.now in
     let i : ℕ = c.loop-pair.pair-index in
-    let inside : i < length ps = c.loop-pair-test.true in
     let p : ℕ × Access = get_or ps i (0, Read) in
-    let at : p ≡ get_or ps i p = again ps i (0, Read) p inside in
-    let within = within_filed (without c.args.id nodes) node (access_at (drop i ps)) p c.loop-pair.self.locations.items (left_here ps i p inside at) (c.loop-pair.invariant.filed node found) in
+    let at : p ≡ get_or ps i p = again ps i (0, Read) p c.loop-pair-test.true in
+    let within = within_filed (without c.args.id c.args.nodes.now.nodes) node (access_at (drop i ps)) p c.loop-pair.self.locations.items (left_here ps i p c.loop-pair-test.true at) (c.loop-pair.invariant.filed node found) in
     search (rules, within)
 
 pub leave-requires-clause-reads : goal.leave-requires-clause-reads
 leave-requires-clause-reads c =
-    let nodes : List Node = c.args.nodes.now.nodes in
     let node : Node = record { id = c.node.inside.id; task = c.node.inside.task; set = c.node.inside.set; running = c.node.inside.running } in
-    let found : node_at nodes c.args.id ≡ Some node = c.entry-node.ensures ∙ ap (λ (n : Node). Some n) (sym c.node.view_is) in
+    let found : node_at c.args.nodes.now.nodes c.args.id ≡ Some node = c.entry-node.ensures ∙ ap (λ (n : Node). Some n) (sym c.node.view_is) in
     let ps : Accesses = c.items-pair-items.result.now in
     let i : ℕ = c.loop-pair.pair-index in
-    let inside : i < length ps = c.loop-pair-test.true in
     let p : ℕ × Access = get_or ps i (0, Read) in
-    let at : p ≡ get_or ps i p = again ps i (0, Read) p inside in
-    let within = within_filed (without c.args.id nodes) node (access_at (drop i ps)) p c.loop-pair.self.locations.items (left_here ps i p inside at) (c.loop-pair.invariant.filed node found) in
-    fewer_write (without c.args.id nodes) node (access_at (drop i ps)) p c.loop-pair.self.locations.items c.index_mut-here.result.now (left_here ps i p inside at) within c.index_mut-here.ensures.value (c.loop-pair.invariant.filed node found)
+    let at : p ≡ get_or ps i p = again ps i (0, Read) p c.loop-pair-test.true in
+    let within = within_filed (without c.args.id c.args.nodes.now.nodes) node (access_at (drop i ps)) p c.loop-pair.self.locations.items (left_here ps i p c.loop-pair-test.true at) (c.loop-pair.invariant.filed node found) in
+    fewer_write (without c.args.id c.args.nodes.now.nodes) node (access_at (drop i ps)) p c.loop-pair.self.locations.items c.index_mut-here.result.now (left_here ps i p c.loop-pair-test.true at) within c.index_mut-here.ensures.value (c.loop-pair.invariant.filed node found)
 
 pub loop-pair-preserved : goal.loop-pair-preserved
 loop-pair-preserved c =
@@ -70,20 +66,16 @@ loop-pair-preserved c =
 
 pub returns-clause-filed : goal.returns-clause-filed
 returns-clause-filed c =
-    let nodes : List Node = c.args.nodes.now.nodes in
     let node : Node = record { id = c.node.inside.id; task = c.node.inside.task; set = c.node.inside.set; running = c.node.inside.running } in
-    let found : node_at nodes c.args.id ≡ Some node = c.entry-node.ensures ∙ ap (λ (n : Node). Some n) (sym c.node.view_is) in
-    let ps : Accesses = c.items-pair-items.result.now in
-    let none : drop c.loop-pair.pair-index ps ≡ [] = drop_of_length-le ps (omega (arith, c.loop-pair-test.false)) in
-    filed_without (without c.args.id nodes) node (access_at (drop c.loop-pair.pair-index ps)) c.loop-pair.self.locations.items (λ loc. ap (λ (l : Accesses). access_at l loc) none) (c.loop-pair.invariant.filed node found)
+    let found : node_at c.args.nodes.now.nodes c.args.id ≡ Some node = c.entry-node.ensures ∙ ap (λ (n : Node). Some n) (sym c.node.view_is) in
+    let none : drop c.loop-pair.pair-index c.items-pair-items.result.now ≡ [] = drop_of_length-le c.items-pair-items.result.now (omega (arith, c.loop-pair-test.false)) in
+    filed_without (without c.args.id c.args.nodes.now.nodes) node (access_at (drop c.loop-pair.pair-index c.items-pair-items.result.now)) c.loop-pair.self.locations.items (λ loc. ap (λ (l : Accesses). access_at l loc) none) (c.loop-pair.invariant.filed node found)
 
 pub returns-clause-none_left : goal.returns-clause-none_left
 returns-clause-none_left c =
-    let nodes : List Node = c.args.nodes.now.nodes in
     let node : Node = record { id = c.node.inside.id; task = c.node.inside.task; set = c.node.inside.set; running = c.node.inside.running } in
-    let found : node_at nodes c.args.id ≡ Some node = c.entry-node.ensures ∙ ap (λ (n : Node). Some n) (sym c.node.view_is) in
-    let ps : Accesses = c.items-pair-items.result.now in
-    let end : length ps ≤ c.loop-pair.pair-index = omega (arith, c.loop-pair-test.false) in
-    let none : ℕ × Access → Type 0 = λ p. clashing_at p.0 p.1 (without c.args.id nodes) ≡ [] in
+    let found : node_at c.args.nodes.now.nodes c.args.id ≡ Some node = c.entry-node.ensures ∙ ap (λ (n : Node). Some n) (sym c.node.view_is) in
+    let end : length c.items-pair-items.result.now ≤ c.loop-pair.pair-index = omega (arith, c.loop-pair-test.false) in
+    let none : ℕ × Access → Type 0 = λ p. clashing_at p.0 p.1 (without c.args.id c.args.nodes.now.nodes) ≡ [] in
     subst (λ (o : Option Node). IfSome o (λ (n : Node). c.loop-pair.left ≡ false → AllByRecursion none n.set)) (sym found) (λ is.
-    all_from none node.set (each_pair none ps node.set c.loop-pair.pair-index c.items-pair-items.ensures.all end (c.loop-pair.invariant.none_left is)))
+    all_from none node.set (each_pair none c.items-pair-items.result.now node.set c.loop-pair.pair-index c.items-pair-items.ensures.all end (c.loop-pair.invariant.none_left is)))

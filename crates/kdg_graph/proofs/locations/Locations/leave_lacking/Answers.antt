@@ -28,38 +28,34 @@ loop-pair-preserved-then-has c =
 
 pub index_mut-requires : goal.index_mut-requires
 index_mut-requires c =
-    let nodes : List Node = c.args.nodes.now.nodes in
     let held : Node = record { id = c.node.inside.id; task = c.node.inside.task; set = c.node.inside.set; running = c.node.inside.running } in
-    let found : node_at nodes c.args.id ≡ Some held = c.entry-node.ensures ∙ ap (λ (n : Node). Some n) (sym c.node.view_is) in
+    let found : node_at c.args.nodes.now.nodes c.args.id ≡ Some held = c.entry-node.ensures ∙ ap (λ (n : Node). Some n) (sym c.node.view_is) in
     let before : Accesses = c.args.before.now in
-    let ps : Accesses = c.items-pair-items.result.now in
     let i : ℕ = c.loop-pair.pair-index in
-    let p : ℕ × Access = get_or ps i (0, Read) in
+    let p : ℕ × Access = get_or c.items-pair-items.result.now i (0, Read) in
     let inside : i < length before = subst (λ (l : Accesses). i < length l) c.items-pair-items.ensures.all c.loop-pair-test.true in
-    let at : p ≡ get_or before i p = subst (λ (l : Accesses). p ≡ get_or l i p) c.items-pair-items.ensures.all (again ps i (0, Read) p c.loop-pair-test.true) in
+    let at : p ≡ get_or before i p = subst (λ (l : Accesses). p ≡ get_or l i p) c.items-pair-items.ensures.all (again c.items-pair-items.result.now i (0, Read) p c.loop-pair-test.true) in
     let beside : access_at c.loop-pair.walk.left.now p.0 ≡ access_at held.set p.0 = c.loop-pair.invariant.beside held found i (0, Read) (omega arith) c.loop-pair-test.true in
     let lacks : is_same (Some p.1) (access_at held.set p.0) ≡ false = ap (is_same (Some p.1)) (sym beside) ∙ sym c.has.ensures.found ∙ c.if-has.false in
-    let within = within_filed (without c.args.id nodes) held (midway before held.set (drop i before)) p c.loop-pair.self.locations.items (left_had before held.set i p c.items-pair-items.ensures.ascending inside at lacks) (c.loop-pair.invariant.filed held found) in
+    let within = within_filed (without c.args.id c.args.nodes.now.nodes) held (midway before held.set (drop i before)) p c.loop-pair.self.locations.items (left_had before held.set i p c.items-pair-items.ensures.ascending inside at lacks) (c.loop-pair.invariant.filed held found) in
     search (rules, within)
 
 pub leave-requires-clause-reads : goal.leave-requires-clause-reads
 leave-requires-clause-reads c =
-    let nodes : List Node = c.args.nodes.now.nodes in
     let held : Node = record { id = c.node.inside.id; task = c.node.inside.task; set = c.node.inside.set; running = c.node.inside.running } in
-    let found : node_at nodes c.args.id ≡ Some held = c.entry-node.ensures ∙ ap (λ (n : Node). Some n) (sym c.node.view_is) in
+    let found : node_at c.args.nodes.now.nodes c.args.id ≡ Some held = c.entry-node.ensures ∙ ap (λ (n : Node). Some n) (sym c.node.view_is) in
     let before : Accesses = c.args.before.now in
-    let ps : Accesses = c.items-pair-items.result.now in
     let i : ℕ = c.loop-pair.pair-index in
-    let p : ℕ × Access = get_or ps i (0, Read) in
+    let p : ℕ × Access = get_or c.items-pair-items.result.now i (0, Read) in
     let inside : i < length before = subst (λ (l : Accesses). i < length l) c.items-pair-items.ensures.all c.loop-pair-test.true in
-    let at : p ≡ get_or before i p = subst (λ (l : Accesses). p ≡ get_or l i p) c.items-pair-items.ensures.all (again ps i (0, Read) p c.loop-pair-test.true) in
+    let at : p ≡ get_or before i p = subst (λ (l : Accesses). p ≡ get_or l i p) c.items-pair-items.ensures.all (again c.items-pair-items.result.now i (0, Read) p c.loop-pair-test.true) in
     let beside : access_at c.loop-pair.walk.left.now p.0 ≡ access_at held.set p.0 = c.loop-pair.invariant.beside held found i (0, Read) (omega arith) c.loop-pair-test.true in
     let lacks : is_same (Some p.1) (access_at held.set p.0) ≡ false = ap (is_same (Some p.1)) (sym beside) ∙ sym c.has.ensures.found ∙ c.if-has.false in
     let f : ℕ → Option Access = midway before held.set (drop i before) in
     let had = left_had before held.set i p c.items-pair-items.ensures.ascending inside at lacks in
     let filed = c.loop-pair.invariant.filed held found in
-    let within = within_filed (without c.args.id nodes) held f p c.loop-pair.self.locations.items had filed in
-    fewer_write (without c.args.id nodes) held f p c.loop-pair.self.locations.items c.index_mut.result.now had within c.index_mut.ensures.value filed
+    let within = within_filed (without c.args.id c.args.nodes.now.nodes) held f p c.loop-pair.self.locations.items had filed in
+    fewer_write (without c.args.id c.args.nodes.now.nodes) held f p c.loop-pair.self.locations.items c.index_mut.result.now had within c.index_mut.ensures.value filed
 
 pub loop-pair-preserved : goal.loop-pair-preserved
 loop-pair-preserved c =

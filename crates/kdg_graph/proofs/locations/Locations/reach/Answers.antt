@@ -9,9 +9,8 @@ no_nodes location Write named writers = named
 
 pub loop-alloc-preserved : goal.loop-alloc-preserved
 loop-alloc-preserved c =
-    let before : List Location = c.loop-alloc.self.locations.items in
-    let more : c.push.new.self.items ≡ before ++ c.new.result ∷ [] = search rules in
+    let more : c.push.new.self.items ≡ c.loop-alloc.self.locations.items ++ c.new.result ∷ [] = search rules in
     record {
-      no_less = λ loc. subst (λ (l : List Location). room_at (rooms_of c.args.self.now.locations.items) loc ≤ room_at (rooms_of l) loc) (sym more) (omega (arith, c.loop-alloc.invariant.no_less loc, room_more before c.new.result loc));
-      lanes = λ loc access. ap (λ (l : List Location). lane_of l loc access) more ∙ lane_more before c.new.result loc access (no_nodes c.new.result access c.new.ensures.named c.new.ensures.writers) ∙ c.loop-alloc.invariant.lanes loc access;
+      no_less = λ loc. subst (λ (l : List Location). room_at (rooms_of c.args.self.now.locations.items) loc ≤ room_at (rooms_of l) loc) (sym more) (omega (arith, c.loop-alloc.invariant.no_less loc, room_more c.loop-alloc.self.locations.items c.new.result loc));
+      lanes = λ loc access. ap (λ (l : List Location). lane_of l loc access) more ∙ lane_more c.loop-alloc.self.locations.items c.new.result loc access (no_nodes c.new.result access c.new.ensures.named c.new.ensures.writers) ∙ c.loop-alloc.invariant.lanes loc access;
     }

@@ -10,9 +10,8 @@ use Rattle.kdg_graph.proofs.node_list.NodeList.exchange_set.Goals as goal
 
 pub exchange-requires-clause-there : goal.exchange-requires-clause-there
 exchange-requires-clause-there c =
-    let nodes : List Node = c.self.inside.nodes.nodes in
-    let gone = found_node nodes c.args.id (subst (λ (stock : NodeStock). HasNode stock.nodes c.args.id) (sym c.self.view_is) c.requires.there) in
-    subst IsSome (sym (found_changed c.args.id gone.0 c.args.set nodes c.set_set-before.new.self.nodes c.self.invariant.0.graph c.set_set-before.ensures.graph gone.1 c.set_set-before.ensures.nodes)) refl
+    let gone = found_node c.self.inside.nodes.nodes c.args.id (subst (λ (stock : NodeStock). HasNode stock.nodes c.args.id) (sym c.self.view_is) c.requires.there) in
+    subst IsSome (sym (found_changed c.args.id gone.0 c.args.set c.self.inside.nodes.nodes c.set_set-before.new.self.nodes c.self.invariant.0.graph c.set_set-before.ensures.graph gone.1 c.set_set-before.ensures.nodes)) refl
 
 pub exchange-requires-clause-filed : goal.exchange-requires-clause-filed
 exchange-requires-clause-filed c =
@@ -21,26 +20,23 @@ exchange-requires-clause-filed c =
     let locations : List Location = c.self.inside.locations.locations.items in
     let gone = found_node nodes c.args.id (subst (λ (stock : NodeStock). HasNode stock.nodes c.args.id) (sym c.self.view_is) c.requires.there) in
     let left = without_changed c.args.id gone.0 c.args.set nodes now c.self.invariant.0.graph c.set_set-before.ensures.graph gone.1 c.set_set-before.ensures.nodes in
-    let before : Accesses = c.set_set-before.result in
-    let had : Some before ≡ Some gone.0.set = sym c.set_set-before.ensures.before ∙ ap (option_map (λ (n : Node). n.set)) gone.1 in
-    let is_before : gone.0.set ≡ before = cc in
+    let had : Some c.set_set-before.result ≡ Some gone.0.set = sym c.set_set-before.ensures.before ∙ ap (option_map (λ (n : Node). n.set)) gone.1 in
+    let is_before : gone.0.set ≡ c.set_set-before.result = cc in
     let filed : AreFiledWith (without c.args.id now) (record gone.0 { set = c.args.set }) (access_at gone.0.set) locations = filed_before nodes (without c.args.id now) c.args.id gone.0 c.args.set locations c.self.invariant.0.graph gone.1 left c.self.invariant.0.filed in
-    subst (λ (o : Option Node). IfSome o (λ (n : Node). AreFiledWith (without c.args.id now) n (access_at before) locations)) (sym (found_changed c.args.id gone.0 c.args.set nodes now c.self.invariant.0.graph c.set_set-before.ensures.graph gone.1 c.set_set-before.ensures.nodes))
+    subst (λ (o : Option Node). IfSome o (λ (n : Node). AreFiledWith (without c.args.id now) n (access_at c.set_set-before.result) locations)) (sym (found_changed c.args.id gone.0 c.args.set nodes now c.self.invariant.0.graph c.set_set-before.ensures.graph gone.1 c.set_set-before.ensures.nodes))
     (subst (λ (l : Accesses). AreFiledWith (without c.args.id now) (record gone.0 { set = c.args.set }) (access_at l) locations) is_before filed)
 
 pub exchange-requires-clause-room : goal.exchange-requires-clause-room
 exchange-requires-clause-room c =
-    let nodes : List Node = c.self.inside.nodes.nodes in
-    let gone = found_node nodes c.args.id (subst (λ (stock : NodeStock). HasNode stock.nodes c.args.id) (sym c.self.view_is) c.requires.there) in
+    let gone = found_node c.self.inside.nodes.nodes c.args.id (subst (λ (stock : NodeStock). HasNode stock.nodes c.args.id) (sym c.self.view_is) c.requires.there) in
     let rooms : List ℕ = rooms_of c.self.inside.locations.locations.items in
     let room : HasRoom 1 c.args.set rooms = subst (λ (stock : NodeStock). HasRoom 1 c.args.set stock.rooms) (sym c.self.view_is) c.requires.rooms in
-    subst (λ (o : Option Node). IfSome o (λ (n : Node). HasRoom 1 n.set rooms)) (sym (found_changed c.args.id gone.0 c.args.set nodes c.set_set-before.new.self.nodes c.self.invariant.0.graph c.set_set-before.ensures.graph gone.1 c.set_set-before.ensures.nodes)) room
+    subst (λ (o : Option Node). IfSome o (λ (n : Node). HasRoom 1 n.set rooms)) (sym (found_changed c.args.id gone.0 c.args.set c.self.inside.nodes.nodes c.set_set-before.new.self.nodes c.self.invariant.0.graph c.set_set-before.ensures.graph gone.1 c.set_set-before.ensures.nodes)) room
 
 pub entry-node-requires : goal.entry-node-requires
 entry-node-requires c =
-    let nodes : List Node = c.self.inside.nodes.nodes in
-    let gone = found_node nodes c.args.id (subst (λ (stock : NodeStock). HasNode stock.nodes c.args.id) (sym c.self.view_is) c.requires.there) in
-    subst IsSome (sym (found_changed c.args.id gone.0 c.args.set nodes c.set_set-before.new.self.nodes c.self.invariant.0.graph c.set_set-before.ensures.graph gone.1 c.set_set-before.ensures.nodes)) refl
+    let gone = found_node c.self.inside.nodes.nodes c.args.id (subst (λ (stock : NodeStock). HasNode stock.nodes c.args.id) (sym c.self.view_is) c.requires.there) in
+    subst IsSome (sym (found_changed c.args.id gone.0 c.args.set c.self.inside.nodes.nodes c.set_set-before.new.self.nodes c.self.invariant.0.graph c.set_set-before.ensures.graph gone.1 c.set_set-before.ensures.nodes)) refl
 
 pub refresh-requires-clause-some : goal.refresh-requires-clause-some
 refresh-requires-clause-some c = some_changed (record { node = c.args.id; set = c.args.set } ∷ []) c.self.inside.nodes.nodes c.set_set-before.new.self.nodes c.forget.new.self c.set_set-before.ensures.nodes c.forget.ensures.some

@@ -15,21 +15,19 @@ enter-known-requires-clause-room c =
 
 pub enter-known-requires-clause-filed : goal.enter-known-requires-clause-filed
 enter-known-requires-clause-filed c =
-    let nodes : List Node = c.self.inside.nodes.nodes in
     let node : Node = new_node c.put-id.result c.args.task c.args.set in
-    let left : without c.put-id.result c.put-id.new.self.nodes ≡ nodes = ap (without c.put-id.result) c.put-id.ensures.nodes ∙ without_put node nodes (subst HaveOwnIds c.put-id.ensures.nodes c.put-id.ensures.graph.own_ids) in
+    let left : without c.put-id.result c.put-id.new.self.nodes ≡ c.self.inside.nodes.nodes = ap (without c.put-id.result) c.put-id.ensures.nodes ∙ without_put node c.self.inside.nodes.nodes (subst HaveOwnIds c.put-id.ensures.nodes c.put-id.ensures.graph.own_ids) in
     subst (λ (l : List Node). AreFiled l c.self.inside.locations.locations.items) (sym left) c.self.invariant.0.filed
 
 pub enter-requires-clause-some : goal.enter-requires-clause-some
 enter-requires-clause-some c =
-    let nodes : List Node = c.self.inside.nodes.nodes in
     let node : Node = new_node c.put-id.result c.args.task c.args.set in
-    let long = ap length c.put-id.ensures.nodes ∙ length-put node nodes in
+    let long = ap length c.put-id.ensures.nodes ∙ length-put node c.self.inside.nodes.nodes in
     let some : 0 < c.self.inside.spare = omega (arith, c.requires.room, ap (λ (stock : NodeStock). stock.room) c.self.view_is) in
     let keys : c.self.inside.nodes.keys ≤ length c.self.inside.sources.standings = c.self.invariant.2.marks some in
     let fits : length c.put-id.new.self.nodes ≤ c.self.inside.sources.room = omega (arith, long, some, c.self.invariant.2.room) in
     let inside : c.put-id.result.at < length c.self.inside.sources.standings = omega (arith, keys, c.put-id.ensures.key, c.put-id.ensures.keys) in
-    some_put node nodes c.put-id.new.self.nodes c.self.inside.sources c.put-id.ensures.graph c.put-id.ensures.nodes fits inside c.self.invariant.0.some
+    some_put node c.self.inside.nodes.nodes c.put-id.new.self.nodes c.self.inside.sources c.put-id.ensures.graph c.put-id.ensures.nodes fits inside c.self.invariant.0.some
 
 pub invariant_of-self : goal.invariant_of-self
 invariant_of-self c =
@@ -70,9 +68,8 @@ invariant_of-self c =
 
 pub enter_order-requires-clause-others : goal.enter_order-requires-clause-others
 enter_order-requires-clause-others c =
-    let nodes : List Node = c.self.inside.nodes.nodes in
     let node : Node = new_node c.put-id.result c.args.task c.args.set in
-    let left : without c.put-id.result c.put-id.new.self.nodes ≡ nodes = ap (without c.put-id.result) c.put-id.ensures.nodes ∙ without_put node nodes (subst HaveOwnIds c.put-id.ensures.nodes c.put-id.ensures.graph.own_ids) in
+    let left : without c.put-id.result c.put-id.new.self.nodes ≡ c.self.inside.nodes.nodes = ap (without c.put-id.result) c.put-id.ensures.nodes ∙ without_put node c.self.inside.nodes.nodes (subst HaveOwnIds c.put-id.ensures.nodes c.put-id.ensures.graph.own_ids) in
     subst (λ (l : List Node). IsOrder l c.self.inside.order) (sym left) c.self.invariant.1
 
 pub enter_order-requires-clause-room : goal.enter_order-requires-clause-room

@@ -18,19 +18,17 @@ refresh_behind-requires-clause-first c listed =
 
 pub refresh_behind-requires-clause-none_left : goal.refresh_behind-requires-clause-none_left
 refresh_behind-requires-clause-none_left c none =
-    let nodes : List Node = c.self.inside.nodes.nodes in
     let node : Node = record { id = c.node.inside.id; task = c.node.inside.task; set = c.node.inside.set; running = c.node.inside.running } in
-    let is : node_at nodes c.args.id ≡ Some node = c.remove-node.ensures.node ∙ ap (λ (n : Node). Some n) (sym c.node.view_is) in
+    let is : node_at c.self.inside.nodes.nodes c.args.id ≡ Some node = c.remove-node.ensures.node ∙ ap (λ (n : Node). Some n) (sym c.node.view_is) in
     let alone : List Node → Node → Type 0 = λ l n. AllByRecursion (λ (p : ℕ × Access). clashing_at p.0 p.1 l ≡ []) n.set in
-    subst (λ (l : List Node). alone l node) (sym c.remove-node.ensures.nodes) (at_some (λ (n : Node). c.leave-left.result ≡ false → alone (without c.args.id nodes) n) (node_at nodes c.args.id) node is c.leave-left.ensures.none_left none)
+    subst (λ (l : List Node). alone l node) (sym c.remove-node.ensures.nodes) (at_some (λ (n : Node). c.leave-left.result ≡ false → alone (without c.args.id c.self.inside.nodes.nodes) n) (node_at c.self.inside.nodes.nodes c.args.id) node is c.leave-left.ensures.none_left none)
 
 pub refresh_behind-requires-clause-filed : goal.refresh_behind-requires-clause-filed
 refresh_behind-requires-clause-filed c = subst (λ (l : List Node). AreFiled l c.leave-left.new.self.locations.items) (sym c.remove-node.ensures.nodes) c.leave-left.ensures.filed
 
 pub refresh_behind-requires-clause-some : goal.refresh_behind-requires-clause-some
 refresh_behind-requires-clause-some c =
-    let nodes : List Node = c.self.inside.nodes.nodes in
-    some_without c.args.id c.remove-node.result nodes c.remove-node.new.self.nodes (is_unblocked nodes) c.forget.new.self c.self.invariant.0.graph c.remove-node.ensures.node c.remove-node.ensures.nodes (c.forget.ensures.ids (is_unblocked nodes) c.self.invariant.0.unblocked_are) c.forget.ensures.some
+    some_without c.args.id c.remove-node.result c.self.inside.nodes.nodes c.remove-node.new.self.nodes (is_unblocked c.self.inside.nodes.nodes) c.forget.new.self c.self.invariant.0.graph c.remove-node.ensures.node c.remove-node.ensures.nodes (c.forget.ensures.ids (is_unblocked c.self.inside.nodes.nodes) c.self.invariant.0.unblocked_are) c.forget.ensures.some
 
 pub invariant_of-self : goal.invariant_of-self
 invariant_of-self c =

@@ -14,7 +14,6 @@ loop-change-preserved c =
     let own : AreOfOwnNodes (change ∷ rest) = subst AreOfOwnNodes steps at.invariant.own in
     let room : AllByRecursion (λ (x : SetChange). HasRoom (length (change ∷ rest)) x.set at.self.rooms) (change ∷ rest) = subst (λ (l : List SetChange). AllByRecursion (λ (x : SetChange). HasRoom (length l) x.set at.self.rooms) l) steps at.invariant.rooms in
     let was = at.invariant.len in
-    let gone = c.in-Some.ensures.steps.1 in
     let short = ap length steps in
     record {
       len = omega arith;
@@ -30,17 +29,15 @@ loop-change-preserved c =
 pub returns-clause-nodes : goal.returns-clause-nodes
 returns-clause-nodes c =
     let at = c.loop-change in
-    let none = c.in-None.ensures.steps in
-    let empty : into_iter_items at.change-iterator ≡ [] = nothing_left _ (sym at.invariant.len ∙ none.0) in
+    let empty : into_iter_items at.change-iterator ≡ [] = nothing_left _ (sym at.invariant.len ∙ c.in-None.ensures.steps.0) in
     sym (ap (λ l. with_sets l c.args.self.now.nodes) (sym c.into_iter-change-iterator.ensures.into_iter_gives.0) ∙ at.invariant.nodes ∙ ap (λ l. with_sets l at.self.nodes) empty ∙ with_no_sets at.self.nodes)
 
 pub set_set-requires-clause-rooms : goal.set_set-requires-clause-rooms
 set_set-requires-clause-rooms c =
     let at = c.loop-change in
-    let change : SetChange = c.in-Some.change in
     let rest : List SetChange = into_iter_items c.next.new.self in
-    let room : AllByRecursion (λ (x : SetChange). HasRoom (length (change ∷ rest)) x.set at.self.rooms) (change ∷ rest) = subst (λ (l : List SetChange). AllByRecursion (λ (x : SetChange). HasRoom (length l) x.set at.self.rooms) l) c.in-Some.ensures.steps.0 at.invariant.rooms in
-    first_room (length rest) change.set at.self.rooms room.0
+    let room : AllByRecursion (λ (x : SetChange). HasRoom (length (c.in-Some.change ∷ rest)) x.set at.self.rooms) (c.in-Some.change ∷ rest) = subst (λ (l : List SetChange). AllByRecursion (λ (x : SetChange). HasRoom (length l) x.set at.self.rooms) l) c.in-Some.ensures.steps.0 at.invariant.rooms in
+    first_room (length rest) c.in-Some.change.set at.self.rooms room.0
 
 pub returns-clause-rooms : goal.returns-clause-rooms
 returns-clause-rooms c loc =

@@ -8,17 +8,15 @@ index_mut-named-requires c = key_of c.self.inside.slots c.args.id c.self.invaria
 
 pub invariant_of-self : goal.invariant_of-self
 invariant_of-self c =
-    let slots = c.self.inside.slots in
     let node : Node = record { id = c.named.inside.id; task = c.named.inside.task; set = c.named.inside.set; running = c.named.inside.running } in
-    let found : get slots c.args.id.at ≡ Some node = c.index_mut-named.ensures.value ∙ ap (λ (n : Node). Some n) (sym c.named.view_is) in
-    (started_stored slots c.args.id node c.self.invariant found).0
+    let found : get c.self.inside.slots c.args.id.at ≡ Some node = c.index_mut-named.ensures.value ∙ ap (λ (n : Node). Some n) (sym c.named.view_is) in
+    (started_stored c.self.inside.slots c.args.id node c.self.invariant found).0
 
 pub returns-clause-nodes : goal.returns-clause-nodes
 returns-clause-nodes c =
-    let slots = c.self.inside.slots in
     let node : Node = record { id = c.named.inside.id; task = c.named.inside.task; set = c.named.inside.set; running = c.named.inside.running } in
-    let found : get slots c.args.id.at ≡ Some node = c.index_mut-named.ensures.value ∙ ap (λ (n : Node). Some n) (sym c.named.view_is) in
-    (started_stored slots c.args.id node c.self.invariant found).1 ∙ ap (λ (shelf : NodeShelf). started c.args.id shelf.nodes) c.self.view_is
+    let found : get c.self.inside.slots c.args.id.at ≡ Some node = c.index_mut-named.ensures.value ∙ ap (λ (n : Node). Some n) (sym c.named.view_is) in
+    (started_stored c.self.inside.slots c.args.id node c.self.invariant found).1 ∙ ap (λ (shelf : NodeShelf). started c.args.id shelf.nodes) c.self.view_is
 
 pub returns-clause-graph : goal.returns-clause-graph
 returns-clause-graph c = (invariant_of-self c).graph

@@ -1,5 +1,5 @@
-use Rattle.std.proofs.Common.{◌≡◌, ◌∙◌, List, Ok, Option, Some, ap, subst, sym, IfSome}
-use Rattle.kdg_graph.proofs.Common.{NodeId, IsSearched, IsLaneAmong, Node, node_at, NodeShelf}
+use Rattle.std.proofs.Common.{◌≡◌, ◌∙◌, Ok, Option, Some, ap, subst, sym, IfSome}
+use Rattle.kdg_graph.proofs.Common.{IsSearched, IsLaneAmong, Node, node_at, NodeShelf}
 use Rattle.kdg_graph.proofs.Lanes.{lane_of_among}
 use Rattle.kdg_graph.proofs.Searches.{found_at_id, inside_at}
 use Rattle.kdg_graph.proofs.Selecting.{found_node}
@@ -7,10 +7,8 @@ use Rattle.kdg_graph.proofs.ordered_nodes.OrderedNodes.place_among.Goals as goal
 
 pub returns-in-Some-clause-found : goal.returns-in-Some-clause-found
 returns-in-Some-clause-found c some among =
-    let nodes : List Node = c.args.self.now.nodes in
-    let ids : List NodeId = c.args.lane.now.ids.items in
-    let held = found_node nodes c.args.id c.requires in
-    subst (λ (o : Option Node). IfSome o (λ (n : Node). IsSearched n.task.key some (Ok c.in-Some.place))) (sym held.1) (found_at_id nodes some ids c.args.id held.0 c.in-Some.place c.len-graph.ensures.graph among held.1 c.in-Some.ensures)
+    let held = found_node c.args.self.now.nodes c.args.id c.requires in
+    subst (λ (o : Option Node). IfSome o (λ (n : Node). IsSearched n.task.key some (Ok c.in-Some.place))) (sym held.1) (found_at_id c.args.self.now.nodes some c.args.lane.now.ids.items c.args.id held.0 c.in-Some.place c.len-graph.ensures.graph among held.1 c.in-Some.ensures)
 
 pub returns-in-Some-clause-inside : goal.returns-in-Some-clause-inside
 returns-in-Some-clause-inside c = inside_at c.args.lane.now.ids.items c.in-Some.place c.args.id c.in-Some.ensures

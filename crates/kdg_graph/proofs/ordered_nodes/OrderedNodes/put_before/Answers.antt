@@ -10,10 +10,9 @@ use Rattle.kdg_graph.proofs.ordered_nodes.OrderedNodes.put_before.Goals as goal
 
 known : (c : goal.After-behind-self) → AreLater c.args.self.now.nodes c.behind-self.inside.task.key c.args.lane.now.ids.items c.args.end
 known c =
-    let nodes : List Node = c.args.self.now.nodes in
     let node : Node = record { id = c.behind-self.inside.id; task = c.behind-self.inside.task; set = c.behind-self.inside.set; running = c.behind-self.inside.running } in
-    let found : node_at nodes c.args.id ≡ Some node = c.entry.ensures ∙ ap (λ (n : Node). Some n) (sym c.behind-self.view_is) in
-    at_some (λ (n : Node). AreLater nodes n.task.key c.args.lane.now.ids.items c.args.end) (node_at nodes c.args.id) node found c.requires.known
+    let found : node_at c.args.self.now.nodes c.args.id ≡ Some node = c.entry.ensures ∙ ap (λ (n : Node). Some n) (sym c.behind-self.view_is) in
+    at_some (λ (n : Node). AreLater c.args.self.now.nodes n.task.key c.args.lane.now.ids.items c.args.end) (node_at c.args.self.now.nodes c.args.id) node found c.requires.known
 
 pub rank_until-place-requires-clause-inside : goal.rank_until-place-requires-clause-inside
 rank_until-place-requires-clause-inside c = (known c).inside
@@ -49,11 +48,9 @@ returns-clause-ids c some among =
 
 pub returns-clause-place : goal.returns-clause-place
 returns-clause-place c =
-    let ids : List NodeId = c.args.lane.now.ids.items in
-    let now : List NodeId = c.insert.new.self.ids.items in
     let place : ℕ = c.if-end-eq0.place in
-    let inside : place ≤ length ids = elim c.if-end-eq0.branch [
+    let inside : place ≤ length c.args.lane.now.ids.items = elim c.if-end-eq0.branch [
       | then-end-eq0 w ↦ omega (arith, w.place-is)
       | else-end-eq0 w ↦ omega (arith, w.place-is, w.rank_until-place.ensures.inside)
     ] in
-    slice_get_read now (length now) place c.args.id refl (omega (arith, inside, c.insert.ensures.len)) (sym (ap (λ (l : List NodeId). get_or l place c.args.id) c.insert.ensures.ids ∙ get_or-insert_at ids place c.args.id c.args.id inside))
+    slice_get_read c.insert.new.self.ids.items (length c.insert.new.self.ids.items) place c.args.id refl (omega (arith, inside, c.insert.ensures.len)) (sym (ap (λ (l : List NodeId). get_or l place c.args.id) c.insert.ensures.ids ∙ get_or-insert_at c.args.lane.now.ids.items place c.args.id c.args.id inside))

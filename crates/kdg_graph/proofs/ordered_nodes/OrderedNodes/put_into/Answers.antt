@@ -1,4 +1,4 @@
-use Rattle.std.proofs.Common.{◌≡◌, ◌∙◌, List, [], ◌∷◌, Option, ap, arith, subst, sym, IfSome, insert}
+use Rattle.std.proofs.Common.{◌≡◌, ◌∙◌, [], ◌∷◌, Option, ap, arith, subst, sym, IfSome, insert}
 use Rattle.kdg_graph.proofs.Common.{nil_from_length, NodeId, Node, ids_of, put_node}
 use Rattle.kdg_graph.proofs.Filing.{no_ids}
 use Rattle.kdg_graph.proofs.LookUps.{ids_find_nodes}
@@ -7,12 +7,10 @@ use Rattle.kdg_graph.proofs.ordered_nodes.OrderedNodes.put_into.Goals as goal
 
 pub returns-then-len-eq0-clause-ids : goal.returns-then-len-eq0-clause-ids
 returns-then-len-eq0-clause-ids c some among =
-    let nodes : List Node = c.args.self.now.nodes in
-    let ids : List NodeId = c.args.lane.now.ids.items in
-    let held = found_node nodes c.args.id c.requires.there in
+    let held = found_node c.args.self.now.nodes c.args.id c.requires.there in
     let node : Node = held.0 in
-    let no_id : ids ≡ [] = nil_from_length ids (omega (arith, c.len.ensures.len, c.if-len-eq0.true)) in
+    let no_id : c.args.lane.now.ids.items ≡ [] = nil_from_length c.args.lane.now.ids.items (omega (arith, c.len.ensures.len, c.if-len-eq0.true)) in
     let none : some ≡ [] = no_ids some (sym among.ids_are ∙ no_id) in
-    let is : node.id ≡ c.args.id = (ids_find_nodes nodes c.args.id node held.1).1 in
+    let is : node.id ≡ c.args.id = (ids_find_nodes c.args.self.now.nodes c.args.id node held.1).1 in
     subst (λ (o : Option Node). IfSome o (λ (n : Node). c.insert.new.self.ids.items ≡ ids_of (put_node n some))) (sym held.1)
     (c.insert.ensures.ids ∙ ap (λ l. insert l 0 c.args.id) no_id ∙ ap (λ (id : NodeId). id ∷ []) (sym is) ∙ ap (λ l. ids_of (put_node node l)) (sym none))

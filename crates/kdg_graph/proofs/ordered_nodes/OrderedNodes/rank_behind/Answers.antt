@@ -1,4 +1,4 @@
-use Rattle.std.proofs.Common.{◌≡◌, ◌+◌, ◌<◌, ◌∙◌, add-one, arith, length, List, Option, Some, ap, subst, sym, IfSome}
+use Rattle.std.proofs.Common.{◌≡◌, ◌+◌, ◌<◌, ◌∙◌, add-one, arith, length, Option, Some, ap, subst, sym, IfSome}
 use Rattle.kdg_graph.proofs.Common.{IsRankPast, IsLaneAmong, Node, node_at, NodeShelf}
 use Rattle.kdg_graph.proofs.Lanes.{lane_of_among}
 use Rattle.kdg_graph.proofs.Searches.{found_at_id, inside_at, past_found}
@@ -12,9 +12,8 @@ overflow_add-result c =
 
 pub returns-in-Some-clause-rank : goal.returns-in-Some-clause-rank
 returns-in-Some-clause-rank c some among =
-    let nodes : List Node = c.args.self.now.nodes in
-    let held = found_node nodes c.args.id c.requires in
-    let found = found_at_id nodes some c.args.lane.now.ids.items c.args.id held.0 c.in-Some.place c.len-graph.ensures.graph among held.1 c.in-Some.ensures in
+    let held = found_node c.args.self.now.nodes c.args.id c.requires in
+    let found = found_at_id c.args.self.now.nodes some c.args.lane.now.ids.items c.args.id held.0 c.in-Some.place c.len-graph.ensures.graph among held.1 c.in-Some.ensures in
     subst (λ (o : Option Node). IfSome o (λ (n : Node). IsRankPast n.task.key some (c.in-Some.place + 1))) (sym held.1) (rw add-one (past_found held.0.task.key some c.in-Some.place among.ascending found))
 
 pub returns-in-Some-clause-inside : goal.returns-in-Some-clause-inside

@@ -14,16 +14,13 @@ arrivals_of some = some.arrivals
 
 pub loop-arrival-init : goal.loop-arrival-init
 loop-arrival-init c =
-    let nodes : List Node = c.args.nodes.now.nodes in
-    c.requires.settled ∙ ap (λ (ids : List NodeId). least_of (filter (is_left nodes ids c.args.last) nodes)) (sym (append-nil (settled_in c.args.self.now)))
+    c.requires.settled ∙ ap (λ (ids : List NodeId). least_of (filter (is_left c.args.nodes.now.nodes ids c.args.last) c.args.nodes.now.nodes)) (sym (append-nil (settled_in c.args.self.now)))
 
 pub loop-arrival-preserved-then-not-is_waiting : goal.loop-arrival-preserved-then-not-is_waiting
 loop-arrival-preserved-then-not-is_waiting c =
-    let nodes : List Node = c.args.nodes.now.nodes in
-    let items : List Arrival = c.deref-arrival-items.result.now in
-    let other : is_recent (get_or c.args.self.now.standings (get_or items c.loop-arrival.arrival-index blank).id.at Absent) ≡ false = sym c.is_waiting.ensures ∙ c.if-not-is_waiting.true in
+    let other : is_recent (get_or c.args.self.now.standings (get_or c.deref-arrival-items.result.now c.loop-arrival.arrival-index blank).id.at Absent) ≡ false = sym c.is_waiting.ensures ∙ c.if-not-is_waiting.true in
     c.loop-arrival.invariant
-    ∙ ap (λ (recent : List Arrival). least_of (filter (is_left nodes (settled_in c.args.self.now ++ arrived recent) c.args.last) nodes)) (sym (arrived_no_more c.args.self.now.standings items c.loop-arrival.arrival-index blank c.loop-arrival-test.true other))
+    ∙ ap (λ (recent : List Arrival). least_of (filter (is_left c.args.nodes.now.nodes (settled_in c.args.self.now ++ arrived recent) c.args.last) c.args.nodes.now.nodes)) (sym (arrived_no_more c.args.self.now.standings c.deref-arrival-items.result.now c.loop-arrival.arrival-index blank c.loop-arrival-test.true other))
 
 pub is_behind-requires-clause-there : goal.is_behind-requires-clause-there
 is_behind-requires-clause-there c =
@@ -31,8 +28,7 @@ is_behind-requires-clause-there c =
 
 pub earlier-first-requires-clause-one : goal.earlier-first-requires-clause-one
 earlier-first-requires-clause-one c =
-    let nodes : List Node = c.args.nodes.now.nodes in
-    least_there nodes (is_left nodes (settled_in c.args.self.now ++ arrived (recent_among c.args.self.now.standings (take c.loop-arrival.arrival-index c.deref-arrival-items.result.now))) c.args.last) c.loop-arrival.first c.requires.graph c.loop-arrival.invariant
+    least_there c.args.nodes.now.nodes (is_left c.args.nodes.now.nodes (settled_in c.args.self.now ++ arrived (recent_among c.args.self.now.standings (take c.loop-arrival.arrival-index c.deref-arrival-items.result.now))) c.args.last) c.loop-arrival.first c.requires.graph c.loop-arrival.invariant
 
 pub earlier-first-requires-clause-other : goal.earlier-first-requires-clause-other
 earlier-first-requires-clause-other c =
@@ -61,8 +57,6 @@ loop-arrival-preserved c =
 
 pub returns : goal.returns
 returns c =
-    let nodes : List Node = c.args.nodes.now.nodes in
-    let items : List Arrival = c.deref-arrival-items.result.now in
     c.loop-arrival.invariant
-    ∙ ap (λ (arrivals : List Arrival). least_of (filter (is_left nodes (settled_in c.args.self.now ++ arrived (recent_among c.args.self.now.standings arrivals)) c.args.last) nodes))
-    (take_all c.loop-arrival.arrival-index items (omega (arith, c.loop-arrival-test.false)) ∙ c.deref-arrival-items.ensures.value ∙ ap arrivals_of c.self.view_is)
+    ∙ ap (λ (arrivals : List Arrival). least_of (filter (is_left c.args.nodes.now.nodes (settled_in c.args.self.now ++ arrived (recent_among c.args.self.now.standings arrivals)) c.args.last) c.args.nodes.now.nodes))
+    (take_all c.loop-arrival.arrival-index c.deref-arrival-items.result.now (omega (arith, c.loop-arrival-test.false)) ∙ c.deref-arrival-items.ensures.value ∙ ap arrivals_of c.self.view_is)

@@ -5,9 +5,8 @@ use Rattle.kdg_graph.proofs.source_lane.SourceLane.forget_front.Goals as goal
 
 pub loop-place-init : goal.loop-place-init
 loop-place-init c =
-    let start : ℕ = c.front_behind-behind.result.start in
-    let none : start - start ≡ 0 = omega arith in
-    subst (λ (n : ℕ). AreForgotten c.args.nodes.now.nodes (take n (drop start (lane_of c.args.locations.now.locations.items c.args.loc c.args.access))) c.args.self.now c.args.self.now) (sym none) (retested_none (λ _. false) c.args.nodes.now.nodes c.args.self.now c.requires.some)
+    let none : c.front_behind-behind.result.start - c.front_behind-behind.result.start ≡ 0 = omega arith in
+    subst (λ (n : ℕ). AreForgotten c.args.nodes.now.nodes (take n (drop c.front_behind-behind.result.start (lane_of c.args.locations.now.locations.items c.args.loc c.args.access))) c.args.self.now c.args.self.now) (sym none) (retested_none (λ _. false) c.args.nodes.now.nodes c.args.self.now c.requires.some)
 
 pub forget-requires-clause-there : goal.forget-requires-clause-there
 forget-requires-clause-there c =
@@ -24,6 +23,5 @@ loop-place-preserved c =
 pub returns : goal.returns
 returns c =
     let lane : List NodeId = lane_of c.args.locations.now.locations.items c.args.loc c.args.access in
-    let start : ℕ = c.front_behind-behind.result.start in
     let at_end : c.loop-place.place ≡ c.front_behind-behind.result.end = omega (arith, c.loop-place-test.false, c.loop-place.auto.place-end c.front_behind-behind.ensures.ordered) in
-    subst (λ (asked : List NodeId). AreForgotten c.args.nodes.now.nodes asked c.args.self.now c.loop-place.self) (ap (λ (n : ℕ). take (n - start) (drop start lane)) at_end ∙ c.front_behind-behind.ensures.ids) c.loop-place.invariant
+    subst (λ (asked : List NodeId). AreForgotten c.args.nodes.now.nodes asked c.args.self.now c.loop-place.self) (ap (λ (n : ℕ). take (n - c.front_behind-behind.result.start) (drop c.front_behind-behind.result.start lane)) at_end ∙ c.front_behind-behind.ensures.ids) c.loop-place.invariant

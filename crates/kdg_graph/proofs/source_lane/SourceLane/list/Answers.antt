@@ -1,5 +1,5 @@
 use Rattle.std.proofs.Common.{◌≡◌, ◌∙◌, ◌∷◌, [], ◌++◌, ◌<◌, Bool, true, false, cond, List, ap, length, get_or, set, subst, sym, refl, arith}
-use Rattle.kdg_graph.proofs.Common.{Absent, AreMarked, AreRetested, AreSome, Arrival, MarkedIds, Node, NodeId, Recent, Standing, has_number, ids_in, is_settled, recent_among, settled_among}
+use Rattle.kdg_graph.proofs.Common.{Absent, AreMarked, AreRetested, AreSome, Arrival, MarkedIds, Node, Recent, Standing, has_number, ids_in, is_settled, recent_among, settled_among}
 use Rattle.kdg_graph.proofs.Listed.{has_mark, selected_set, set_as_it_is}
 use Rattle.kdg_graph.proofs.Marks.{marked_waiting, settled_stays, waits}
 use Rattle.kdg_graph.proofs.Settling.{neither}
@@ -25,9 +25,8 @@ returns-then-is_listed c =
 
 pub index_mut-requires : goal.index_mut-requires
 index_mut-requires c =
-    let nodes : List Node = c.args.nodes.now.nodes in
-    let some = subst (AreSome nodes) (sym c.self.view_is) c.requires.some in
-    omega (arith, c.self.inside.standings.ok.0, has_mark nodes c.args.id (length c.self.inside.standings.items) c.requires.there some.marks)
+    let some = subst (AreSome c.args.nodes.now.nodes) (sym c.self.view_is) c.requires.some in
+    omega (arith, c.self.inside.standings.ok.0, has_mark c.args.nodes.now.nodes c.args.id (length c.self.inside.standings.items) c.requires.there some.marks)
 
 pushed : (c : goal.After-self-1) → c.push.new.self.items ≡ c.self.inside.arrivals.items ++ c.new-arrival.result ∷ []
 pushed c = pushed_as_told _ _ _ _ _ true c.push.ensures.items c.is_ok.ensures.value c.if-is_ok.true
@@ -37,14 +36,12 @@ absent c = ap (λ (m : MarkedIds). is_settled (get_or m.standings c.args.id.at A
 
 pub invariant_of-self : goal.invariant_of-self
 invariant_of-self c =
-    let nodes : List Node = c.args.nodes.now.nodes in
-    let entries : List NodeId = c.self.inside.settled.ids.items in
     let standings : List Standing = c.self.inside.standings.items in
     let now : List Standing = set standings c.args.id.at Recent in
-    let some = subst (AreSome nodes) (sym c.self.view_is) c.requires.some in
-    let inside : c.args.id.at < length standings = has_mark nodes c.args.id (length standings) c.requires.there some.marks in (
-      subst (λ (l : List Arrival). AreMarked (settled_among now entries) (recent_among now l) now) (sym (pushed c)) (marked_waiting standings entries c.self.inside.arrivals.items c.new-arrival.result c.args.id c.self.invariant.0 inside c.new-arrival.ensures (absent c)),
-      omega (arith, c.self.invariant.1, ap length (settled_stays standings entries c.args.id Recent inside refl (absent c))),
+    let some = subst (AreSome c.args.nodes.now.nodes) (sym c.self.view_is) c.requires.some in
+    let inside : c.args.id.at < length standings = has_mark c.args.nodes.now.nodes c.args.id (length standings) c.requires.there some.marks in (
+      subst (λ (l : List Arrival). AreMarked (settled_among now c.self.inside.settled.ids.items) (recent_among now l) now) (sym (pushed c)) (marked_waiting standings c.self.inside.settled.ids.items c.self.inside.arrivals.items c.new-arrival.result c.args.id c.self.invariant.0 inside c.new-arrival.ensures (absent c)),
+      omega (arith, c.self.invariant.1, ap length (settled_stays standings c.self.inside.settled.ids.items c.args.id Recent inside refl (absent c))),
     )
 
 pub returns-then-is_ok : goal.returns-then-is_ok

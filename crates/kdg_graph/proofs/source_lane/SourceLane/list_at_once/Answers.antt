@@ -16,23 +16,21 @@ put_into-requires-clause-room c =
 
 pub index_mut-requires : goal.index_mut-requires
 index_mut-requires c =
-    let nodes : List Node = c.args.nodes.now.nodes in
-    let some = subst (AreSome nodes) (sym c.self.view_is) c.settle.ensures.some in
-    omega (arith, c.self.inside.standings.ok.0, has_mark nodes c.args.id (length c.self.inside.standings.items) c.requires.there some.marks)
+    let some = subst (AreSome c.args.nodes.now.nodes) (sym c.self.view_is) c.settle.ensures.some in
+    omega (arith, c.self.inside.standings.ok.0, has_mark c.args.nodes.now.nodes c.args.id (length c.self.inside.standings.items) c.requires.there some.marks)
 
 pub invariant_of-self : goal.invariant_of-self
 invariant_of-self c =
-    let nodes : List Node = c.args.nodes.now.nodes in
     let entries : List NodeId = c.self.inside.settled.ids.items in
     let ids : List NodeId = c.put_into.new.lane.ids.items in
     let standings : List Standing = c.self.inside.standings.items in
     let now : List Standing = set standings c.args.id.at Settled in
-    let some = subst (AreSome nodes) (sym c.self.view_is) c.settle.ensures.some in
+    let some = subst (AreSome c.args.nodes.now.nodes) (sym c.self.view_is) c.settle.ensures.some in
     let all : settled_among standings entries ≡ entries = subst (λ (m : MarkedIds). settled_in m ≡ m.entries) (sym c.self.view_is) c.settle.ensures.none_gone in
     let none : c.self.inside.arrivals.items ≡ [] = ap (λ (m : MarkedIds). m.arrivals) c.self.view_is ∙ c.settle.ensures.none_came in
-    let inside : c.args.id.at < length standings = has_mark nodes c.args.id (length standings) c.requires.there some.marks in
+    let inside : c.args.id.at < length standings = has_mark c.args.nodes.now.nodes c.args.id (length standings) c.requires.there some.marks in
     let marked : AreMarked (settled_among standings entries) [] standings = subst (λ (l : List Arrival). AreMarked (settled_among standings entries) (recent_among standings l) standings) none c.self.invariant.0 in
-    let told : AreMarked ids [] now = marked_placed nodes standings entries ids c.args.id c.requires.graph c.requires.there inside marked all some.in_order c.put_into.ensures.ids in
+    let told : AreMarked ids [] now = marked_placed c.args.nodes.now.nodes standings entries ids c.args.id c.requires.graph c.requires.there inside marked all some.in_order c.put_into.ensures.ids in
     let few : HasFewGone now ids c.self.inside.gone = omega (arith, ap length (all_settled now ids told.are_settled)) in
     let kept : AreMarked (settled_among now ids) (recent_among now c.self.inside.arrivals.items) now = subst (λ (l : List Arrival). AreMarked (settled_among now ids) (recent_among now l) now) (sym none) (as_marked ids now told) in
     (kept, few)
@@ -45,7 +43,6 @@ returns c =
     let ids : List NodeId = c.put_into.new.lane.ids.items in
     let standings : List Standing = c.self.inside.standings.items in
     let room : ℕ = c.self.inside.settled.ids.capacity in
-    let more : ℕ = c.put_into.new.lane.ids.capacity in
     let none : c.self.inside.arrivals.items ≡ [] = ap (λ (m : MarkedIds). m.arrivals) c.self.view_is ∙ c.settle.ensures.none_came in
     let some = subst (AreSome nodes) (sym c.self.view_is) c.settle.ensures.some in
     let alone : AreSome nodes (record { entries = entries; arrivals = []; standings = standings; room = room }) = subst (λ (l : List Arrival). AreSome nodes (record { entries = entries; arrivals = l; standings = standings; room = room })) none some in
@@ -53,12 +50,12 @@ returns c =
     let marked : AreMarked (settled_among standings entries) [] standings = subst (λ (l : List Arrival). AreMarked (settled_among standings entries) (recent_among standings l) standings) none c.self.invariant.0 in
     let absent : has_number id.at entries ≡ false = ap (λ (m : MarkedIds). has_number id.at m.entries) c.self.view_is
     ∙ still_absent nodes c.args.self.now c.settle.new.self id c.requires.graph c.requires.there c.settle.ensures.listed c.requires.absent c.settle.ensures.none_gone in
-    let done = placed nodes standings entries ids id room more c.requires.graph c.requires.there alone marked all absent c.put_into.ensures.ids c.put_into.ensures.room in
+    let done = placed nodes standings entries ids id room c.put_into.new.lane.ids.capacity c.requires.graph c.requires.there alone marked all absent c.put_into.ensures.ids c.put_into.ensures.room in
     let listed = ap (λ (l : List Arrival). listed_in nodes (record { entries = entries; arrivals = l; standings = standings; room = room })) (sym none) ∙ ap (listed_in nodes) c.self.view_is ∙ c.settle.ensures.listed in
-    let whole : AreRetested nodes (λ _. true) (id ∷ []) c.args.self.now (record { entries = ids; arrivals = []; standings = set standings id.at Settled; room = more }) = record {
+    let whole : AreRetested nodes (λ _. true) (id ∷ []) c.args.self.now (record { entries = ids; arrivals = []; standings = set standings id.at Settled; room = c.put_into.new.lane.ids.capacity }) = record {
       ids = λ test was. done.ids test (listed ∙ was);
       some = done.some;
       room = omega (arith, c.settle.ensures.room, ap (λ (m : MarkedIds). m.room) c.self.view_is, c.put_into.ensures.room);
       marks = done.marks ∙ ap (λ (m : MarkedIds). length m.standings) c.self.view_is ∙ c.settle.ensures.marks;
     } in
-    subst (λ (l : List Arrival). AreRetested nodes (λ _. true) (id ∷ []) c.args.self.now (record { entries = ids; arrivals = l; standings = set standings id.at Settled; room = more })) (sym none) whole
+    subst (λ (l : List Arrival). AreRetested nodes (λ _. true) (id ∷ []) c.args.self.now (record { entries = ids; arrivals = l; standings = set standings id.at Settled; room = c.put_into.new.lane.ids.capacity })) (sym none) whole

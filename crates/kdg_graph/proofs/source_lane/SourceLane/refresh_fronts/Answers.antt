@@ -8,9 +8,8 @@ loop-pair-init c = retested_none (is_unblocked c.args.nodes.now.nodes) c.args.no
 
 pub refresh_front-requires-clause-first : goal.refresh_front-requires-clause-first
 refresh_front-requires-clause-first c known =
-    let ps : Accesses = c.items-pair-items.result.now in
-    let p : ℕ × Access = get_or ps c.loop-pair.pair-index (0, Read) in
-    let has : Contains c.args.set.now p = subst (λ (l : Accesses). Contains l p) c.items-pair-items.ensures.all (Contains-get_or ps c.loop-pair.pair-index (0, Read) c.loop-pair-test.true) in
+    let p : ℕ × Access = get_or c.items-pair-items.result.now c.loop-pair.pair-index (0, Read) in
+    let has : Contains c.args.set.now p = subst (λ (l : Accesses). Contains l p) c.items-pair-items.ensures.all (Contains-get_or c.items-pair-items.result.now c.loop-pair.pair-index (0, Read) c.loop-pair-test.true) in
     all_at (λ (q : ℕ × Access). IsRankPast c.args.key.now (clashing_at q.0 q.1 c.args.nodes.now.nodes) 0) c.args.set.now p (c.requires.first known) has
 
 pub loop-pair-preserved : goal.loop-pair-preserved

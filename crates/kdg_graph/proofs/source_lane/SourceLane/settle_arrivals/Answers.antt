@@ -17,10 +17,9 @@ all_in_order c = subst (λ (m : MarkedIds). settled_in m ≡ m.entries) (sym c.s
 
 pub put_in_order-requires-clause-there : goal.put_in_order-requires-clause-there
 put_in_order-requires-clause-there c =
-    let nodes : List Node = c.args.nodes.now.nodes in
-    let some = subst (AreSome nodes) (sym c.self.view_is) c.requires.some in
-    let P : List Standing → List Arrival → Type 0 = λ st l. AllByRecursion (λ (a : Arrival). HasNode nodes a.id) (recent_among st l) in
-    subst (P c.deref_mut-2.result.now) (sym (sorted c)) (subst (λ (st : List Standing). P st c.order_arrivals.new.arrivals) (sym c.deref_mut-2.ensures.value) (moved_there nodes c.self.inside.standings.items c.self.inside.arrivals.items c.order_arrivals.new.arrivals (moved c) some.recent))
+    let some = subst (AreSome c.args.nodes.now.nodes) (sym c.self.view_is) c.requires.some in
+    let P : List Standing → List Arrival → Type 0 = λ st l. AllByRecursion (λ (a : Arrival). HasNode c.args.nodes.now.nodes a.id) (recent_among st l) in
+    subst (P c.deref_mut-2.result.now) (sym (sorted c)) (subst (λ (st : List Standing). P st c.order_arrivals.new.arrivals) (sym c.deref_mut-2.ensures.value) (moved_there c.args.nodes.now.nodes c.self.inside.standings.items c.self.inside.arrivals.items c.order_arrivals.new.arrivals (moved c) some.recent))
 
 pub put_in_order-requires-clause-told : goal.put_in_order-requires-clause-told
 put_in_order-requires-clause-told c = subst (λ (l : List Arrival). 1 < length l → AllByRecursion (TellsItsKey c.args.nodes.now.nodes) l) (sym (sorted c)) c.order_arrivals.ensures.told
@@ -30,20 +29,16 @@ put_in_order-requires-clause-in_turn c = subst (AreInTurn c.args.nodes.now.nodes
 
 pub put_in_order-requires-clause-in_order : goal.put_in_order-requires-clause-in_order
 put_in_order-requires-clause-in_order c =
-    let nodes : List Node = c.args.nodes.now.nodes in
-    let some = subst (AreSome nodes) (sym c.self.view_is) c.requires.some in
-    subst (IsInOrder nodes) (all_in_order c) some.in_order
+    let some = subst (AreSome c.args.nodes.now.nodes) (sym c.self.view_is) c.requires.some in
+    subst (IsInOrder c.args.nodes.now.nodes) (all_in_order c) some.in_order
 
 marked : (c : goal.After-put_in_order-arg-2-1) → AreMarked c.self.inside.settled.ids.items (recent_among c.self.inside.standings.items c.order_arrivals.new.arrivals) c.self.inside.standings.items
 marked c =
-    let standings : List Standing = c.self.inside.standings.items in
-    let arrivals : List Arrival = c.self.inside.arrivals.items in
-    moved_marked standings c.self.inside.settled.ids.items arrivals c.order_arrivals.new.arrivals (moved c) (subst (λ (l : List NodeId). AreMarked l (recent_among standings arrivals) standings) (all_in_order c) c.self.invariant.0)
+    moved_marked c.self.inside.standings.items c.self.inside.settled.ids.items c.self.inside.arrivals.items c.order_arrivals.new.arrivals (moved c) (subst (λ (l : List NodeId). AreMarked l (recent_among c.self.inside.standings.items c.self.inside.arrivals.items) c.self.inside.standings.items) (all_in_order c) c.self.invariant.0)
 
 pub put_in_order-requires-clause-marked : goal.put_in_order-requires-clause-marked
 put_in_order-requires-clause-marked c =
-    let entries : List NodeId = c.self.inside.settled.ids.items in
-    subst (λ (l : List Arrival). AreMarked entries (recent_among c.deref_mut-2.result.now l) c.deref_mut-2.result.now) (sym (sorted c)) (subst (λ (st : List Standing). AreMarked entries (recent_among st c.order_arrivals.new.arrivals) st) (sym c.deref_mut-2.ensures.value) (marked c))
+    subst (λ (l : List Arrival). AreMarked c.self.inside.settled.ids.items (recent_among c.deref_mut-2.result.now l) c.deref_mut-2.result.now) (sym (sorted c)) (subst (λ (st : List Standing). AreMarked c.self.inside.settled.ids.items (recent_among st c.order_arrivals.new.arrivals) st) (sym c.deref_mut-2.ensures.value) (marked c))
 
 -- ---- once they are in order with the others
 
@@ -66,27 +61,22 @@ all_put c = all_settled c.put_in_order.new.standings c.put_in_order.new.settled.
 
 pub invariant_of-self : goal.invariant_of-self
 invariant_of-self c =
-    let standings : List Standing = c.put_in_order.new.standings in
-    subst (λ (m : MarkedIds). AreMarked (settled_in m) (recent_in m) m.standings × HasFewGone m.standings m.entries c.self.inside.gone) (sym (put_is c)) (as_marked c.put_in_order.new.settled.ids.items standings c.put_in_order.ensures.marked, omega (arith, ap length (all_put c)))
+    subst (λ (m : MarkedIds). AreMarked (settled_in m) (recent_in m) m.standings × HasFewGone m.standings m.entries c.self.inside.gone) (sym (put_is c)) (as_marked c.put_in_order.new.settled.ids.items c.put_in_order.new.standings c.put_in_order.ensures.marked, omega (arith, ap length (all_put c)))
 
 pub returns-clause-none_gone : goal.returns-clause-none_gone
 returns-clause-none_gone c = subst (λ (m : MarkedIds). settled_in m ≡ m.entries) (sym (put_is c)) (all_put c)
 
 pub returns-clause-listed : goal.returns-clause-listed
 returns-clause-listed c =
-    let nodes : List Node = c.args.nodes.now.nodes in
-    let before : MarkedIds = c.args.self.now in
-    let arrivals : List Arrival = c.self.inside.arrivals.items in
-    let now : List Arrival = c.order_arrivals.new.arrivals in
-    let sorted_is = written_back now arrivals c.self.inside.arrivals.len (omega (arith, c.self.inside.arrivals.ok.0)) (omega (arith, c.order_arrivals.auto.arrivals, ap length c.deref_mut.ensures.value)) in
-    let moved_is = subst (λ (l : List Arrival). IsPermutation (arrived l) (arrived now)) c.deref_mut.ensures.value c.order_arrivals.ensures.moved in
-    let was : settled_in before ≡ c.self.inside.settled.ids.items = c.requires.none_gone ∙ ap (λ (m : MarkedIds). m.entries) (sym c.self.view_is) in
-    ap (listed_in nodes) (put_is c)
-    ∙ all_placed nodes before (settled_in (put c)) (λ at.
+    let sorted_is = written_back c.order_arrivals.new.arrivals c.self.inside.arrivals.items c.self.inside.arrivals.len (omega (arith, c.self.inside.arrivals.ok.0)) (omega (arith, c.order_arrivals.auto.arrivals, ap length c.deref_mut.ensures.value)) in
+    let moved_is = subst (λ (l : List Arrival). IsPermutation (arrived l) (arrived c.order_arrivals.new.arrivals)) c.deref_mut.ensures.value c.order_arrivals.ensures.moved in
+    let was : settled_in c.args.self.now ≡ c.self.inside.settled.ids.items = c.requires.none_gone ∙ ap (λ (m : MarkedIds). m.entries) (sym c.self.view_is) in
+    ap (listed_in c.args.nodes.now.nodes) (put_is c)
+    ∙ all_placed c.args.nodes.now.nodes c.args.self.now (settled_in (put c)) (λ at.
     ap (has_number at) (all_put c)
     ∙ c.put_in_order.ensures.ids at
     ∙ (λ i. has_number at (sym was i) || has_number at (arrived (recent_among (c.deref_mut-2.ensures.value i) (sorted_is i))))
-    ∙ ap (λ b. has_number at (settled_in before) || b) (moved_numbers c.self.inside.standings.items arrivals now moved_is at ∙ ap (λ (m : MarkedIds). has_number at (arrived (recent_in m))) c.self.view_is))
+    ∙ ap (λ b. has_number at (settled_in c.args.self.now) || b) (moved_numbers c.self.inside.standings.items c.self.inside.arrivals.items c.order_arrivals.new.arrivals moved_is at ∙ ap (λ (m : MarkedIds). has_number at (arrived (recent_in m))) c.self.view_is))
 
 pub returns-clause-some : goal.returns-clause-some
 returns-clause-some c =

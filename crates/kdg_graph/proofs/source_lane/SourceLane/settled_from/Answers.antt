@@ -9,15 +9,13 @@ returns-then-self-eq0-clause-next c =
 
 pub loop-id-preserved : goal.loop-id-preserved
 loop-id-preserved c =
-    let some : MarkedIds = c.args.self.now in
-    let at : slice_get some.entries c.loop-id.place ≡ Some c.in-Some.id = ap (λ (m : MarkedIds). slice_get m.entries c.loop-id.place) (sym c.self.view_is) ∙ sym c.get.ensures.id ∙ c.in-Some.is in
-    settled_past some c.loop-id.place c.in-Some.id at (sym c.is_in_order.ensures ∙ c.if-is_in_order.false) ∙ c.loop-id.invariant
+    let at : slice_get c.args.self.now.entries c.loop-id.place ≡ Some c.in-Some.id = ap (λ (m : MarkedIds). slice_get m.entries c.loop-id.place) (sym c.self.view_is) ∙ sym c.get.ensures.id ∙ c.in-Some.is in
+    settled_past c.args.self.now c.loop-id.place c.in-Some.id at (sym c.is_in_order.ensures ∙ c.if-is_in_order.false) ∙ c.loop-id.invariant
 
 pub returns-then-is_in_order-clause-next : goal.returns-then-is_in_order-clause-next
 returns-then-is_in_order-clause-next c =
-    let some : MarkedIds = c.args.self.now in
-    let at : slice_get some.entries c.loop-id.place ≡ Some c.in-Some.id = ap (λ (m : MarkedIds). slice_get m.entries c.loop-id.place) (sym c.self.view_is) ∙ sym c.get.ensures.id ∙ c.in-Some.is in
-    next_here some c.loop-id.place c.in-Some.id at (sym c.is_in_order.ensures ∙ c.if-is_in_order.true)
+    let at : slice_get c.args.self.now.entries c.loop-id.place ≡ Some c.in-Some.id = ap (λ (m : MarkedIds). slice_get m.entries c.loop-id.place) (sym c.self.view_is) ∙ sym c.get.ensures.id ∙ c.in-Some.is in
+    next_here c.args.self.now c.loop-id.place c.in-Some.id at (sym c.is_in_order.ensures ∙ c.if-is_in_order.true)
 
 pub overflow_add-place : goal.overflow_add-place
 overflow_add-place c = omega (arith, c.get.ensures.small, slice_get_within c.self.inside.settled.ids.items c.loop-id.place c.in-Some.id (sym c.get.ensures.id ∙ c.in-Some.is))
@@ -28,6 +26,5 @@ loop-id-smaller c =
 
 pub returns-clause-next : goal.returns-clause-next
 returns-clause-next c =
-    let some : MarkedIds = c.args.self.now in
-    let at : slice_get some.entries c.loop-id.place ≡ None = ap (λ (m : MarkedIds). slice_get m.entries c.loop-id.place) (sym c.self.view_is) ∙ sym c.get.ensures.id ∙ c.in_default.is in
-    next_nowhere some c.loop-id.place at
+    let at : slice_get c.args.self.now.entries c.loop-id.place ≡ None = ap (λ (m : MarkedIds). slice_get m.entries c.loop-id.place) (sym c.self.view_is) ∙ sym c.get.ensures.id ∙ c.in_default.is in
+    next_nowhere c.args.self.now c.loop-id.place at
