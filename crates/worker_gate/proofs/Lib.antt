@@ -3,7 +3,9 @@ pub mod Closing
 pub mod Continuing
 pub mod Entering
 pub mod Freeing
+pub mod InTurn
 pub mod Joining
+pub mod Knowing
 pub mod Numbers
 pub mod Places
 pub mod Seats

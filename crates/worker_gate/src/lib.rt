@@ -5,14 +5,16 @@ mod entry;
 mod hall;
 mod laws;
 mod lending;
+mod sends;
 mod slot;
 mod steps;
 mod turn;
 mod view;
 
 pub use entry::{Entry, EntryOf};
-pub use hall::{Hall, HallOf, Seat, SeatOf};
-pub use laws::continuing_laws;
+pub use hall::{Hall, HallOf, Kept, Seat, SeatOf};
+pub use laws::{continuing_laws, leaving_laws, turn_laws};
 pub use lending::{Lease, Turn};
+pub use sends::{hall_shares, seat_sends};
 pub use steps::Did;
 pub use view::View;
