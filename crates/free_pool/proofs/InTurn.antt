@@ -1,0 +1,110 @@
+-- What a seat finds in its turn, and what it is after it.
+use Rattle.std.proofs.Common.{◌≡◌, ◌≢◌, ◌==◌, ℕ, true, List, [], ◌∷◌, ◌++◌, if◌then◌else◌, Option, Some, None, refl, sym, ap, subst, ◌∙◌}
+use Rattle.std.specs.Prelude.{IfSome}
+use Rattle.std.proofs.lemmas.Option.{same_Some}
+use Rattle.task_order.specs.declared.key.Key.{Key}
+use Rattle.app_laws.specs.Applications.{Application}
+use Rattle.crew.specs.Jobs.{IsPerformed}
+use Rattle.run_laws.specs.Jobs.{Done, Job}
+use Rattle.run_laws.specs.Laws.{IsDone}
+use Rattle.run_laws.specs.Moves.{Moved}
+use Rattle.run_laws.specs.Progress.{Progress}
+use Rattle.run_laws.specs.Sound.{IsSound}
+use Rattle.graph_update.specs.Engine.{EngineState}
+use Rattle.worker_gate.specs.declared.view.View.{View}
+use Rattle.worker_gate.specs.Fits.{drained_count}
+use Rattle.worker_gate.specs.Steps.{Seen, left_by}
+use Rattle.worker_gate.specs.Turns.{HallState, HasMoved, HasWaited, MayLeave, SeatState, TurnState}
+use Rattle.free_pool.specs.Turns.{HasDone, IsSeated}
+use Rattle.free_pool.proofs.Moves.{beside_others}
+
+module _ {A V : Type 0} {meaning : A → Application V} (hall : HallState (EngineState A V)) (seat : SeatState (EngineState A V) V) (turn : TurnState (EngineState A V) V)
+    (seated : IsSeated hall seat) (waited : HasWaited meaning seat turn) where
+  abbrev now : Seen A V
+  now = waited.seat_now.view
+
+  of_view : {X : Type 0} (part : Seen A V → X) → part now ≡ part (record seat.view { tries = now.tries; holder = now.holder })
+  of_view part = ap part waited.tried.view
+
+  in_turn : {X : Type 0} (part : Seen A V → X) → part turn.view ≡ part (record now { found = Some turn.engine })
+  in_turn part = ap part waited.entered.view
+
+  origin_is : waited.entered.found.origin ≡ hall.origin
+  origin_is = same_Some waited.entered.found.origin hall.origin (sym waited.entered.found.is_origin ∙ of_view (λ (v : Seen A V). v.origin) ∙ seated.origin_is)
+
+  pub app_is : turn.engine.app ≡ hall.origin.app
+  app_is = waited.entered.found.fits.app ∙ ap (λ (e : EngineState A V). e.app) origin_is
+
+  pub turn_jobs : turn.view.jobs ≡ seat.view.jobs
+  turn_jobs = in_turn (λ (v : Seen A V). v.jobs) ∙ of_view (λ (v : Seen A V). v.jobs)
+
+  pub turn_found : turn.view.found ≡ Some turn.engine
+  turn_found = in_turn (λ (v : Seen A V). v.found)
+
+  pub in_hand : (done : Option (Done V)) → HasDone (meaning hall.origin.app) seat.view.jobs done → HasDone (meaning turn.engine.app) turn.view.jobs done
+  in_hand done has =
+      subst (λ (app : A). HasDone (meaning app) turn.view.jobs done) (sym app_is)
+      (subst (λ (jobs : List (Job V)). HasDone (meaning hall.origin.app) jobs done) (sym turn_jobs) has)
+
+  -- the engine is sound with the jobs of the seat and those of others
+  sound : IsSound (meaning turn.engine.app) turn.engine.progress (now.jobs ++ waited.entered.found.others.jobs) waited.entered.found.fits.progress.values
+  sound =
+      subst (λ (app : A). IsSound (meaning app) turn.engine.progress (now.jobs ++ waited.entered.found.others.jobs) waited.entered.found.fits.progress.values)
+      (sym waited.entered.found.fits.app) waited.entered.found.fits.progress.come.sound
+
+  now_jobs : seat.view.jobs ≡ now.jobs
+  now_jobs = sym (of_view (λ (v : Seen A V). v.jobs))
+
+  pub is_done : (done : Option (Done V)) → HasDone (meaning hall.origin.app) seat.view.jobs done → IfSome done (IsDone (meaning turn.engine.app) turn.engine.progress)
+  is_done None has = tt
+  is_done (Some done) has =
+      let own : HasDone (meaning turn.engine.app) now.jobs (Some done) =
+      subst (λ (app : A). HasDone (meaning app) now.jobs (Some done)) (sym app_is)
+      (subst (λ (jobs : List (Job V)). HasDone (meaning hall.origin.app) jobs (Some done)) now_jobs has) in
+      record {
+        jobs = now.jobs ++ waited.entered.found.others.jobs;
+        values = waited.entered.found.fits.progress.values;
+        sound = sound;
+        job = own.0;
+        others = waited.entered.found.others.jobs;
+        performed = beside_others waited.entered.found.others.jobs own.1;
+      }
+
+  -- the turn may be left with what was done to the engine
+  pub may_leave : (engine : EngineState A V) (jobs : List (Job V)) (ended : List Key) → engine.app ≡ turn.engine.app
+      → Moved (meaning turn.engine.app) turn.engine.progress turn.view.jobs engine.progress jobs ended → drained_count engine.progress ≡ drained_count turn.engine.progress
+      → MayLeave meaning (record turn { engine = engine }) jobs ended
+  may_leave engine jobs ended app moved drained found is =
+      let same : turn.engine ≡ found = same_Some turn.engine found (sym turn_found ∙ is) in
+      subst (λ (one : EngineState A V). HasMoved meaning (record turn { engine = engine }) jobs ended one) same
+      (record { app = app; moved = moved; drained = λ not. drained })
+
+  -- the number that was drained is the one that the seat knows
+  counted : turn.view.number ≡ 0 → drained_count turn.engine.progress ≡ drained_count hall.origin.progress
+  counted first =
+      let number : now.number ≡ 0 = sym (in_turn (λ (v : Seen A V). v.number)) ∙ first in
+      let own : seat.view.number ≡ 0 = sym (of_view (λ (v : Seen A V). v.number)) ∙ number in
+      waited.entered.found.fits.progress.count ∙ waited.entered.found.drained number ∙ of_view (λ (v : Seen A V). v.drained) ∙ seated.drained own
+
+  module _ (engine : EngineState A V) (jobs : List (Job V)) (ended : List Key) (back : SeatState (EngineState A V) V) (drained : drained_count engine.progress ≡ drained_count turn.engine.progress)
+      (in_hall : back.hall ≡ turn.hall) (left : back.view ≡ left_by jobs ended turn.view turn.engine engine) where
+    pub same_number : back.view.number ≡ seat.view.number
+    same_number = ap (λ (v : Seen A V). v.number) left ∙ in_turn (λ (v : Seen A V). v.number) ∙ of_view (λ (v : Seen A V). v.number)
+
+    pub same_unjoined : back.view.unjoined ≡ seat.view.unjoined
+    same_unjoined = ap (λ (v : Seen A V). v.unjoined) left ∙ in_turn (λ (v : Seen A V). v.unjoined) ∙ of_view (λ (v : Seen A V). v.unjoined)
+
+    pub jobs_after : back.view.jobs ≡ jobs
+    jobs_after = ap (λ (v : Seen A V). v.jobs) left
+
+    drained_after : back.view.number ≡ 0 → back.view.drained ≡ drained_count hall.origin.progress
+    drained_after first =
+        let number : turn.view.number ≡ 0 = sym (ap (λ (v : Seen A V). v.number) left) ∙ first in
+        ap (λ (v : Seen A V). v.drained) left ∙ ap (λ (n : ℕ). if n == 0 then drained_count engine.progress else turn.view.drained) number ∙ drained ∙ counted number
+
+    pub still_seated : IsSeated hall back
+    still_seated = record {
+      here = in_hall ∙ waited.entered.hall ∙ waited.tried.hall ∙ seated.here;
+      origin_is = ap (λ (v : Seen A V). v.origin) left ∙ in_turn (λ (v : Seen A V). v.origin) ∙ of_view (λ (v : Seen A V). v.origin) ∙ seated.origin_is;
+      drained = drained_after;
+    }

@@ -1,0 +1,45 @@
+-- The seats of a team of workers.
+use Rattle.std.specs.Prelude.{◌≡◌, ℕ, zero, suc, List, [], ◌∷◌, ◌++◌, map}
+use Rattle.std.specs.List.{AllByRecursion}
+use Rattle.graph_update.specs.Engine.{EngineState}
+use Rattle.worker_gate.specs.Turns.{HallState, SeatState}
+use Rattle.free_pool.specs.Turns.{IsSeated}
+
+-- the numbers from 1 to this one
+abbrev pub up_to : ℕ → List ℕ
+up_to zero = []
+up_to (suc n) = up_to n ++ suc n ∷ []
+
+-- the same, the greatest first
+abbrev pub down_from : ℕ → List ℕ
+down_from zero = []
+down_from (suc n) = suc n ∷ down_from n
+
+module _ {A V : Type 0} (hall : HallState (EngineState A V)) (others : ℕ) where
+  -- a seat of the hall; where it is the first, so many were split from it, and none of them is joined
+  pub record IsMember (seat : SeatState (EngineState A V) V) : Type 0 where
+    pub seated : IsSeated hall seat
+    pub unjoined : seat.view.number ≡ 0 → seat.view.unjoined ≡ down_from others
+
+  -- the seats of all workers, the first one's at last
+  pub record IsTeam (seats : List (SeatState (EngineState A V) V)) : Type 0 where
+    pub numbers : map (λ seat. seat.view.number) seats ≡ up_to others ++ 0 ∷ []
+    pub members : AllByRecursion IsMember seats
+
+-- a worker that has this application in hand may work at the hall, in this seat
+pub record MayWork {A V : Type 0} (hall : HallState (EngineState A V)) (app : A) (seat : SeatState (EngineState A V) V) : Type 0 where
+  pub seated : IsSeated hall seat
+  pub app_is : app ≡ hall.origin.app
+  pub idle : seat.view.jobs ≡ []
+
+-- after its work the seat is of the hall still, with its number and what was split from it
+pub record HasWorked {A V : Type 0} (hall : HallState (EngineState A V)) (old now : SeatState (EngineState A V) V) : Type 0 where
+  pub seated : IsSeated hall now
+  pub number : now.view.number ≡ old.view.number
+  pub unjoined : now.view.unjoined ≡ old.view.unjoined
+
+-- a post is at this hall, where a worker may work in its seat; where that is the first, so many others are split from it
+pub record IsReady {A V : Type 0} (hall : HallState (EngineState A V)) (others : ℕ) (at : HallState (EngineState A V)) (app : A) (seat : SeatState (EngineState A V) V) : Type 0 where
+  pub at_is : at ≡ hall
+  pub may : MayWork at app seat
+  pub unjoined : seat.view.number ≡ 0 → seat.view.unjoined ≡ down_from others

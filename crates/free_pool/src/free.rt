@@ -1,0 +1,76 @@
+//! A run by workers of which none waits for the end of a round.
+
+ghost use Rattle.std.specs.Prelude.{◌≡◌, ◌≤◌, [], None, IfOk, IfErr, length};
+ghost use Rattle.cell_store.specs.Values.{values_of};
+ghost use Rattle.run_laws.specs.Rest.{NoneRuns};
+ghost use Rattle.source_pool.specs.Runs.{IsRunFault};
+ghost use Rattle.free_pool.specs.Runs.{IsRunEnd};
+ghost use Rattle.free_pool.specs.Turns.{IsSeated};
+
+use crate::bell::Bell;
+use crate::worker::{Post, work};
+use app_laws::{App, Finals};
+use cell_store::value_laws;
+use graph_update::{Claim, Engine};
+use outer_edge::Gate;
+use output_log::join_laws;
+use run_laws::course_run_laws;
+use source_pool::RunFault;
+use std::alloc::Global;
+use std::sync::Wait;
+use std::thread::Threads;
+use worker_gate::{Hall, Seat};
+
+/// Runs an execution to its end by workers that share it.
+pub fn run_free<'a, R: Threads + Wait + Sync, A: App + Sync, G: Gate + Sync>(
+    rt: &R,
+    alloc: Global,
+    engine: Engine<'a, A>,
+    gate: &G,
+    seed: u64,
+    workers: u32,
+) -> Result<Finals<A::Val>, RunFault>
+    requires workers { (1 ≤ workers) × (workers ≤ 64) }
+    requires at_rest { NoneRuns engine.progress.nodes }
+    requires not_over { engine.progress.over ≡ None }
+    ensures end { IfOk result (IsRunEnd (A.meaning engine.entry.app) engine.entry.progress) }
+    ensures fit { IfOk result (λ finals. (A.meaning engine.entry.app).is_fit_cells (values_of finals.store)) }
+    ensures fault { IfErr result (IsRunFault (A.meaning engine.entry.app) engine.entry.progress) }
+{
+    // Its contract tells what every engine keeps: the log has no more entries than tasks have ended.
+    let _graph = engine.graph();
+    let app = engine.app();
+    let Ok((hall, seat)) = Hall::<A>::begin(alloc, engine) else {
+        return Err(RunFault::NoRoom);
+    };
+    let bell = Bell::new();
+    let post = Post {
+        app,
+        hall: &hall,
+        seat,
+        worker: 0,
+    };
+    let seat = work(rt, gate, seed, &bell, post);
+    end_run(hall, seat)
+}
+
+/// What a run comes to whose workers have stopped.
+fn end_run<'a, A: App>(hall: Hall<'a, A>, seat: Seat<'a, A>) -> Result<Finals<A::Val>, RunFault>
+    requires seated { IsSeated hall seat }
+    requires first { seat.view.number ≡ 0 }
+    requires alone { seat.view.unjoined ≡ [] }
+    requires logged { length hall.origin.progress.log ≤ hall.origin.progress.ended }
+    ensures end { IfOk result (IsRunEnd (A.meaning hall.entry.origin.app) hall.entry.origin.progress) }
+    ensures fit { IfOk result (λ finals. (A.meaning hall.entry.origin.app).is_fit_cells (values_of finals.store)) }
+    ensures fault { IfErr result (IsRunFault (A.meaning hall.entry.origin.app) hall.entry.origin.progress) }
+{
+    course_run_laws::<A>();
+    join_laws();
+    value_laws::<A::Val>();
+    let mut engine = hall.close(seat);
+    match engine.claim(0)? {
+        Claim::Over(cause) => Err(cause),
+        Claim::Ended => Ok(engine.end()?),
+        Claim::NotYet | Claim::Job(_) => Err(RunFault::NoRoom),
+    }
+}

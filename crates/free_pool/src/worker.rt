@@ -1,0 +1,106 @@
+//! What a worker does from its first turn to its last.
+
+ghost use Rattle.std.specs.Prelude.{◌≡◌, ◌<◌, [], None};
+ghost use Rattle.free_pool.specs.Turns.{HasDone, IsSeated};
+
+use crate::bell::Bell;
+use crate::turns::{Next, give_up, take_turn};
+use app_laws::App;
+use graph_update::perform;
+use kdg_text::Steps;
+use outer_edge::Gate;
+use std::marker::Brand;
+use std::sync::Wait;
+use std::sync::ledger::{Blank, Ledger};
+use worker_gate::{Hall, Seat};
+
+/// Where a worker works.
+#[derive(Drop)]
+pub(crate) struct Post<'h, 'a, A: App> {
+    pub(crate) app: &'a A,
+    pub(crate) hall: &'h Hall<'a, A>,
+    pub(crate) seat: Seat<'a, A>,
+    /// The worker's number.
+    pub(crate) worker: u32,
+}
+
+/// Works until nothing more is to be claimed. Where memory runs out it gives up, so that all others
+/// stop too.
+pub(crate) fn work<'h, 'a, R: Wait, A: App, G: Gate>(
+    rt: &R,
+    gate: &G,
+    seed: u64,
+    bell: &Bell,
+    post: Post<'h, 'a, A>,
+) -> Seat<'a, A>
+    requires seated { IsSeated post.hall.now post.seat }
+    requires app { post.app.now ≡ post.hall.now.origin.app }
+    requires idle { post.seat.view.jobs ≡ [] }
+    ensures seated { IsSeated post.entry.hall.now result }
+    ensures number { result.view.number ≡ post.entry.seat.view.number }
+    ensures unjoined { result.view.unjoined ≡ post.entry.seat.view.unjoined }
+{
+    let blank = Blank::new(1);
+    work_counted::<R, A, G, Brand>(rt, gate, seed, bell, post, blank)
+}
+
+/// The same, with a count of the sets that are asked for.
+fn work_counted<'h, 'a, R: Wait, A: App, G: Gate, L: Ledger>(
+    rt: &R,
+    gate: &G,
+    seed: u64,
+    bell: &Bell,
+    post: Post<'h, 'a, A>,
+    blank: Blank,
+) -> Seat<'a, A>
+    requires name { blank.name ≡ L.name }
+    requires parts { blank.parts ≡ L.parts }
+    requires some { 0 < blank.parts }
+    requires seated { IsSeated post.hall.now post.seat }
+    requires app { post.app.now ≡ post.hall.now.origin.app }
+    requires idle { post.seat.view.jobs ≡ [] }
+    ensures seated { IsSeated post.entry.hall.now result }
+    ensures number { result.view.number ≡ post.entry.seat.view.number }
+    ensures unjoined { result.view.unjoined ≡ post.entry.seat.view.unjoined }
+{
+    let Post {
+        app,
+        hall,
+        mut seat,
+        worker,
+    } = post;
+    let mut steps = Steps::<L>::new(blank);
+    let mut done = None;
+    let mut claims = 0u64;
+    for _ in rt.forever() {
+        // Read before the claim: an end after it is heard.
+        let rung = bell.rung();
+        let pick = gate.choose(seed, worker, claims);
+        claims = claims.saturating_add(1);
+        let ends = done.is_some();
+        let (back, next) = take_turn(rt, hall, seat, done, pick, &mut steps);
+        seat = back;
+        if ends {
+            bell.ring();
+        }
+        done = match next {
+            Next::Perform(job) => match perform(app, job, worker, gate) {
+                Ok(done) => Some(done),
+                Err(_) => {
+                    let seat = give_up(rt, hall, seat);
+                    bell.ring();
+                    return seat;
+                }
+            },
+            Next::Wait => {
+                bell.wait(rt, rung);
+                None
+            }
+            Next::Stop | Next::Keep => {
+                bell.ring();
+                return seat;
+            }
+        };
+    }
+    unreachable!()
+}
