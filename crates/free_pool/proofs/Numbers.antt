@@ -3,7 +3,7 @@ use Rattle.std.proofs.Common.{◌≡◌, ◌≢◌, ◌⊎◌, inl, inr, ◌==�
 use Rattle.std.specs.Prelude.{Contains, filter}
 use Rattle.free_pool.specs.Team.{down_from, up_to}
 
-no_snoc : {X : Type 0} (xs : List X) (x : X) → xs ++ x ∷ [] ≡ [] → ⊥
+pub no_snoc : {X : Type 0} (xs : List X) (x : X) → xs ++ x ∷ [] ≡ [] → ⊥
 no_snoc [] x same = cc
 no_snoc (y ∷ xs) x same = cc
 

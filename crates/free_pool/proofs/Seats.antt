@@ -1,6 +1,6 @@
 -- The seats of a team, from the first split to the last join.
-use Rattle.std.proofs.Common.{◌≡◌, ◌≢◌, ◌==◌, not, ℕ, zero, suc, ◌+◌, ◌-◌, ◌<◌, ◌≤◌, List, [], ◌∷◌, ◌++◌, map, length, refl, sym, ap, subst, ◌∙◌, arith}
-use Rattle.std.specs.Prelude.{Contains, filter}
+use Rattle.std.proofs.Common.{get_or, Option, Some, None, true≢false, ◌≡◌, ◌≢◌, ◌==◌, not, ℕ, zero, suc, ◌+◌, ◌-◌, ◌<◌, ◌≤◌, List, [], ◌∷◌, ◌++◌, map, length, refl, sym, ap, subst, ◌∙◌, arith}
+use Rattle.std.specs.Prelude.{Contains, IsSome, filter}
 use Rattle.std.specs.List.{AllByRecursion, AllZip}
 use Rattle.graph_update.specs.Engine.{EngineState}
 use Rattle.worker_gate.specs.declared.view.View.{View}
@@ -9,7 +9,7 @@ use Rattle.worker_gate.specs.Steps.{Seen, both_views, first_half, second_half}
 use Rattle.worker_gate.specs.Turns.{HallState, SeatState}
 use Rattle.free_pool.specs.Team.{HasWorked, IsMember, IsReady, IsTeam, MayWork, down_from, up_to}
 use Rattle.free_pool.specs.Turns.{IsSeated}
-use Rattle.free_pool.proofs.Numbers.{last_number, last_same, no_number, without_first}
+use Rattle.free_pool.proofs.Numbers.{last_number, last_same, no_number, no_snoc, without_first}
 
 map_snoc : {X Y : Type 0} (f : X → Y) (xs : List X) (x : X) → map f (xs ++ x ∷ []) ≡ map f xs ++ f x ∷ []
 map_snoc f [] x = refl
@@ -121,29 +121,141 @@ module _ {A V : Type 0} where
 
     -- ---- working
 
-    module _ {P : Type 0} (others : ℕ) (at : P → HallState (EngineState A V)) (app : P → A) (seat : P → SeatState (EngineState A V) V) where
-      has_worked : (post : P) (now : SeatState (EngineState A V) V) → IsReady hall others (at post) (app post) (seat post) → HasWorked (at post) (seat post) now → IsMember hall others now
+    module _ {P Q : Type 0} (others : ℕ) (at : P → HallState (EngineState A V)) (app : P → A) (seat : P → SeatState (EngineState A V) V) (back : Q → SeatState (EngineState A V) V) where
+      has_worked : (post : P) (now : Q) → IsReady hall others (at post) (app post) (seat post) → HasWorked (at post) (seat post) (back now) → IsMember hall others (back now)
       has_worked post now ready worked = record {
-        seated = subst (λ (h : HallState (EngineState A V)). IsSeated h now) ready.at_is worked.seated;
+        seated = subst (λ (h : HallState (EngineState A V)). IsSeated h (back now)) ready.at_is worked.seated;
         unjoined = λ first. worked.unjoined ∙ ready.unjoined (sym worked.number ∙ first);
       }
 
-      pub members_after : (posts : List P) (seats : List (SeatState (EngineState A V) V)) → AllByRecursion (λ (post : P). IsReady hall others (at post) (app post) (seat post)) posts
-          → AllZip (λ (post : P) (now : SeatState (EngineState A V) V). HasWorked (at post) (seat post) now) posts seats → AllByRecursion (IsMember hall others) seats
+      pub members_after : (posts : List P) (backs : List Q) → AllByRecursion (λ (post : P). IsReady hall others (at post) (app post) (seat post)) posts
+          → AllZip (λ (post : P) (now : Q). HasWorked (at post) (seat post) (back now)) posts backs → AllByRecursion (IsMember hall others) (map back backs)
       members_after [] [] ready worked = tt
-      members_after [] (now ∷ seats) ready worked = absurd worked
+      members_after [] (now ∷ backs) ready worked = absurd worked
       members_after (post ∷ posts) [] ready worked = absurd worked
-      members_after (post ∷ posts) (now ∷ seats) ready worked = (has_worked post now ready.0 worked.0, members_after posts seats ready.1 worked.1)
+      members_after (post ∷ posts) (now ∷ backs) ready worked = (has_worked post now ready.0 worked.0, members_after posts backs ready.1 worked.1)
 
-      pub numbers_after : (posts : List P) (seats : List (SeatState (EngineState A V) V)) → AllZip (λ (post : P) (now : SeatState (EngineState A V) V). HasWorked (at post) (seat post) now) posts seats
-          → map number_of seats ≡ map (λ (post : P). number_of (seat post)) posts
+      numbers_after : (posts : List P) (backs : List Q) → AllZip (λ (post : P) (now : Q). HasWorked (at post) (seat post) (back now)) posts backs
+          → map number_of (map back backs) ≡ map (λ (post : P). number_of (seat post)) posts
       numbers_after [] [] worked = refl
-      numbers_after [] (now ∷ seats) worked = absurd worked
+      numbers_after [] (now ∷ backs) worked = absurd worked
       numbers_after (post ∷ posts) [] worked = absurd worked
-      numbers_after (post ∷ posts) (now ∷ seats) worked =
-          ap (λ (n : ℕ). n ∷ map number_of seats) worked.0.number ∙ ap (λ (ns : List ℕ). number_of (seat post) ∷ ns) (numbers_after posts seats worked.1)
+      numbers_after (post ∷ posts) (now ∷ backs) worked =
+          ap (λ (n : ℕ). n ∷ map number_of (map back backs)) worked.0.number ∙ ap (λ (ns : List ℕ). number_of (seat post) ∷ ns) (numbers_after posts backs worked.1)
+
+      -- after their work the workers' seats are a team's
+      pub team_after : (posts : List P) (backs : List Q) → map (λ (post : P). number_of (seat post)) posts ≡ up_to others ++ 0 ∷ []
+          → AllByRecursion (λ (post : P). IsReady hall others (at post) (app post) (seat post)) posts
+          → AllZip (λ (post : P) (now : Q). HasWorked (at post) (seat post) (back now)) posts backs → IsTeam hall others (map back backs)
+      team_after posts backs numbers ready worked = record {
+        numbers = numbers_after posts backs worked ∙ numbers;
+        members = members_after posts backs ready worked;
+      }
 
       pub may_work : (posts : List P) → AllByRecursion (λ (post : P). IsReady hall others (at post) (app post) (seat post)) posts
           → AllByRecursion (λ (post : P). MayWork (at post) (app post) (seat post)) posts
       may_work [] ready = tt
       may_work (post ∷ posts) ready = (ready.0.may, may_work posts ready.1)
+
+-- while seats are split off for the others: so many are, and each of their posts is ready
+pub record IsPosted {A V P : Type 0} (hall : HallState (EngineState A V)) (others n : ℕ) (at : P → HallState (EngineState A V)) (app : P → A) (seat : P → SeatState (EngineState A V) V)
+    (own : SeatState (EngineState A V) V) (posts : List P) : Type 0 where
+  pub seated : IsSeated hall own
+  pub idle : own.view.jobs ≡ []
+  pub first : own.view.number ≡ 0
+  pub splits : own.view.splits ≡ n
+  pub unjoined : own.view.unjoined ≡ down_from n
+  pub numbers : map (λ post. number_of (seat post)) posts ≡ up_to n
+  pub ready : AllByRecursion (λ post. IsReady hall others (at post) (app post) (seat post)) posts
+
+module _ {A V P : Type 0} (hall : HallState (EngineState A V)) (others n : ℕ) (at : P → HallState (EngineState A V)) (app : P → A) (seat : P → SeatState (EngineState A V) V)
+    (own : SeatState (EngineState A V) V) (posts : List P) (posted : IsPosted hall others n at app seat own posts) where
+  pub one_posted : (next : SeatState (EngineState A V) V) → next ≡ record own { view = first_half own.view } → (post : P) → at post ≡ hall → app post ≡ hall.origin.app
+      → seat post ≡ record { hall = (at post).id; view = second_half own.view } → (now : List P) → now ≡ posts ++ post ∷ [] → IsPosted hall others (suc n) at app seat next now
+  one_posted next is post same app_is other now more = record {
+    seated = split_seated hall own next is posted.seated;
+    idle = ap (λ (s : SeatState (EngineState A V) V). s.view.jobs) is ∙ posted.idle;
+    first = ap number_of is ∙ posted.first;
+    splits = ap (λ (s : SeatState (EngineState A V) V). s.view.splits) is ∙ ap (λ (k : ℕ). suc k) posted.splits;
+    unjoined = split_unjoined hall own next is n posted.splits posted.unjoined;
+    numbers =
+        ap (map (λ (p : P). number_of (seat p))) more ∙ map_snoc (λ (p : P). number_of (seat p)) posts post
+        ∙ ap (λ (ns : List ℕ). ns ++ number_of (seat post) ∷ []) posted.numbers
+        ∙ ap (λ (k : ℕ). up_to n ++ k ∷ []) (ap number_of other ∙ ap (λ (k : ℕ). suc k) posted.splits);
+    ready = subst (AllByRecursion (λ (p : P). IsReady hall others (at p) (app p) (seat p))) (sym more)
+        (all_with (λ (p : P). IsReady hall others (at p) (app p) (seat p)) posts post posted.ready (split_ready hall others (at post) (app post) own (seat post) same app_is posted.seated other));
+  }
+
+  -- the caller's own post comes last
+  pub own_posted : n ≡ others → (post : P) → at post ≡ hall → app post ≡ hall.origin.app → seat post ≡ own → (now : List P) → now ≡ posts ++ post ∷ []
+      → (map (λ (p : P). number_of (seat p)) now ≡ up_to others ++ 0 ∷ []) × AllByRecursion (λ (p : P). IsReady hall others (at p) (app p) (seat p)) now
+  own_posted all post same app_is own_is now more =
+      let ready = own_ready hall others (at post) (app post) (seat post) same app_is
+      (subst (IsSeated hall) (sym own_is) posted.seated)
+      (ap (λ (s : SeatState (EngineState A V) V). s.view.jobs) own_is ∙ posted.idle)
+      (ap (λ (s : SeatState (EngineState A V) V). s.view.unjoined) own_is ∙ posted.unjoined ∙ ap down_from all) in (
+        ap (map (λ (p : P). number_of (seat p))) more ∙ map_snoc (λ (p : P). number_of (seat p)) posts post
+            ∙ ap (λ (ns : List ℕ). ns ++ number_of (seat post) ∷ []) (posted.numbers ∙ ap up_to all)
+            ∙ ap (λ (k : ℕ). up_to others ++ k ∷ []) (ap number_of own_is ∙ posted.first),
+        subst (AllByRecursion (λ (p : P). IsReady hall others (at p) (app p) (seat p))) (sym more)
+            (all_with (λ (p : P). IsReady hall others (at p) (app p) (seat p)) posts post posted.ready ready),
+      )
+
+-- while seats are joined to the first one: these are left
+pub record IsJoining {A V : Type 0} (hall : HallState (EngineState A V)) (seat : SeatState (EngineState A V) V) (left : List (SeatState (EngineState A V) V)) : Type 0 where
+  pub seated : IsSeated hall seat
+  pub first : seat.view.number ≡ 0
+  pub n : ℕ
+  pub unjoined : seat.view.unjoined ≡ down_from n
+  pub numbers : map number_of left ≡ up_to n
+  pub others : ℕ
+  pub members : AllByRecursion (IsMember hall others) left
+
+module _ {A V Q : Type 0} (hall : HallState (EngineState A V)) (back : Q → SeatState (EngineState A V) V) where
+  pub joining_begins : (others : ℕ) (posts rest : List Q) (last : Q) → posts ≡ rest ++ last ∷ [] → IsTeam hall others (map back posts) → IsJoining hall (back last) (map back rest)
+  joining_begins others posts rest last is team =
+      let first = last_is_first hall others (map back posts) (map back rest) (back last) (ap (map back) is ∙ map_snoc back rest last) team in
+      record { seated = first.3.seated; first = first.2; n = others; unjoined = first.3.unjoined first.2; numbers = first.0; others = others; members = first.1 }
+
+  module _ (seat : SeatState (EngineState A V) V) (posts rest : List Q) (last : Q) (is : posts ≡ rest ++ last ∷ []) (joining : IsJoining hall seat (map back posts)) where
+    abbrev at : (m : ℕ) × (joining.n ≡ suc m) × (map number_of (map back rest) ≡ up_to m) × ((back last).view.number ≡ suc m)
+        × AllByRecursion (IsMember hall joining.others) (map back rest) × IsMember hall joining.others (back last)
+    at = last_of_others hall joining.others joining.n (map back posts) (map back rest) (back last) (ap (map back) is ∙ map_snoc back rest last) joining.numbers joining.members
+
+    pub last_here : (back last).hall ≡ hall.id
+    last_here = at.5.seated.here
+
+    pub last_unjoined : Contains seat.view.unjoined (back last).view.number
+    last_unjoined = may_join hall joining.n at.0 seat (back last) at.1 joining.unjoined at.3
+
+    pub joining_goes_on : (next : SeatState (EngineState A V) V) → next ≡ record seat { view = both_views seat.view (back last).view } → IsJoining hall next (map back rest)
+    joining_goes_on next same = record {
+      seated = joined_seated hall seat (back last) next same joining.seated;
+      first = joined_number hall seat (back last) next same ∙ joining.first;
+      n = at.0;
+      unjoined = joined_unjoined hall seat (back last) next same joining.n at.0 at.1 joining.unjoined at.3;
+      numbers = at.2;
+      others = joining.others;
+      members = at.4;
+    }
+
+  pub joining_ends : (seat : SeatState (EngineState A V) V) (posts : List Q) → posts ≡ [] → IsJoining hall seat (map back posts) → seat.view.unjoined ≡ []
+  joining_ends seat posts none joining = joining.unjoined ∙ ap down_from (none_left hall joining.n (map back posts) (ap (map back) none) joining.numbers)
+
+-- a team has a seat
+pub some_seat : {A V Q : Type 0} (hall : HallState (EngineState A V)) (back : Q → SeatState (EngineState A V) V) (others : ℕ) (posts : List Q) → IsTeam hall others (map back posts) → 0 < length posts
+some_seat hall back others [] team = absurd (no_snoc (up_to others) 0 (sym team.numbers))
+some_seat hall back others (post ∷ posts) team = omega arith
+
+-- what holds at each place
+pub zipped : {X Y : Type 0} (R : X → Y → Type 0) (xs : List X) (ys : List Y) → length ys ≡ length xs → ((k : ℕ) (x : X) (d : Y) → k < length xs → R (get_or xs k x) (get_or ys k d)) → AllZip R xs ys
+zipped R [] [] long each = tt
+zipped R [] (y ∷ ys) long each = absurd (omega (arith, long))
+zipped R (x ∷ xs) [] long each = absurd (omega (arith, long))
+zipped R (x ∷ xs) (y ∷ ys) long each = (each 0 x y (omega arith), zipped R xs ys (omega (arith, long)) (λ k a d inside. each (suc k) a d (omega (arith, inside))))
+
+-- where nothing was taken, nothing is left
+pub nothing_left : {X : Type 0} (taken : Option X) (xs : List X) → (0 < length xs → IsSome taken) → ((x : X) → taken ≡ Some x → ⊥) → xs ≡ []
+nothing_left taken [] some never = refl
+nothing_left None (x ∷ xs) some never = absurd (true≢false (sym (some (omega arith))))
+nothing_left (Some y) (x ∷ xs) some never = absurd (never y refl)

@@ -7,11 +7,12 @@ ghost use Rattle.source_pool.specs.Runs.{IsRunFault};
 ghost use Rattle.free_pool.specs.Runs.{IsRunEnd};
 ghost use Rattle.free_pool.specs.Turns.{IsSeated};
 
-use crate::bell::Bell;
-use crate::worker::{Post, work};
+use crate::team::work_together;
+use crate::worker::Post;
 use app_laws::{App, Finals};
 use cell_store::value_laws;
 use graph_update::{Claim, Engine};
+use kdg_text::NoRoom;
 use outer_edge::Gate;
 use output_log::join_laws;
 use run_laws::course_run_laws;
@@ -21,7 +22,20 @@ use std::sync::Wait;
 use std::thread::Threads;
 use worker_gate::{Hall, Seat};
 
-/// Runs an execution to its end by workers that share it.
+/// A hall that is let go where memory runs out.
+#[derive(Drop)]
+struct Place<'a, A: App> {
+    app: &'a A,
+    hall: Hall<'a, A>,
+}
+
+/// Runs an execution to its end by workers that share it, none of which waits for the end of a round:
+/// each ends the task that it has performed and claims the next one, in one turn.
+///
+/// The caller is worker 0; for each other worker a thread is started, and where one can't be, its work
+/// is done here. The gate chooses for each worker at each of its claims, counted from 0, and each task
+/// is performed once the gate lets its worker pass. It may wait. What was handed in is dropped after a
+/// fault.
 pub fn run_free<'a, R: Threads + Wait + Sync, A: App + Sync, G: Gate + Sync>(
     rt: &R,
     alloc: Global,
@@ -43,15 +57,23 @@ pub fn run_free<'a, R: Threads + Wait + Sync, A: App + Sync, G: Gate + Sync>(
     let Ok((hall, seat)) = Hall::<A>::begin(alloc, engine) else {
         return Err(RunFault::NoRoom);
     };
-    let bell = Bell::new();
+    let place = Place { app, hall };
     let post = Post {
         app,
-        hall: &hall,
+        hall: &place.hall,
         seat,
         worker: 0,
     };
-    let seat = work(rt, gate, seed, &bell, post);
-    end_run(hall, seat)
+    match work_together(rt, alloc, gate, seed, workers, post) {
+        Ok(seat) => {
+            let Place { app: _, hall } = place;
+            end_run(hall, seat)
+        }
+        Err(NoRoom) => {
+            drop(place);
+            Err(RunFault::NoRoom)
+        }
+    }
 }
 
 /// What a run comes to whose workers have stopped.

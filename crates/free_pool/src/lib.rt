@@ -3,6 +3,7 @@
 
 mod bell;
 mod free;
+mod team;
 mod turns;
 mod worker;
 

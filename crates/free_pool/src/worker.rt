@@ -1,7 +1,8 @@
 //! What a worker does from its first turn to its last.
 
 ghost use Rattle.std.specs.Prelude.{◌≡◌, ◌<◌, [], None};
-ghost use Rattle.free_pool.specs.Turns.{HasDone, IsSeated};
+ghost use Rattle.free_pool.specs.Team.{HasWorked, MayWork};
+ghost use Rattle.free_pool.specs.Turns.{IsSeated};
 
 use crate::bell::Bell;
 use crate::turns::{Next, give_up, take_turn};
@@ -32,16 +33,19 @@ pub(crate) fn work<'h, 'a, R: Wait, A: App, G: Gate>(
     seed: u64,
     bell: &Bell,
     post: Post<'h, 'a, A>,
-) -> Seat<'a, A>
-    requires seated { IsSeated post.hall.now post.seat }
-    requires app { post.app.now ≡ post.hall.now.origin.app }
-    requires idle { post.seat.view.jobs ≡ [] }
-    ensures seated { IsSeated post.entry.hall.now result }
-    ensures number { result.view.number ≡ post.entry.seat.view.number }
-    ensures unjoined { result.view.unjoined ≡ post.entry.seat.view.unjoined }
+) -> Post<'h, 'a, A>
+    requires { MayWork post.hall.now post.app.now post.seat }
+    ensures { HasWorked post.entry.hall.now post.entry.seat result.seat }
 {
     let blank = Blank::new(1);
-    work_counted::<R, A, G, Brand>(rt, gate, seed, bell, post, blank)
+    let (app, hall, worker) = (post.app, post.hall, post.worker);
+    let seat = work_counted::<R, A, G, Brand>(rt, gate, seed, bell, post, blank);
+    Post {
+        app,
+        hall,
+        seat,
+        worker,
+    }
 }
 
 /// The same, with a count of the sets that are asked for.
