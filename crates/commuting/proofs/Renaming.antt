@@ -17,7 +17,7 @@ use Rattle.app_laws.specs.RenamingLaws.{filter-renamed, put_all-renamed, tasks_b
 use Rattle.commuting.specs.Basis.{Basis}
 use Rattle.commuting.specs.Clear.{IsReady}
 use Rattle.commuting.specs.Commuting.{AreClear, BothEnd}
-use Rattle.commuting.specs.Renaming.{ComesToSame, HasSameTexts, ListedTasksComeToSame, NamesChangeNoRounds, renamed_state}
+use Rattle.commuting.specs.Renaming.{ComesToSame, HasSameTexts, IsSameRound, ListedTasksComeToSame, NamesChangeNoRound, NamesChangeNoRounds, renamed_state}
 use Rattle.commuting.specs.Rounds.{is_clear, clear_tasks, after_round, TakesRounds}
 use Rattle.commuting.specs.States.{State, state_of, execution_from, run_from, after_task, after_tasks}
 use Rattle.commuting.proofs.Pending.{all-filter, all-joined, all-put_all, all-weaker}
@@ -126,6 +126,13 @@ module _ {V : Type 0} {app : Application V} (basis : Basis app) (ignored : Paths
     after_round_renamed state named =
         ap (λ tasks. after_tasks app.act tasks (renamed_state name state)) (clear_tasks_renamed state named) ∙ (round_renamed state named).same
 
+    same_round : (state : State V) → IsNamedState state → IsSameRound app name has_name state
+    same_round state named = record {
+      clear = clear_tasks_renamed state named;
+      after = after_round_renamed state named;
+      have_names = (round_renamed state named).have;
+    }
+
     rounds_without_names : (rounds : ℕ) (state : State V) → IsNamedState state → TakesRounds app rounds (renamed_state name state) → TakesRounds app rounds state
     rounds_without_names zero state named ended = nil_from_length state.pending (sym (length-map state.pending (renamed name)) ∙ ap length ended)
     rounds_without_names (suc rounds) state named takes =
@@ -136,6 +143,9 @@ module _ {V : Type 0} {app : Application V} (basis : Basis app) (ignored : Paths
           (λ none. takes.0 (ap (map (renamed name)) none)),
           rounds_without_names rounds (after_round app state) next_named (subst (TakesRounds app rounds) (after_round_renamed state named) takes.1),
         )
+
+  pub names_change_no_round : NamesChangeNoRound app
+  names_change_no_round name has_name naming state ready have = same_round naming state (record { ready = ready; have = have })
 
   pub names_change_no_rounds : NamesChangeNoRounds app
   names_change_no_rounds name has_name naming state ready have rounds = rounds_without_names naming rounds state (record { ready = ready; have = have })

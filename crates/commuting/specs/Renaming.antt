@@ -9,7 +9,7 @@ use Rattle.app_laws.specs.Names.{AreListed, IsNaming, renamed}
 use Rattle.app_laws.specs.Renaming.{HaveNames}
 use Rattle.commuting.specs.Clear.{IsReady}
 use Rattle.commuting.specs.Commuting.{BothEnd}
-use Rattle.commuting.specs.Rounds.{TakesRounds}
+use Rattle.commuting.specs.Rounds.{TakesRounds, after_round, clear_tasks}
 use Rattle.commuting.specs.States.{State, run_from, state_of}
 
 -- the state with names in place of paths
@@ -22,6 +22,16 @@ pub record HasSameTexts {V : Type 0} (e other : Execution V) : Type 0 where
   pub texts_are : map (λ entry. entry.1) e.log ≡ map (λ entry. entry.1) other.log
 
 module _ {V : Type 0} (app : Application V) where
+  -- under names the same tasks are clear, and the round leads to the same state, whose tasks have names too
+  pub record IsSameRound (name : List ℕ → List ℕ) (has_name : List ℕ → Bool) (state : State V) : Type 0 where
+    pub clear : clear_tasks app (renamed_state name state) ≡ map (renamed name) (clear_tasks app state)
+    pub after : after_round app (renamed_state name state) ≡ renamed_state name (after_round app state)
+    pub have_names : HaveNames has_name (after_round app state).pending
+
+  abbrev pub NamesChangeNoRound : Type 0
+  NamesChangeNoRound = (name : List ℕ → List ℕ) (has_name : List ℕ → Bool) → IsNaming name has_name →
+      (state : State V) → IsReady app state → HaveNames has_name state.pending → IsSameRound name has_name state
+
   -- under names it takes as many rounds
   abbrev pub NamesChangeNoRounds : Type 0
   NamesChangeNoRounds = (name : List ℕ → List ℕ) (has_name : List ℕ → Bool) → IsNaming name has_name →

@@ -2,7 +2,7 @@ ghost use Rattle.app_laws.specs.Applications.{PathsAreIgnored};
 ghost use Rattle.commuting.specs.Commuting.{ClearTasksMayActAtOnce, ClearTasksStayClearInTurn, ClearTasksActInAnyOrder, ClearTasksMayAllActAtOnce};
 ghost use Rattle.commuting.specs.Independent.{StaysReady, IndependentTasksCommute, IndependentTasksLeaveAlone, ClearTasksStayClear, ClearTasksAreIndependent, EarliestIsClear};
 ghost use Rattle.commuting.specs.Basis.{LowerLaws, Basis};
-ghost use Rattle.commuting.specs.Renaming.{NamesChangeNoRounds, ListedTasksComeToSame};
+ghost use Rattle.commuting.specs.Renaming.{NamesChangeNoRound, NamesChangeNoRounds, ListedTasksComeToSame};
 ghost use Rattle.commuting.specs.Rounds.{ClearTasksAreListed, RoundsKeepReady, RoundsKeepStanding, EndsTakeRounds, RoundsEnd, RoundsAreOneNumber};
 ghost use Rattle.commuting.specs.Standing.{StartsAreReady, StartsStandForThemselves, ClearTasksKeepStanding, EarlierEntriesAreFirst, NothingPendingIsTheEnd, TooManyTasksNeverEnd, RunsLogLater, RunsLogNewKeys};
 
@@ -110,6 +110,7 @@ pub fn round_laws<A: App>()
 /// Where an application ignores paths, and pending tasks are first tasks in the order of their paths, what
 /// is left of an execution comes to the same, in as many rounds.
 pub fn listed_tasks_come_to_same<A: App>()
+    ensures round { (app : A) → PathsAreIgnored (A.meaning app) → NamesChangeNoRound (A.meaning app) }
     ensures rounds { (app : A) → PathsAreIgnored (A.meaning app) → NamesChangeNoRounds (A.meaning app) }
     ensures same { (app : A) → PathsAreIgnored (A.meaning app) → ListedTasksComeToSame (A.meaning app) }
 {
