@@ -1,0 +1,11 @@
+pub mod Beginning
+pub mod Clear
+pub mod Closing
+pub mod Joining
+pub mod LeastMarks
+pub mod Marking
+pub mod Numbers
+pub mod Places
+pub mod Rounds
+pub mod Shown
+pub mod Splitting
