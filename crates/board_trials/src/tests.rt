@@ -1,0 +1,36 @@
+use crate::marking::{
+    Words, free_ranks, is_plain_search, marked_by_four, marked_by_two, single_sets,
+};
+use rw_sets::Access::{Read, Write};
+use std::test::Fail;
+
+#[test]
+fn earlier_marks_bar_where_one_of_the_two_writes(rt: HostRuntime) -> Result<(), Fail> {
+    for (accesses, free) in [
+        ([(5, Write), (6, Write), (5, Read)], [true, true, false]),
+        ([(5, Read), (6, Write), (5, Read)], [true, true, true]),
+        ([(5, Read), (5, Write), (5, Read)], [true, false, false]),
+        ([(0, Write), (6, Read), (0, Write)], [true, true, false]),
+    ] {
+        let sets = single_sets(rt.alloc(), &accesses, 7)?;
+        let least = marked_by_two(rt.alloc(), &sets, 7)?;
+        assert_eq!(rt;
+            free_ranks(rt.alloc(), &least, &sets)?.as_slice(),
+            free.as_slice()
+        );
+    }
+    Ok(())
+}
+
+#[test]
+fn four_threads_mark_as_a_plain_search_finds(rt: HostRuntime) -> Result<(), Fail> {
+    let mut words = Words { state: 54 };
+    for cells in 1..9 {
+        for count in [0, 1, 5, 40] {
+            let sets = words.sets(rt.alloc(), count, cells)?;
+            let least = marked_by_four(&rt, rt.alloc(), &sets, cells)?;
+            assert!(rt; is_plain_search(&least, &sets), "{cells} {count}");
+        }
+    }
+    Ok(())
+}
