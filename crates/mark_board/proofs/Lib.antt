@@ -6,6 +6,7 @@ pub mod LeastMarks
 pub mod Marking
 pub mod Numbers
 pub mod Places
+pub mod RankedSets
 pub mod Rounds
 pub mod Shown
 pub mod Splitting

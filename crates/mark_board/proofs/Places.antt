@@ -31,6 +31,17 @@ module _ {A : Type 0} where
       (λ later. ⊎_elim (λ first. inl (in_tail x a l first)) inr (by_part l m a later))
       (by_member x a (l ++ m) has)
 
+  pub in_first : (l m : List A) (a : A) → Contains l a → Contains (l ++ m) a
+  in_first [] m a has = absurd (none_in a has)
+  in_first (x ∷ l) m a has = ⊎_elim
+      (λ (same : x ≡ a). (0, omega arith, same))
+      (λ later. in_tail x a (l ++ m) (in_first l m a later))
+      (by_member x a l has)
+
+  pub in_second : (l m : List A) (a : A) → Contains m a → Contains (l ++ m) a
+  in_second [] m a has = has
+  in_second (x ∷ l) m a has = in_tail x a (l ++ m) (in_second l m a has)
+
   -- a member of the first ones is one of those before, or the last of them
   pub by_next : (l : List A) (i : ℕ) (a d : A) → i < length l → Contains (take (i + 1) l) a → Contains (take i l) a ⊎ (get_or l i d ≡ a)
   by_next l i a d inside has = ⊎_elim inl (λ last. inr (in_one (get_or l i d) a last))

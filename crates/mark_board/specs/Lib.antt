@@ -1,3 +1,4 @@
 pub mod Board
 pub mod Markers
+pub mod Ranks
 pub mod Words

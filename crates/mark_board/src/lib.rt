@@ -2,6 +2,7 @@
 #![tactic(auto)]
 
 mod board;
+mod laws;
 mod least;
 mod marker;
 mod steps;
@@ -9,6 +10,7 @@ mod view;
 mod words;
 
 pub use board::Board;
+pub use laws::free_laws;
 pub use least::Least;
 pub use marker::Marker;
 pub use view::{Mark, View};

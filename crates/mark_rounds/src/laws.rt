@@ -1,0 +1,19 @@
+//! What marks tell of pending tasks.
+
+ghost use Rattle.mark_rounds.specs.Marked.{FreeAndSafeIsClear};
+
+use app_laws::{App, lawful};
+use mark_board::free_laws;
+use rw_sets::conflict_laws;
+use task_order::earlier_laws;
+
+/// Where every pending task has marked its declared set with its place in the order, a task is clear
+/// exactly where its place is free and it is safe.
+pub fn marked_laws<A: App>()
+    ensures { (app : A) → FreeAndSafeIsClear (A.meaning app) }
+{
+    lawful::<A>();
+    earlier_laws();
+    conflict_laws();
+    free_laws();
+}
