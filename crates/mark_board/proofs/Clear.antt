@@ -83,34 +83,28 @@ same_word mark loc access same =
 there_word : (mark : Mark) (loc : ℕ) (access : Access) → mark.loc ≡ loc → mark.access ≡ access → word_of mark.loc mark.access ≡ word_of loc access
 there_word mark loc access here is = ap (λ n. word_of n mark.access) here ∙ ap (λ a. word_of loc a) is
 
--- a word that isn't lower than a rank tells that none of a lower rank was marked there
-pub word_tells : (renewals rank loc : ℕ) (access : Access) (words : List ℕ) (shown_marks : List Mark) → rank < ranks → base_of renewals + rank ≤ no_rank → HaveLeast words renewals shown_marks
-    → 0 < word_of loc access → word_of loc access < length words → (found : ℕ) → get_or words (word_of loc access) 0 ≡ found → (base_of renewals + rank ≤ found) ↔ IsClear shown_marks rank loc access
-word_tells renewals rank loc access words shown_marks few room have above inside found is = (to, from)
-  where
-    least_is : found ≡ least_at (word_of loc access) have.marks
-    least_is = sym is ∙ have.least (word_of loc access) above inside
-
-    to : base_of renewals + rank ≤ found → IsClear shown_marks rank loc access
-    to low mark has here acts =
-        bounds renewals rank (word_of loc access) have.marks (subst (λ n. base_of renewals + rank ≤ n) least_is low) mark
-        (subst (λ (ms : List Mark). Contains ms mark) (sym have.shown_is) has) (there_word mark loc access here acts)
-
-    from : IsClear shown_marks rank loc access → base_of renewals + rank ≤ found
-    from clear = subst (λ n. base_of renewals + rank ≤ n) (sym least_is)
-        (bounded renewals rank (word_of loc access) (omega (arith, few)) room have.marks have.last
-        (λ mark has same. let parts = same_word mark loc access same in clear mark (subst (λ (ms : List Mark). Contains ms mark) have.shown_is has) parts.0 parts.1))
+-- a least number that isn't lower than a rank tells that none of a lower rank was marked there
+pub least_tells : (renewals rank loc : ℕ) (access : Access) (marks : List Mark) → rank < ranks → renewals + 2 ≤ ranks → AreOfLastRounds renewals marks
+    → (number found : ℕ) → number ≡ base_of renewals + rank → found ≡ least_at (word_of loc access) marks → IsTrue (leb number found) ↔ IsClear (of_round renewals marks) rank loc access
+least_tells renewals rank loc access marks few fit last number found number_is least_is = (
+  (λ test mark has here acts.
+      let low : number ≤ found = grind (arith, nat_tests, test) in
+      bounds renewals rank (word_of loc access) marks (omega (arith, low, number_is, least_is)) mark has (there_word mark loc access here acts)),
+  (λ clear.
+      let low = bounded renewals rank (word_of loc access) (omega (arith, few)) (omega (arith, few, fit)) marks last
+      (λ mark has same. let parts = same_word mark loc access same in clear mark has parts.0 parts.1) in
+      let tested : number ≤ found = omega (arith, low, number_is, least_is) in
+      grind (arith, nat_tests, tested)),
+)
 
 -- the same by the test of a word that was read
 pub clear_by_test : (renewals rank loc : ℕ) (access : Access) (words : List ℕ) (marks : List Mark) → rank < ranks → renewals + 2 ≤ ranks → HaveLeast words renewals marks
     → (word number found : ℕ) → word ≡ word_of loc access → number ≡ base_of renewals + rank → get_elem? words word ≡ some found → IsTrue (leb number found) ↔ IsClear marks rank loc access
 clear_by_test renewals rank loc access words marks few fit have word number found word_is number_is read =
     let at : get_elem? words (word_of loc access) ≡ some found = subst (λ n. get_elem? words n ≡ some found) word_is read in
-    let tells = word_tells renewals rank loc access words marks few (omega (arith, few, fit)) have (word_above loc access) (at_inside words (word_of loc access) found at) found
-    (index_at words (word_of loc access) found 0 at) in (
-      (λ test. tells.0 (let low : number ≤ found = grind (arith, nat_tests, test) in omega (arith, low, number_is))),
-      (λ clear. let low = tells.1 clear in grind (arith, nat_tests, low, number_is)),
-    )
+    let least_is = sym (index_at words (word_of loc access) found 0 at) ∙ have.least (word_of loc access) (word_above loc access) (at_inside words (word_of loc access) found at) in
+    subst (λ (shown_marks : List Mark). IsTrue (leb number found) ↔ IsClear shown_marks rank loc access) have.shown_is
+    (least_tells renewals rank loc access have.marks few fit have.last number found number_is least_is)
 
 -- ---- locations
 

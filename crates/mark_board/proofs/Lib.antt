@@ -3,6 +3,7 @@ pub mod Clear
 pub mod Closing
 pub mod Joining
 pub mod LeastMarks
+pub mod Looking
 pub mod Marking
 pub mod Numbers
 pub mod Places

@@ -1,14 +1,14 @@
 -- Where each set of a list was marked with its rank, free is what no set of a lower rank conflicts with.
-use Rattle.std.proofs.Common.{◌≡◌, ⊎_elim, ℕ, zero, suc, ◌+◌, ◌<◌, ◌≤◌, List, [], ◌∷◌, ◌++◌, map, take, Option, Some, None, IsTrue, refl, sym, ap, subst, ◌∙◌, inl, inr, arith}
-use Rattle.std.specs.Prelude.{◌↔◌, Contains}
+use Rattle.std.proofs.Common.{◌≡◌, ⊎_elim, ℕ, zero, suc, ◌+◌, ◌≤◌, List, [], ◌∷◌, take, Option, Some, None, IsTrue, refl, sym, ap, subst, arith}
+use Rattle.std.specs.Prelude.{Contains}
 use Rattle.std.specs.List.{AllByRecursion}
 use Rattle.std.proofs.lemmas.Bool.{false≢true}
 use Rattle.rw_sets.specs.declared.access.Access.{Access}
 use Rattle.rw_sets.specs.Accesses.{Accesses, Conflicts, IsAscending, access_at, clash}
 use Rattle.rw_sets.specs.Laws.{LookupsFindPairs}
 use Rattle.mark_board.specs.declared.view.Mark.{Mark}
-use Rattle.mark_board.specs.Markers.{Bars, IsFree, marks_of}
-use Rattle.mark_board.specs.Ranks.{AreMarksOf, FreeRanksAreUnbarred, IsUnbarred, marks_from}
+use Rattle.mark_board.specs.Markers.{Bars, marks_of}
+use Rattle.mark_board.specs.Ranks.{FreeRanksAreUnbarred, marks_from}
 use Rattle.mark_board.proofs.Places.{by_member, by_part, in_first, in_head, in_second, in_tail, none_in}
 
 -- the marks of a set are those of its pairs

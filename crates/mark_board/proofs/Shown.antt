@@ -1,5 +1,5 @@
 -- What callers see of a marker, where its view changes.
-use Rattle.std.proofs.Common.{◌≡◌, ℕ, ◌+◌, ◌<◌, ◌≤◌, List, [], ◌∷◌, ◌++◌, sym, ap, subst, ◌∙◌, false}
+use Rattle.std.proofs.Common.{◌≡◌, ℕ, ◌+◌, ◌-◌, ◌<◌, ◌≤◌, List, [], ◌∷◌, ◌++◌, sym, ap, subst, ◌∙◌, false}
 use Rattle.std.specs.Prelude.{Contains}
 use Rattle.atomic_table.specs.Seated.{TableId}
 use Rattle.atomic_table.specs.Table.{Me}
@@ -9,7 +9,7 @@ use Rattle.mark_board.specs.declared.view.View.{View}
 use Rattle.mark_board.specs.Board.{both_views, with_mark}
 use Rattle.mark_board.specs.Markers.{BoardState, MarkerState, joined}
 use Rattle.mark_board.specs.Words.{AreOfLastRounds, base_of, mark_at, of_round, ranks, word_of}
-use Rattle.mark_board.proofs.Rounds.{last_append, last_one, mark_of_word, round_append, round_one}
+use Rattle.mark_board.proofs.Rounds.{last_append, last_one, mark_of_word, next_is_empty, round_append, round_one}
 
 abbrev pub shown : TableId → ℕ → View → MarkerState
 shown table renewals v = record { board = record { table = table; renewals = renewals }; number = v.number; splits = v.splits; unjoined = v.unjoined; marks = of_round renewals v.marks }
@@ -53,6 +53,11 @@ mark_shown table renewals loc access rank v below =
 -- what another had is taken over
 pub join_shown : (table : TableId) (renewals : ℕ) (v w : View) → shown table renewals (both_views v w) ≡ joined (shown table renewals v) (shown table renewals w)
 join_shown table renewals v w = ap (λ (marks : List Mark). record (joined (shown table renewals v) (shown table renewals w)) { marks = marks }) (round_append renewals v.marks w.marks)
+
+-- the next round begins without a mark
+pub next_shown : (table : TableId) (renewals : ℕ) (v : View) → 0 < renewals → AreOfLastRounds renewals v.marks
+    → shown table (renewals - 1) v ≡ record (shown table renewals v) { board = record { table = table; renewals = renewals - 1 }; marks = [] }
+next_shown table renewals v some last = ap (λ (marks : List Mark). record (shown table (renewals - 1) v) { marks = marks }) (next_is_empty renewals v.marks some last)
 
 pub still_last : (renewals : ℕ) {marks others : List Mark} → others ≡ marks → AreOfLastRounds renewals marks → AreOfLastRounds renewals others
 still_last renewals same last = subst (λ (ms : List Mark). AreOfLastRounds renewals ms) (sym same) last

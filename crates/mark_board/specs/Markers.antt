@@ -1,5 +1,5 @@
 -- Boards and markers as their callers see them.
-use Rattle.std.specs.Prelude.{◌≡◌, ℕ, suc, ◌<◌, ◌≤◌, not, ◌==◌, List, [], ◌∷◌, ◌++◌, map, filter, Contains, IsTrue, Some}
+use Rattle.std.specs.Prelude.{◌≡◌, ℕ, suc, ◌-◌, ◌<◌, ◌≤◌, not, ◌==◌, List, [], ◌∷◌, ◌++◌, map, filter, Contains, IsTrue, Some}
 use Rattle.atomic_table.specs.Seated.{TableId}
 use Rattle.rw_sets.specs.declared.access.Access.{Access}
 use Rattle.rw_sets.specs.Accesses.{Accesses, access_at, clash, excludes}
@@ -31,6 +31,10 @@ pub record LeastState : Type 0 where
 -- the first marker of a board
 abbrev pub first_marker : BoardId → MarkerState
 first_marker id = record { board = id; number = 0; splits = 0; unjoined = []; marks = [] }
+
+-- the board in its next round
+abbrev pub renewed : BoardState → BoardState
+renewed b = record b { id = record { table = b.id.table; renewals = b.id.renewals - 1 } }
 
 -- a marker from which one more is split, and the new one
 abbrev pub split_from : MarkerState → MarkerState

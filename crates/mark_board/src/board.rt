@@ -1,17 +1,17 @@
 //! A board, and what its markers do.
 
-ghost use Rattle.std.specs.Prelude.{◌≡◌, ◌<◌, ◌++◌, [], ◌∷◌, Contains, IfOk};
+ghost use Rattle.std.specs.Prelude.{◌≡◌, ◌↔◌, ◌<◌, ◌++◌, [], ◌∷◌, Contains, IfOk, IsTrue};
 ghost use Rattle.rw_sets.specs.Accesses.{IsInRange};
-ghost use Rattle.mark_board.specs.Markers.{first_marker, split_from, split_off, joined, marks_of};
+ghost use Rattle.mark_board.specs.Markers.{first_marker, split_from, split_off, joined, marks_of, renewed, IsClear, IsFree, IsFreeAt};
 
 use crate::least::Least;
 use crate::marker::Marker;
-use crate::steps::{Kept, MarkStep, Markers};
+use crate::steps::{Kept, LookStep, MarkStep, Markers};
 use crate::view::View;
 use crate::words::{base_of, word_of};
 use atomic_table::{Shared, Table};
 use kdg_text::NoRoom;
-use rw_sets::{Access, RwSet};
+use rw_sets::{Access, RwSet, lookup_laws};
 use std::alloc::Global;
 use std::marker::Model;
 use std::snapshot::Snapshot;
@@ -112,6 +112,76 @@ impl Board {
         self.table
             .shared
             .join_seat::<Markers>(&mut marker.seat, seat);
+    }
+
+    /// How often the board can still be renewed.
+    pub fn renewals(&self) -> u32
+        ensures { result ≡ self.now.id.renewals }
+    {
+        self.renewals
+    }
+
+    /// Takes all marks off, once all markers are joined. This touches no word: marks of later rounds go
+    /// below those of earlier ones. It waits for nobody and takes no memory.
+    pub fn renew(&mut self, marker: &mut Marker)
+        requires here { marker.old.board ≡ self.old.id }
+        requires first { marker.old.number ≡ 0 }
+        requires alone { marker.old.unjoined ≡ [] }
+        requires some { 0 < self.old.id.renewals }
+        ensures board { self.new ≡ renewed self.old }
+        ensures marker { marker.new ≡ record marker.old { board = self.new.id; marks = [] } }
+    {
+        self.renewals -= 1;
+        marker.renewals = self.renewals;
+    }
+
+    /// Whether no mark of a lower rank stands where it would clash, once all markers are joined: at a
+    /// location of the set, where that mark or the set writes.
+    pub fn free(&self, marker: &mut Marker, rank: u32, set: &RwSet) -> bool
+        requires here { marker.old.board ≡ self.now.id }
+        requires first { marker.old.number ≡ 0 }
+        requires alone { marker.old.unjoined ≡ [] }
+        requires in_range { IsInRange set.now self.now.cells }
+        ensures answer { IsTrue result ↔ IsFree marker.old.marks rank set.now }
+        ensures same { marker.new ≡ marker.old }
+    {
+        lookup_laws();
+        for pair in set.items() {
+            if !self.is_free_at(marker, rank, pair.0, pair.1) {
+                return false;
+            }
+        }
+        true
+    }
+
+    /// The same for one location.
+    fn is_free_at(&self, marker: &mut Marker, rank: u32, loc: u32, access: Access) -> bool
+        requires here { marker.old.board ≡ self.now.id }
+        requires first { marker.old.number ≡ 0 }
+        requires alone { marker.old.unjoined ≡ [] }
+        requires in_range { loc < self.now.cells }
+        ensures answer { IsTrue result ↔ IsFreeAt marker.old.marks rank loc access }
+        ensures same { marker.new ≡ marker.old }
+    {
+        let no_writer = self.is_clear(marker, rank, loc, Access::Write);
+        match access {
+            Access::Read => no_writer,
+            Access::Write => no_writer && self.is_clear(marker, rank, loc, Access::Read),
+        }
+    }
+
+    /// Whether no mark of a lower rank stands at a location for one access.
+    fn is_clear(&self, marker: &mut Marker, rank: u32, loc: u32, access: Access) -> bool
+        requires here { marker.old.board ≡ self.now.id }
+        requires first { marker.old.number ≡ 0 }
+        requires alone { marker.old.unjoined ≡ [] }
+        requires in_range { loc < self.now.cells }
+        ensures answer { IsTrue result ↔ IsClear marker.old.marks rank loc access }
+        ensures same { marker.new ≡ marker.old }
+    {
+        let bound = base_of(self.renewals) + u64::from(rank);
+        let read = word_of(loc, access);
+        self.table.shared.load::<LookStep>(&mut marker.seat, read) >= bound
     }
 
     /// What stands on the board, once all markers are joined. This waits for nobody and takes no memory.
