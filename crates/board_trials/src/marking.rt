@@ -201,3 +201,37 @@ pub(crate) fn free_ranks(alloc: Global, least: &Least, sets: &[RwSet]) -> Result
     }
     Ok(ranks)
 }
+
+/// Marks the sets, renews the board, marks the other sets, and tells which of their ranks are free.
+pub(crate) fn free_in_next_round(
+    alloc: Global,
+    sets: &[RwSet],
+    others: &[RwSet],
+    cells: u32,
+) -> Result<Vec<bool>, NoRoom>
+    requires sets { CanMark sets.now cells }
+    requires others { CanMark others.now cells }
+{
+    let (mut board, mut marker) = Board::new(alloc, cells)?;
+    mark_all(&board, &mut marker, sets);
+    if board.renewals() == 0 {
+        return Err(NoRoom);
+    }
+    board.renew(&mut marker);
+    mark_all(&board, &mut marker, others);
+    let mut ranks = Vec::new(alloc);
+    for (rank, set) in others.iter().enumerate() {
+        ranks.push(board.free(&mut marker, rank as u32, set))?;
+    }
+    Ok(ranks)
+}
+
+fn mark_all(board: &Board, marker: &mut Marker, sets: &[RwSet])
+    requires here { marker.old.board ≡ board.now.id }
+    requires sets { CanMark sets.now board.now.cells }
+    ensures { marker.new ≡ record marker.old { marks = marker.new.marks } }
+{
+    for (rank, set) in sets.iter().enumerate() {
+        board.mark(marker, rank as u32, set);
+    }
+}

@@ -1,5 +1,6 @@
 use crate::marking::{
-    Words, free_ranks, is_plain_search, marked_by_four, marked_by_two, single_sets,
+    Words, free_in_next_round, free_ranks, is_plain_search, marked_by_four, marked_by_two,
+    single_sets,
 };
 use rw_sets::Access::{Read, Write};
 use std::test::Fail;
@@ -18,6 +19,20 @@ fn earlier_marks_bar_where_one_of_the_two_writes(rt: HostRuntime) -> Result<(), 
             free_ranks(rt.alloc(), &least, &sets)?.as_slice(),
             free.as_slice()
         );
+    }
+    Ok(())
+}
+
+#[test]
+fn a_renewed_board_forgets_the_marks_before(rt: HostRuntime) -> Result<(), Fail> {
+    let sets = single_sets(rt.alloc(), &[(5, Write), (6, Write)], 7)?;
+    for (accesses, free) in [
+        ([(1, Write), (5, Read), (6, Write)], [true, true, true]),
+        ([(5, Read), (5, Write), (6, Write)], [true, false, true]),
+    ] {
+        let others = single_sets(rt.alloc(), &accesses, 7)?;
+        let ranks = free_in_next_round(rt.alloc(), &sets, &others, 7)?;
+        assert_eq!(rt; ranks.as_slice(), free.as_slice());
     }
     Ok(())
 }
