@@ -2,5 +2,7 @@
 #![tactic(auto)]
 
 mod laws;
+mod marking;
 
 pub use laws::marked_laws;
+pub use marking::mark_pending;
