@@ -1,0 +1,6 @@
+pub mod Between
+pub mod Pending
+pub mod Searching
+pub mod Shortest
+pub mod Together
+pub mod Visiting

@@ -1,0 +1,89 @@
+-- Pending tasks by their priorities alone.
+use Rattle.std.specs.Prelude.{◌≡◌, ℕ, suc, ◌≤◌, true, false, List, [], ◌∷◌, refl}
+use Rattle.std.specs.List.{AllByRecursion}
+use Rattle.std.specs.Ordering.{is_lt}
+use Rattle.std.proofs.Common.{arith, ap, inl, inr, ◌⊎◌}
+use Rattle.std.proofs.lemmas.Bool.{cond_both}
+use Rattle.std.proofs.lemmas.Bool.Decides.{nat_tests}
+use Rattle.task_order.specs.declared.key.Key.{Key}
+use Rattle.task_order.specs.declared.start.Start.{Start}
+use Rattle.task_order.specs.declared.task.Task.{Task}
+use Rattle.task_order.specs.Key.{key_cmp}
+use Rattle.task_order.specs.TaskList.{put_in, put_all}
+use Rattle.app_laws.specs.Execution.{children_from}
+use Rattle.mtx_reader.specs.Ascending.{IsIn}
+
+-- priorities don't fall
+abbrev pub IsByPriority : List Task → Type 0
+IsByPriority [] = Unit {0}
+IsByPriority (task ∷ tasks) = AllByRecursion (λ other. task.key.prio ≤ other.key.prio) tasks × IsByPriority tasks
+
+earlier_low : (a b : Key) → is_lt (key_cmp a b) ≡ true → a.prio ≤ b.prio
+earlier_low a b before = grind (arith, nat_tests)
+
+later_high : (a b : Key) → is_lt (key_cmp a b) ≡ false → b.prio ≤ a.prio
+later_high a b after = grind (arith, nat_tests)
+
+-- ---- what is so of each
+
+pub all_put : (P : Task → Type 0) (task : Task) (tasks : List Task) → P task → AllByRecursion P tasks → AllByRecursion P (put_in task tasks)
+all_put P task [] here all = (here, tt)
+all_put P task (other ∷ tasks) here all =
+    cond_both (is_lt (key_cmp other.key task.key)) (other ∷ put_in task tasks) (task ∷ other ∷ tasks) (AllByRecursion P)
+    (λ before. (all.0, all_put P task tasks here all.1)) (λ after. (here, all))
+
+pub all_put_all : (P : Task → Type 0) (new tasks : List Task) → AllByRecursion P new → AllByRecursion P tasks → AllByRecursion P (put_all new tasks)
+all_put_all P [] tasks fresh all = all
+all_put_all P (task ∷ new) tasks fresh all = all_put_all P new (put_in task tasks) fresh.1 (all_put P task tasks fresh.0 all)
+
+pub weaker_all : (P Q : Task → Type 0) (tasks : List Task) → ((task : Task) → P task → Q task) → AllByRecursion P tasks → AllByRecursion Q tasks
+weaker_all P Q [] weaker all = tt
+weaker_all P Q (task ∷ tasks) weaker all = (weaker task all.0, weaker_all P Q tasks weaker all.1)
+
+pub all_children : (P : Task → Type 0) (parent : Key) (number : ℕ) (starts : List Start) → ((task : Task) → IsIn starts (record { prio = task.key.prio; body = task.body }) → P task) → AllByRecursion P (children_from parent number starts)
+all_children P parent number [] each = tt
+all_children P parent number (start ∷ starts) each = (each _ (inl refl), all_children P parent (suc number) starts (λ task there. each task (inr there)))
+
+-- ---- order
+
+pub put_by_priority : (task : Task) (tasks : List Task) → IsByPriority tasks → IsByPriority (put_in task tasks)
+put_by_priority task [] up = (tt, tt)
+put_by_priority task (other ∷ tasks) up =
+    cond_both (is_lt (key_cmp other.key task.key)) (other ∷ put_in task tasks) (task ∷ other ∷ tasks) IsByPriority
+    (λ before. (all_put (λ (t : Task). other.key.prio ≤ t.key.prio) task tasks (earlier_low other.key task.key before) up.0, put_by_priority task tasks up.1))
+    (λ after. let low : task.key.prio ≤ other.key.prio = later_high other.key task.key after in
+    ((low, weaker_all (λ (t : Task). other.key.prio ≤ t.key.prio) (λ (t : Task). task.key.prio ≤ t.key.prio) tasks (λ t above. omega (arith, low, above)) up.0), up))
+
+pub put_all_by_priority : (new tasks : List Task) → IsByPriority tasks → IsByPriority (put_all new tasks)
+put_all_by_priority [] tasks up = up
+put_all_by_priority (task ∷ new) tasks up = put_all_by_priority new (put_in task tasks) (put_by_priority task tasks up)
+
+-- ---- membership
+
+there_put : (task x : Task) (tasks : List Task) → (task ≡ x) ⊎ IsIn tasks x → IsIn (put_in task tasks) x
+there_put task x [] (inl is) = inl is
+there_put task x [] (inr there) = absurd there
+there_put task x (other ∷ tasks) there =
+    cond_both (is_lt (key_cmp other.key task.key)) (other ∷ put_in task tasks) (task ∷ other ∷ tasks) (λ (ts : List Task). IsIn ts x)
+    (λ before. by_place (there_put task x tasks) there) (λ after. there)
+  where
+    by_place : ((task ≡ x) ⊎ IsIn tasks x → IsIn (put_in task tasks) x) → (task ≡ x) ⊎ IsIn (other ∷ tasks) x → IsIn (other ∷ put_in task tasks) x
+    by_place later (inl is) = inr (later (inl is))
+    by_place later (inr (inl is)) = inl is
+    by_place later (inr (inr there)) = inr (later (inr there))
+
+pub stays_there : (new tasks : List Task) (x : Task) → IsIn tasks x → IsIn (put_all new tasks) x
+stays_there [] tasks x there = there
+stays_there (task ∷ new) tasks x there = stays_there new (put_in task tasks) x (there_put task x tasks (inr there))
+
+pub comes_there : (new tasks : List Task) (x : Task) → IsIn new x → IsIn (put_all new tasks) x
+comes_there [] tasks x there = absurd there
+comes_there (task ∷ new) tasks x (inl is) = stays_there new (put_in task tasks) x (there_put task x tasks (inl is))
+comes_there (task ∷ new) tasks x (inr there) = comes_there new (put_in task tasks) x there
+
+-- each child is among the tasks
+pub child_there : (parent : Key) (number : ℕ) (starts : List Start) (start : Start) → IsIn starts start
+    → (task : Task) × IsIn (children_from parent number starts) task × (task.key.prio ≡ start.prio) × (task.body ≡ start.body)
+child_there parent number [] start there = absurd there
+child_there parent number (first ∷ starts) start (inl is) = (_, inl refl, ap (λ (s : Start). s.prio) is, ap (λ (s : Start). s.body) is)
+child_there parent number (first ∷ starts) start (inr there) = let found = child_there parent (suc number) starts start there in (found.0, inr found.1, found.2, found.3)

@@ -1,0 +1,4 @@
+pub mod Walks
+pub mod Levels
+pub mod Edges
+pub mod Laws
