@@ -1,6 +1,6 @@
 -- How a search begins, and what its levels are at its end.
 use Rattle.std.specs.Prelude.{◌≡◌, ℕ, zero, suc, ◌+◌, ◌-◌, ◌<◌, ◌≤◌, nat_lt, not, true, false, List, [], ◌∷◌, length, Option, None, Some, slice_get, refl, MatchOption}
-use Rattle.std.specs.List.{list_any}
+use Rattle.std.specs.List.{AllByRecursion, list_any}
 use Rattle.std.specs.Option.{option_map}
 use Rattle.std.proofs.Common.{arith, sym, subst, ◌∙◌, inl, inr}
 use Rattle.std.proofs.lemmas.Bool.{cond_both}
@@ -10,14 +10,18 @@ use Rattle.task_order.specs.declared.start.Start.{Start}
 use Rattle.task_order.specs.declared.task.Task.{Task}
 use Rattle.task_order.specs.Key.{end as never, is_before}
 use Rattle.task_order.specs.TaskList.{put_all}
-use Rattle.app_laws.specs.Execution.{Execution, after_steps, first_from, is_clear_before, start_of, steps_until}
+use Rattle.app_laws.specs.Execution.{Execution, acts, after_steps, first_from, is_clear_before, start_of, steps_until}
 use Rattle.app_laws.specs.Laws.{IsFirstClear, StopsWhenClear}
 use Rattle.mtx_reader.specs.declared.pattern.Pattern.{Pattern}
+use Rattle.mtx_reader.specs.Ascending.{all_push}
 use Rattle.mtx_reader.specs.Patterns.{IsPattern}
+use Rattle.hook_app.specs.Hooked.{set_at, start_of_task}
+use Rattle.hook_app.specs.Values.{values_at}
+use Rattle.output_log.specs.Entries.{Entry}
 use Rattle.level_walk.specs.declared.level.Level.{Level}
 use Rattle.level_walk.specs.declared.level.Level.TheVariants.{Unset, At}
-use Rattle.level_walk.specs.Laws.{LevelsAreShortest}
-use Rattle.level_walk.specs.Levels.{first_visits, levelling, start_levels, visit_of}
+use Rattle.level_walk.specs.Laws.{IsVisitText, LevelsAreShortest, LogsAreVisits}
+use Rattle.level_walk.specs.Levels.{first_visits, levelling, start_levels, vertex_sets, visit_deed, visit_of}
 use Rattle.level_walk.specs.Walks.{HasEdge, HasWalk, IsShortest, IsWalk, vertex_count}
 use Rattle.level_walk.proofs.Searching.{IsComing, IsSearched, begins_within, edge_within, length_unset, none_set, steps_kept}
 
@@ -130,3 +134,33 @@ levels_are_shortest stops pattern from limit last is-pattern from-one ends =
         → MatchOption found (Unit {0}) (λ steps. is_clear_before never (after_steps (levelling pattern).act steps (start_of (start_levels pattern) (first_visits pattern from))) ≡ true)
     clears None told = tt
     clears (Some steps) told = told.1.clear
+
+-- ---- what is written
+
+visit_texts : (pattern : Pattern) (start : Start) (values : List Level) → IsVisitText (visit_deed pattern start values).text
+visit_texts pattern start [] = inl refl
+visit_texts pattern start (Unset ∷ levels) = inr (suc start.body.at, start.prio, refl)
+visit_texts pattern start (At level ∷ levels) = inl refl
+
+visits_logged : (pattern : Pattern) (e : Execution Level) (pending : List Task) → AllByRecursion (λ (entry : Entry). IsVisitText entry.1) e.log
+    → AllByRecursion (λ (entry : Entry). IsVisitText entry.1) (acts (levelling pattern).act e pending).log
+visits_logged pattern e [] all = all
+visits_logged pattern e (task ∷ others) all =
+    all_push (λ (entry : Entry). IsVisitText entry.1) e.log (task.key, ((levelling pattern).act task e.cells).text) all (visit_texts pattern (start_of_task task) (values_at (set_at (vertex_sets (vertex_count pattern)) task.body.at) e.cells))
+
+steps_logged : (pattern : Pattern) (steps : ℕ) (e : Execution Level) → AllByRecursion (λ (entry : Entry). IsVisitText entry.1) e.log
+    → AllByRecursion (λ (entry : Entry). IsVisitText entry.1) (after_steps (levelling pattern).act steps e).log
+unfolding after_steps
+steps_logged pattern zero e all = all
+steps_logged pattern (suc steps) e all = let before = after_steps (levelling pattern).act steps e in visits_logged pattern before before.pending (steps_logged pattern steps e all)
+
+ran_to : {V : Type 0} (steps : Option ℕ) (e : ℕ → Execution V) (last : Execution V) → option_map e steps ≡ Some last → (count : ℕ) × (e count ≡ last)
+ran_to None e last is = absurd cc
+ran_to (Some steps) e last is = (steps, same_Some (e steps) last is)
+
+pub logs_are_visits : LogsAreVisits
+logs_are_visits pattern from limit last ends =
+    let act = (levelling pattern).act in
+    let start : Execution Level = start_of (start_levels pattern) (first_visits pattern from) in
+    let ran = ran_to (steps_until act limit never start) (λ steps. after_steps act steps start) last ends in
+    subst (λ (e : Execution Level). AllByRecursion (λ (entry : Entry). IsVisitText entry.1) e.log) ran.1 (steps_logged pattern ran.0 start tt)

@@ -1,5 +1,5 @@
 -- That the deeds of a search belong together with its sets, and its start with both.
-use Rattle.std.specs.Prelude.{◌≡◌, ℕ, zero, suc, ◌+◌, ◌<◌, ◌≤◌, ◌==◌, ◌^◌, nat_lt, List, [], ◌∷◌, ◌++◌, length, map, replicate, codes, refl}
+use Rattle.std.specs.Prelude.{◌≡◌, ℕ, zero, suc, ◌+◌, ◌<◌, ◌≤◌, ◌==◌, ◌^◌, nat_lt, List, [], ◌∷◌, ◌++◌, length, map, replicate, codes, refl, Result, Ok, Err, IfOk}
 use Rattle.std.specs.Fmt.{decimal}
 use Rattle.std.specs.List.{AllByRecursion, range_with_len}
 use Rattle.std.proofs.Common.{arith, ap, sym, subst, lit<}
@@ -100,17 +100,22 @@ module _ (pattern : Pattern) (is-pattern : IsPattern pattern) where
         (visited_fit start one.0 visit (subst (AreValuesOf (walking pattern) (set_at (vertex_sets (vertex_count pattern)) start.body.at)) one.1 are));
   }
 
-  all_unset : (count : ℕ) → AllByRecursion (λ (level : Level). Unit {0}) (replicate count Unset)
-  all_unset zero = tt
-  all_unset (suc count) = (tt, all_unset count)
-
-  pub start_fit : (levelling pattern).is_fit_cells (start_levels pattern)
-  start_fit = record { together = walking_together; count = length_unset (vertex_count pattern); fit = all_unset (vertex_count pattern) }
-
   pub first_fit : (from : ℕ) → 1 ≤ from → AreFitStarts (levelling pattern) (first_visits pattern from)
   first_fit from from-one =
       cond_both (nat_lt (vertex_count pattern) from) [] (visit_of 0 from ∷ []) (AreFitStarts (levelling pattern)) (λ beyond. tt)
       (λ among. let near : from ≤ vertex_count pattern = grind (arith, nat_tests, among) in (record { kind = refl; vertex = omega (arith, near, from-one); arg = refl; level = omega arith }, tt))
 
+all_unset : (count : ℕ) → AllByRecursion (λ (level : Level). Unit {0}) (replicate count Unset)
+all_unset zero = tt
+all_unset (suc count) = (tt, all_unset count)
+
+pub start_fit : (pattern : Pattern) → FitTogether (walking pattern) (vertex_count pattern) (vertex_sets (vertex_count pattern)) 1 → (levelling pattern).is_fit_cells (start_levels pattern)
+start_fit pattern together = record { together = together; count = length_unset (vertex_count pattern); fit = all_unset (vertex_count pattern) }
+
 pub first_few : (pattern : Pattern) (from : ℕ) → length (first_visits pattern from) < 2 ^ 32
 first_few pattern from = cond_both (nat_lt (vertex_count pattern) from) [] (visit_of 0 from ∷ []) (λ (first : List Start). length first < 2 ^ 32) (λ beyond. lit< tt) (λ among. lit< tt)
+
+-- what is so of a value follows from what else is so of it
+pub ok_then : {T E : Type 0} (result : Result T E) (P Q : T → Type 0) → ((value : T) → P value → Q value) → IfOk result P → IfOk result Q
+ok_then (Ok value) P Q implies is = implies value is
+ok_then (Err fault) P Q implies is = tt

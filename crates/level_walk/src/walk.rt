@@ -1,4 +1,4 @@
-ghost use Rattle.std.specs.Prelude.{◌≡◌, ◌<◌, ◌≤◌, ◌^◌, ◌++◌, length, IfOk, OnOk};
+ghost use Rattle.std.specs.Prelude.{◌≡◌, ◌<◌, ◌≤◌, ◌^◌, ◌++◌, length, replicate, IfOk, OnOk};
 ghost use Rattle.std.specs.List.{AllByRecursion};
 ghost use Rattle.cell_store.specs.Values.{homes, values_of};
 ghost use Rattle.app_laws.specs.Applications.{AreFitStarts};
@@ -6,6 +6,7 @@ ghost use Rattle.hook_app.specs.Hooked.{FitTogether};
 ghost use Rattle.hook_app.specs.OneLocation.{own_set};
 ghost use Rattle.mtx_reader.specs.Patterns.{IsPattern};
 ghost use Rattle.mtx_reader.specs.Places.{IsWithin};
+ghost use Rattle.level_walk.specs.declared.level.Level.TheVariants.{Unset};
 ghost use Rattle.level_walk.specs.Levels.{first_visits, level_text, level_texts, levelling, start_levels, vertex_sets, visit_of, walking};
 ghost use Rattle.level_walk.specs.Walks.{edges_from, vertex_count};
 
@@ -86,7 +87,14 @@ impl Walk {
         ensures cells { IfOk result (λ cells. cells.items ≡ start_levels self.now.pattern) }
         ensures fit { IfOk result (λ cells. (levelling self.now.pattern).is_fit_cells cells.items) }
     {
-        Ok(Vec::from_elem(self.alloc, Level::Unset, self.count() as usize)?)
+        self.unset_levels(self.count())
+    }
+
+    /// That many cells of vertices without a level.
+    pub fn unset_levels(&self, count: u32) -> Result<Vec<Level>, NoRoom>
+        ensures { IfOk result (λ cells. cells.items ≡ replicate count Unset) }
+    {
+        Ok(Vec::from_elem(self.alloc, Level::Unset, count as usize)?)
     }
 
     /// The first task, which visits the start at level 0. There is none where the start isn't a vertex.
