@@ -60,6 +60,7 @@ given_allowed words = record {
   mode = mode_is_not_free (given_value name.Mode (settings_of words));
   until = (value_lies 0 1000000000 1000 (omega arith, omega arith) (given_value name.Until (settings_of words))).1;
   clock = value_lies 1 1000000000 10 (omega arith, omega arith) (given_value name.Clock (settings_of words));
+  from = value_lies 1 4096 1 (omega arith, omega arith) (given_value name.From (settings_of words));
   budget = (value_lies 0 1000000000 1000000 (omega arith, omega arith) (given_value name.Budget (settings_of words))).1;
 }
 

@@ -8,4 +8,5 @@ pub mod InRounds
 pub mod Promising
 pub mod Reading
 pub mod Refusing
+pub mod Searched
 pub mod RoundCounting

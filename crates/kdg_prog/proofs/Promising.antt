@@ -19,8 +19,8 @@ use Rattle.spring_mesh.specs.Grammar.{mesh_of}
 use Rattle.spring_mesh.specs.Pairs as pairs
 use Rattle.app_laws.specs.Execution.{Execution}
 use Rattle.kdg_prog.specs.declared.words.Command.{Command}
-use Rattle.kdg_prog.specs.declared.words.Command.TheVariants.{Sim, Rank, Mesh}
-use Rattle.kdg_prog.specs.Answer.{input_fault, whole_print, answer_for, answer_of, deck_problem, pattern_problem, mesh_problem, FirstPassesBudget}
+use Rattle.kdg_prog.specs.declared.words.Command.TheVariants.{Sim, Rank, Mesh, Levels}
+use Rattle.kdg_prog.specs.Answer.{input_fault, whole_print, answer_for, answer_of, deck_problem, graph_problem, pattern_problem, mesh_problem, FirstPassesBudget}
 use Rattle.kdg_prog.specs.Inputs.{Offers, TakesAll, TakesInput}
 use Rattle.kdg_prog.specs.Problem.{Problem, answer_by, answer_by_end, answer_read, end_of, rounds_told}
 use Rattle.kdg_prog.specs.Bounds.{input_bound}
@@ -62,7 +62,7 @@ no_failed_read source text reads = elim reads.no_fault [
 ]
 
 -- an input that was taken, without a failed read
-taken_from_all : (big : ℕ) (source : Transfer) (text : List ℕ) → TakesAll big source (Ok text) → TakesInput big source text × (source.faults_after ≡ source.faults_before)
+pub taken_from_all : (big : ℕ) (source : Transfer) (text : List ℕ) → TakesAll big source (Ok text) → TakesInput big source text × (source.faults_after ≡ source.faults_before)
 taken_from_all zero source text reads = (reads.ok, no_failed_read source text reads)
 taken_from_all (suc big) source text takes = let none : Ok text ≡ Ok [] = takes.1 in ((takes.0, cc), takes.0.faults)
 
@@ -90,6 +90,7 @@ no_input_fault options text fault some is = by_command options.command is
     by_command : (command : Command) → answer_for command options text ≡ input_fault fault → ⊥
     by_command Sim is = no_fault_when_made (deck_problem options) options (deck_of text) (chains.generated_input options.big) fault some is
     by_command Rank is = no_fault_when_made pattern_problem options (pattern_of text) (blocks.generated_input options.big) fault some is
+    by_command Levels is = no_fault_when_made (graph_problem options) options (pattern_of text) (blocks.generated_input options.big) fault some is
     by_command Mesh is = no_fault_when_made mesh_problem options (mesh_of text) (pairs.generated_input options.big) fault some is
 
 -- the other answers tell of no reading

@@ -1,7 +1,7 @@
-use Rattle.std.proofs.Common.{◌≡◌, ℕ, ◌+◌, ◌*◌, ◌<◌, ◌≤◌, List, [], ◌∷◌, Bool, true, false, cond, Option, Some, None, Ok, Err, is_some, is_none, not, length, length-take, take, drop, get_or, refl, ap, sym, ◌∙◌, arith, unwrap_or, inl, inr, ◌-◌}
+use Rattle.std.proofs.Common.{nat_lt, ◌≡◌, ℕ, ◌+◌, ◌*◌, ◌<◌, ◌≤◌, List, [], ◌∷◌, Bool, true, false, cond, Option, Some, None, Ok, Err, is_some, is_none, not, length, length-take, take, drop, get_or, refl, ap, sym, ◌∙◌, arith, unwrap_or, inl, inr, ◌-◌}
 use Rattle.std.specs.Option.{option_and_then, option_or}
 use Rattle.std.specs.Str.{bytes_eq}
-use Rattle.kdg_prog.specs.Words.{Word, IsHeading, is_big, heading_len, big_of, number_of, pairs_of, settings_before, settings_of, given_value, name_of, is_bad, is_value, workers_value, mode_value, seed_value, until_value, clock_value, budget_value, switch_value, options_of, options_given, option_for, command_named, command_of, command_in, most_for, number_within}
+use Rattle.kdg_prog.specs.Words.{Word, IsHeading, is_big, heading_len, big_of, number_of, pairs_of, settings_before, settings_of, given_value, name_of, is_bad, is_value, workers_value, mode_value, seed_value, until_value, clock_value, from_value, budget_value, switch_value, options_of, options_given, option_for, command_named, command_of, if_made, command_in, most_for, number_within}
 use Rattle.kdg_prog.specs.Draft.{is_given, with_value, options_of_draft}
 use Rattle.kdg_prog.specs.declared.words.Command.{Command}
 use Rattle.kdg_prog.specs.declared.words.Draft.{Draft}
@@ -9,7 +9,7 @@ use Rattle.kdg_prog.specs.declared.words.Heading.{Heading}
 use Rattle.kdg_prog.specs.declared.words.OptionName.{OptionName}
 use Rattle.kdg_prog.specs.declared.words.OptionName.TheVariants as name
 use Rattle.std.proofs.lemmas.Option.{slice_get-get_or, slice_get_past, slice_get_cases}
-use Rattle.std.proofs.lemmas.Bool.{cases_Bool, cases_order, cond-true}
+use Rattle.std.proofs.lemmas.Bool.{cond-false, cases_Bool, cases_order, cond-true}
 use Rattle.std.specs.List.{slice_get}
 use Rattle.std.specs.Option.{option_map_or, option_map}
 use Rattle.std.specs.List.{find}
@@ -27,12 +27,13 @@ draft_of given = record {
   seed = option_and_then seed_value (given name.Seed);
   until = option_and_then until_value (given name.Until);
   clock = option_and_then clock_value (given name.Clock);
+  from = option_and_then from_value (given name.From);
   budget = option_and_then budget_value (given name.Budget);
   stats = option_and_then switch_value (given name.Stats);
 }
 
 draft_of-along : (f g : OptionName → Option Word) → ((name : OptionName) → f name ≡ g name) → draft_of f ≡ draft_of g
-draft_of-along f g same = rw (same name.Workers, same name.Mode, same name.Seed, same name.Until, same name.Clock, same name.Budget, same name.Stats) refl
+draft_of-along f g same = rw (same name.Workers, same name.Mode, same name.Seed, same name.Until, same name.Clock, same name.From, same name.Budget, same name.Stats) refl
 
 -- one more option has this value
 abbrev one_more : (OptionName → Option Word) → OptionName → Word → OptionName → Option Word
@@ -44,6 +45,7 @@ with_value-draft_of given name.Mode value = refl
 with_value-draft_of given name.Seed value = refl
 with_value-draft_of given name.Until value = refl
 with_value-draft_of given name.Clock value = refl
+with_value-draft_of given name.From value = refl
 with_value-draft_of given name.Budget value = refl
 with_value-draft_of given name.Stats value = refl
 
@@ -53,6 +55,7 @@ is_given-with_value draft name.Mode value name.Mode = refl
 is_given-with_value draft name.Seed value name.Seed = refl
 is_given-with_value draft name.Until value name.Until = refl
 is_given-with_value draft name.Clock value name.Clock = refl
+is_given-with_value draft name.From value name.From = refl
 is_given-with_value draft name.Budget value name.Budget = refl
 is_given-with_value draft name.Stats value name.Stats = refl
 is_given-with_value draft _ value _ = refl
@@ -64,13 +67,14 @@ one_if given = cond given 1 0
 abbrev pub given_count : Draft → ℕ
 given_count draft =
     one_if (is_given draft name.Workers) + one_if (is_given draft name.Mode) + one_if (is_given draft name.Seed)
-    + one_if (is_given draft name.Until) + one_if (is_given draft name.Clock) + one_if (is_given draft name.Budget) + one_if (is_given draft name.Stats)
+    + one_if (is_given draft name.Until) + one_if (is_given draft name.Clock) + one_if (is_given draft name.From) + one_if (is_given draft name.Budget)
+    + one_if (is_given draft name.Stats)
 
 one_if_le : (given : Bool) → one_if given ≤ 1
 one_if_le true = omega arith
 one_if_le false = omega arith
 
-pub given_count_le : (draft : Draft) → given_count draft ≤ 7
+pub given_count_le : (draft : Draft) → given_count draft ≤ 8
 given_count_le draft =
     omega (
       arith,
@@ -79,6 +83,7 @@ given_count_le draft =
       one_if_le (is_given draft name.Seed),
       one_if_le (is_given draft name.Until),
       one_if_le (is_given draft name.Clock),
+      one_if_le (is_given draft name.From),
       one_if_le (is_given draft name.Budget),
       one_if_le (is_given draft name.Stats),
     )
@@ -89,6 +94,7 @@ given_count_more draft name.Mode value none valid = rw (none, valid) (omega arit
 given_count_more draft name.Seed value none valid = rw (none, valid) (omega arith)
 given_count_more draft name.Until value none valid = rw (none, valid) (omega arith)
 given_count_more draft name.Clock value none valid = rw (none, valid) (omega arith)
+given_count_more draft name.From value none valid = rw (none, valid) (omega arith)
 given_count_more draft name.Budget value none valid = rw (none, valid) (omega arith)
 given_count_more draft name.Stats value none valid = rw (none, valid) (omega arith)
 
@@ -229,7 +235,7 @@ big_first (word ∷ words) big = (omega arith, rw big refl)
 pub refused_big_command : (words : List Word) → is_big words ≡ true → command_of words ≡ None → options_of words ≡ Err 2
 refused_big_command words big unnamed =
     let first = big_first words big in
-    let nothing : option_and_then command_named (slice_get words 1) ≡ None = rw big at unnamed in
+    let nothing : if_made (option_and_then command_named (slice_get words 1)) ≡ None = rw big at unnamed in
     refused_at words 1 first.0 (rw (big, nothing) refl) (λ k below. let none : k ≡ 0 = omega arith in ap (is_bad words) none ∙ first.1)
 
 -- what a word at an index says is said by a word that is there
@@ -244,10 +250,19 @@ named_first words command plain named =
     let first : option_and_then command_named (slice_get words 0) ≡ Some command = rw plain at named in
     (word_within command_named words 0 command first, rw (plain, first) refl)
 
+-- a command whose input may be made is one
+from_made : (found : Option Command) (command : Command) → if_made found ≡ Some command → found ≡ Some command
+from_made None command is = absurd cc
+from_made (Some found) command is = by_test (nat_lt 0 (most_for found)) is
+  where
+    by_test : (test : Bool) → cond test (Some found) None ≡ Some command → Some found ≡ Some command
+    by_test true same = same
+    by_test false none = absurd cc
+
 named_second : (words : List Word) (command : Command) → is_big words ≡ true → command_of words ≡ Some command → (2 ≤ length words) × (is_bad words 1 ≡ false)
 named_second words command big named =
-    let second : option_and_then command_named (slice_get words 1) ≡ Some command = rw big at named in
-    (word_within command_named words 1 command second, rw (big, second) refl)
+    let second : if_made (option_and_then command_named (slice_get words 1)) ≡ Some command = rw big at named in
+    (word_within command_named words 1 command (from_made (option_and_then command_named (slice_get words 1)) command second), rw (big, second) refl)
 
 -- what the number behind a command is
 numbered : (words : List Word) (command : Command) → command_of words ≡ Some command → number_of words ≡ option_and_then (number_within 1 (most_for command)) (slice_get words 2)
@@ -290,13 +305,13 @@ heading_big words command number big named said =
 
 -- how the words of the heading are found
 pub plain_command : (words : List Word) → is_big words ≡ false → command_of words ≡ option_and_then command_named (slice_get words 0)
-plain_command words plain = ap (λ big. option_and_then command_named (slice_get words (cond big 1 0))) plain
+plain_command words plain = cond-false (is_big words) _ _ plain
 
-pub big_command : (words : List Word) → is_big words ≡ true → command_of words ≡ option_and_then command_named (slice_get words 1)
-big_command words big = ap (λ b. option_and_then command_named (slice_get words (cond b 1 0))) big
+pub big_command : (words : List Word) → is_big words ≡ true → command_of words ≡ if_made (option_and_then command_named (slice_get words 1))
+big_command words big = cond-true (is_big words) _ _ big
 
 -- there are few options, each given once
-pub index_small : (words : List Word) (draft : Draft) (index : ℕ) → IsRead words draft index → index ≤ 17
+pub index_small : (words : List Word) (draft : Draft) (index : ℕ) → IsRead words draft index → index ≤ 19
 index_small words draft index read =
     elim (heading_odd words) [
       | inl one ↦ omega (arith, read.turn, given_count_le draft, one)

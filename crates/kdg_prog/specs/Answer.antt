@@ -1,5 +1,5 @@
 -- What an input is answered: a function of the options and of the input's bytes.
-use Rattle.std.specs.Prelude.{ℕ, List}
+use Rattle.std.specs.Prelude.{ℕ, List, replicate}
 use Rattle.bench_reader.specs.declared.deck.Deck.{Deck}
 use Rattle.logic_sim.specs.Circuit.{start_cells, start_tasks, finals_of}
 use Rattle.logic_sim.specs.Event.{Simulation}
@@ -11,8 +11,12 @@ use Rattle.mtx_reader.specs.declared.pattern.Pattern.{Pattern}
 use Rattle.gf2_eliminate.specs.declared.line.Line2.{Line2}
 use Rattle.gf2_eliminate.specs.Elimination.{elimination}
 use Rattle.gf2_eliminate.specs.Start as matrices
+use Rattle.level_walk.specs.declared.level.Level.{Level}
+use Rattle.level_walk.specs.declared.level.Level.TheVariants.{Unset}
+use Rattle.level_walk.specs.Levels.{first_visits, level_texts, levelling}
+use Rattle.level_walk.specs.Walks.{Search, vertex_count}
 use Rattle.kdg_prog.specs.declared.words.Command.{Command}
-use Rattle.kdg_prog.specs.declared.words.Command.TheVariants.{Sim, Rank, Mesh}
+use Rattle.kdg_prog.specs.declared.words.Command.TheVariants.{Sim, Rank, Mesh, Levels}
 use Rattle.kdg_prog.specs.declared.words.Options.{Options}
 use Rattle.kdg_prog.specs.Inputs.{deck_for, pattern_for, mesh_for}
 use Rattle.kdg_prog.specs.Problem.{Problem, Setting, answer_read, problem_of, FirstPassesRead}
@@ -64,17 +68,35 @@ mesh_setting file = record {
 abbrev pub mesh_problem : MeshFile → Problem MeshNode
 mesh_problem file = problem_of (meshes.mesh_steps file) (mesh_setting file)
 
+-- ---- the command levels
+
+-- no vertex has a level at first, and the levels are told at the end
+abbrev pub search_setting : Search → ℕ → Setting Level
+search_setting search vertices = record {
+  cells = replicate vertices Unset;
+  tasks = first_visits search.pattern search.from;
+  finals = level_texts 1;
+}
+
+abbrev pub search_problem : Search → Problem Level
+search_problem search = problem_of (levelling search.pattern) (search_setting search (vertex_count search.pattern))
+
+abbrev pub graph_problem : Options → Pattern → Problem Level
+graph_problem options pattern = search_problem (record { pattern = pattern; from = options.from })
+
 -- ---- every command
 
 -- what an input of a command is answered
 abbrev pub answer_for : Command → Options → List ℕ → Answer
 answer_for Rank options input = answer_read pattern_problem options (pattern_for options.big input)
 answer_for Mesh options input = answer_read mesh_problem options (mesh_for options.big input)
+answer_for Levels options input = answer_read (graph_problem options) options (pattern_for options.big input)
 answer_for Sim options input = answer_read (deck_problem options) options (deck_for options.big input)
 
 abbrev pub FirstPassesFor : Command → Options → List ℕ → ℕ → Type 0
 FirstPassesFor Rank options input = FirstPassesRead pattern_problem options (pattern_for options.big input)
 FirstPassesFor Mesh options input = FirstPassesRead mesh_problem options (mesh_for options.big input)
+FirstPassesFor Levels options input = FirstPassesRead (graph_problem options) options (pattern_for options.big input)
 FirstPassesFor Sim options input = FirstPassesRead (deck_problem options) options (deck_for options.big input)
 
 -- what an input is answered

@@ -13,6 +13,10 @@ latest_time = 1_000_000_000
 abbrev pub longest_clock : ℕ
 longest_clock = 1_000_000_000
 
+-- the last vertex that a search may begin at
+abbrev pub last_vertex : ℕ
+last_vertex = 4096
+
 -- the greatest budget
 abbrev pub most_tasks : ℕ
 most_tasks = 1_000_000_000

@@ -1,5 +1,5 @@
 use Rattle.std.specs.Prelude.{ℕ, Bool, false, is_some, unwrap_or}
-use Rattle.kdg_prog.specs.Words.{Word, workers_value, mode_value, seed_value, until_value, clock_value, budget_value, switch_value}
+use Rattle.kdg_prog.specs.Words.{Word, workers_value, mode_value, seed_value, until_value, clock_value, from_value, budget_value, switch_value}
 use Rattle.kdg_prog.specs.declared.words.Command.{Command}
 use Rattle.kdg_prog.specs.declared.words.Draft.{Draft}
 use Rattle.kdg_prog.specs.declared.words.Mode.TheVariants.{Rounds}
@@ -14,6 +14,7 @@ is_given draft name.Mode = is_some draft.mode
 is_given draft name.Seed = is_some draft.seed
 is_given draft name.Until = is_some draft.until
 is_given draft name.Clock = is_some draft.clock
+is_given draft name.From = is_some draft.from
 is_given draft name.Budget = is_some draft.budget
 is_given draft name.Stats = is_some draft.stats
 
@@ -24,6 +25,7 @@ with_value draft name.Mode word = record draft { mode = mode_value word }
 with_value draft name.Seed word = record draft { seed = seed_value word }
 with_value draft name.Until word = record draft { until = until_value word }
 with_value draft name.Clock word = record draft { clock = clock_value word }
+with_value draft name.From word = record draft { from = from_value word }
 with_value draft name.Budget word = record draft { budget = budget_value word }
 with_value draft name.Stats word = record draft { stats = switch_value word }
 
@@ -37,6 +39,7 @@ options_of_draft command big draft = record {
   seed = unwrap_or draft.seed 0;
   until = unwrap_or draft.until 1000;
   clock = unwrap_or draft.clock 10;
+  from = unwrap_or draft.from 1;
   budget = unwrap_or draft.budget 1000000;
   stats = unwrap_or draft.stats false;
 }

@@ -1,6 +1,7 @@
 pub mod Answer
 pub mod Bounds
 pub mod Draft
+pub mod Searches
 pub mod Headline
 pub mod Inputs
 pub mod Problem

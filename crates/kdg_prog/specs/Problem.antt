@@ -11,12 +11,11 @@ use Rattle.app_laws.specs.Applications.{Application}
 use Rattle.app_laws.specs.Execution.{Execution, first_from, run_to_end, start_of}
 use Rattle.app_laws.specs.Serial.{FirstPasses}
 use Rattle.commuting.specs.States.{State, state_of}
-use Rattle.kdg_prog.specs.declared.words.Command.{Command}
-use Rattle.kdg_prog.specs.declared.words.Command.TheVariants.{Sim, Rank, Mesh}
 use Rattle.kdg_prog.specs.declared.words.Mode.{Mode}
 use Rattle.kdg_prog.specs.declared.words.Mode.TheVariants.{Rounds}
 use Rattle.kdg_prog.specs.declared.words.Options.{Options}
 use Rattle.kdg_prog.specs.RoundCount.{rounds_within}
+use Rattle.kdg_prog.specs.Words.{word_of}
 
 -- a fault of the input, that its execution creates more tasks than the budget, or what is printed
 pub data Answer : Type 0 where
@@ -52,12 +51,6 @@ tasks_line count = figure_line (codes "tasks ") count
 abbrev pub rounds_text : Option ℕ → List ℕ
 rounds_text None = []
 rounds_text (Some rounds) = figure_line (codes "rounds ") rounds
-
--- the word that names a command
-abbrev pub word_of : Command → List ℕ
-word_of Sim = codes "sim"
-word_of Rank = codes "rank"
-word_of Mesh = codes "mesh"
 
 -- how many lines a text has, each of which ends with a line feed
 abbrev pub line_count : List ℕ → ℕ

@@ -7,9 +7,9 @@ use Rattle.kdg_text.specs.Numbers.{u64_of}
 use Rattle.logic_sim.specs.Chain.{most_inverters}
 use Rattle.gf2_eliminate.specs.Blocks.{most_blocks}
 use Rattle.spring_mesh.specs.Pairs.{most_pairs}
-use Rattle.kdg_prog.specs.Bounds.{latest_time, longest_clock, most_tasks, most_workers}
+use Rattle.kdg_prog.specs.Bounds.{last_vertex, latest_time, longest_clock, most_tasks, most_workers}
 use Rattle.kdg_prog.specs.declared.words.Command.{Command}
-use Rattle.kdg_prog.specs.declared.words.Command.TheVariants.{Sim, Rank, Mesh}
+use Rattle.kdg_prog.specs.declared.words.Command.TheVariants.{Sim, Rank, Mesh, Levels}
 use Rattle.kdg_prog.specs.declared.words.Heading.{Heading}
 use Rattle.kdg_prog.specs.declared.words.Mode.{Mode}
 use Rattle.kdg_prog.specs.declared.words.Mode.TheVariants.{Serial, Rounds, Free}
@@ -21,23 +21,30 @@ use Rattle.kdg_prog.specs.declared.words.Options.{Options}
 abbrev pub Word : Type 0
 Word = List ℕ
 
+-- the word that names a command
+abbrev pub word_of : Command → Word
+word_of Sim = codes "sim"
+word_of Rank = codes "rank"
+word_of Mesh = codes "mesh"
+word_of Levels = codes "levels"
+
+abbrev pub commands : List Command
+commands = Sim ∷ Rank ∷ Mesh ∷ Levels ∷ []
+
 -- the command that a word names
 abbrev pub command_named : Word → Option Command
-command_named word =
-    if bytes_eq word (codes "sim") then Some Sim
-    else if bytes_eq word (codes "rank") then Some Rank
-    else if bytes_eq word (codes "mesh") then Some Mesh
-    else None
+command_named word = find (λ command. bytes_eq word (word_of command)) commands
 
 -- the word before a command whose input is made from a number
 abbrev pub big_word : Word
 big_word = codes "big"
 
--- the greatest number that the input of a command is made from
+-- the greatest number that the input of a command is made from, or 0 where it is always read
 abbrev pub most_for : Command → ℕ
 most_for Sim = most_inverters
 most_for Rank = most_blocks
 most_for Mesh = most_pairs
+most_for Levels = 0
 
 -- how each option is written
 abbrev pub name_of : OptionName → Word
@@ -46,26 +53,34 @@ name_of name.Mode = codes "--mode"
 name_of name.Seed = codes "--seed"
 name_of name.Until = codes "--until"
 name_of name.Clock = codes "--clock"
+name_of name.From = codes "--from"
 name_of name.Budget = codes "--budget"
 name_of name.Stats = codes "--stats"
 
 abbrev pub option_names : List OptionName
 option_names =
-    name.Workers ∷ name.Mode ∷ name.Seed ∷ name.Until ∷ name.Clock ∷ name.Budget ∷ name.Stats ∷ []
+    name.Workers ∷ name.Mode ∷ name.Seed ∷ name.Until ∷ name.Clock ∷ name.From ∷ name.Budget ∷ name.Stats ∷ []
 
 -- the option that a word names
 abbrev pub option_named : Word → Option OptionName
 option_named word = find (λ name. bytes_eq word (name_of name)) option_names
 
--- whether a command has an option: circuits alone are simulated up to a time and have a clock
+-- circuits alone are simulated up to a time and have a clock
+abbrev pub is_timed : Command → Bool
+is_timed Sim = true
+is_timed command = false
+
+-- and searches alone begin at a vertex
+abbrev pub is_search : Command → Bool
+is_search Levels = true
+is_search command = false
+
+-- whether a command has an option
 abbrev pub takes : Command → OptionName → Bool
-takes Sim name = true
-takes Rank name.Until = false
-takes Rank name.Clock = false
-takes Rank name = true
-takes Mesh name.Until = false
-takes Mesh name.Clock = false
-takes Mesh name = true
+takes command name.Until = is_timed command
+takes command name.Clock = is_timed command
+takes command name.From = is_search command
+takes command name = true
 
 -- the option of a command that a word names
 abbrev pub option_for : Command → Word → Option OptionName
@@ -93,6 +108,9 @@ until_value = number_within 0 latest_time
 abbrev pub clock_value : Word → Option ℕ
 clock_value = number_within 1 longest_clock
 
+abbrev pub from_value : Word → Option ℕ
+from_value = number_within 1 last_vertex
+
 abbrev pub budget_value : Word → Option ℕ
 budget_value = number_within 0 most_tasks
 
@@ -107,6 +125,7 @@ is_value name.Mode word = is_some (mode_value word)
 is_value name.Seed word = is_some (seed_value word)
 is_value name.Until word = is_some (until_value word)
 is_value name.Clock word = is_some (clock_value word)
+is_value name.From word = is_some (from_value word)
 is_value name.Budget word = is_some (budget_value word)
 is_value name.Stats word = is_some (switch_value word)
 
@@ -136,9 +155,15 @@ abbrev pub given_value : OptionName → List (Word × Word) → Option Word
 given_value name settings =
     option_map (λ setting. setting.1) (find (λ setting. bytes_eq setting.0 (name_of name)) settings)
 
+-- a command whose input may be made from a number
+abbrev pub if_made : Option Command → Option Command
+if_made found = option_and_then (λ command. if nat_lt 0 (most_for command) then Some command else None) found
+
 -- the command among the words
 abbrev pub command_of : List Word → Option Command
-command_of words = option_and_then command_named (slice_get words (if is_big words then 1 else 0))
+command_of words =
+    if is_big words then if_made (option_and_then command_named (slice_get words 1))
+    else option_and_then command_named (slice_get words 0)
 
 -- the command that the other words are read for
 abbrev pub command_in : List Word → Command
@@ -152,7 +177,8 @@ number_of words = option_and_then (number_within 1 (most_for (command_in words))
 abbrev pub big_of : List Word → ℕ
 big_of words = if is_big words then unwrap_or (number_of words) 0 else 0
 
--- a word before the options is bad: it is no command, or no number that an input may be made from
+-- a word before the options is bad: it is no command, behind `big` one whose input is always read, or no number that an
+-- input may be made from
 abbrev pub is_bad_heading : List Word → ℕ → Bool
 is_bad_heading words index =
     if not (is_big words) then is_none (command_of words)
@@ -197,6 +223,7 @@ options_given command big settings = record {
   seed = unwrap_or (option_and_then seed_value (given_value name.Seed settings)) 0;
   until = unwrap_or (option_and_then until_value (given_value name.Until settings)) 1000;
   clock = unwrap_or (option_and_then clock_value (given_value name.Clock settings)) 10;
+  from = unwrap_or (option_and_then from_value (given_value name.From settings)) 1;
   budget = unwrap_or (option_and_then budget_value (given_value name.Budget settings)) 1000000;
   stats = unwrap_or (option_and_then switch_value (given_value name.Stats settings)) false;
 }
@@ -218,6 +245,7 @@ pub record IsAllowed (options : Options) : Type 0 where
   pub mode : options.mode ≢ Free
   pub until : options.until ≤ latest_time
   pub clock : (1 ≤ options.clock) × (options.clock ≤ longest_clock)
+  pub from : (1 ≤ options.from) × (options.from ≤ last_vertex)
   pub budget : options.budget ≤ most_tasks
 
 -- what stands before the options was read, and none of it is bad

@@ -1,7 +1,9 @@
 use app_laws::App;
 use cell_store::{Store, value_laws};
 use gf2_eliminate::{Line2, Matrix};
+use hook_app::{Hook, HookApp};
 use kdg_text::{NoRoom, Text};
+use level_walk::{Level, Walk};
 use logic_sim::Circuit;
 use spring_mesh::{Mesh, MeshNode};
 use task_order::StartList;
@@ -109,5 +111,28 @@ impl Runnable for Mesh {
 
     fn final_text(&self, store: &Store<MeshNode>) -> Result<Text, NoRoom> {
         self.print_finals(store)
+    }
+}
+
+impl<'d, H: Hook<Level> + Sync> Runnable for HookApp<'d, Walk, H> {
+    ghost use Rattle.kdg_prog.specs.Answer.{search_setting};
+
+    ghost setting = { λ app. search_setting app.deed app.cells };
+
+    fn too_many_tasks(&self, _budget: u64) -> Option<u64> {
+        None
+    }
+
+    fn start_cells(&self) -> Result<Vec<Level>, NoRoom> {
+        self.deed().unset_levels(self.cells())
+    }
+
+    fn start_tasks(&self) -> Result<StartList, NoRoom> {
+        self.deed().first_tasks()
+    }
+
+    fn final_text(&self, store: &Store<Level>) -> Result<Text, NoRoom> {
+        value_laws::<Level>();
+        self.deed().print_finals(store)
     }
 }

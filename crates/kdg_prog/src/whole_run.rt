@@ -1,24 +1,34 @@
 ghost use Rattle.std.specs.Prelude.{◌≡◌, ◌≢◌, ◌<◌, ◌≤◌, map, string_bytes, IfOk, IfErr};
 ghost use Rattle.gf2_eliminate.specs.Blocks.{most_blocks};
+ghost use Rattle.hook_app.specs.Kept.{DoesDeeds, IsAnswered, IsAsked};
+ghost use Rattle.level_walk.specs.Levels.{vertex_sets, walking};
+ghost use Rattle.level_walk.specs.Walks.{vertex_count};
 ghost use Rattle.logic_sim.specs.Chain.{most_inverters};
 ghost use Rattle.spring_mesh.specs.Pairs.{most_pairs};
 ghost use Rattle.outer_edge.specs.Transfers.{transfer_of};
-ghost use Rattle.kdg_prog.specs.Answer.{answer_for, answer_of, whole_print};
+ghost use Rattle.kdg_prog.specs.Answer.{answer_for, answer_of, search_problem, whole_print};
 ghost use Rattle.kdg_prog.specs.Headline.{CompletesInMemory, Promises, TellsBadWord};
 ghost use Rattle.kdg_prog.specs.Inputs.{read_of};
-ghost use Rattle.kdg_prog.specs.Refusals.{IsRefusal, IsRefusalFor};
+ghost use Rattle.kdg_prog.specs.Problem.{answer_by};
+ghost use Rattle.kdg_prog.specs.Refusals.{IsRefusal, IsRefusalFor, IsRunRefusal};
+ghost use Rattle.kdg_prog.specs.Searches.{PrintsLevels, TellsLevels};
 ghost use Rattle.kdg_prog.specs.Words.{IsAllowed, options_of};
 
 use crate::inputs::{deck_for, mesh_for, pattern_for, read_input};
 use crate::running::print_of_run;
 use crate::{Command, Options, Status, read_words};
+use app_laws::Effect;
+use cell_store::Bundle;
 use gf2_eliminate::Matrix;
+use hook_app::{Hook, HookApp};
 use kdg_text::Text;
+use level_walk::{Level, Walk, levels_are_shortest, visit};
 use logic_sim::Circuit;
 use outer_edge::{CleanSink, CleanSource, Gate, Sink, Source, write_whole};
 use spring_mesh::Mesh;
 use std::alloc::Global;
 use std::thread::Threads;
+use task_order::Task;
 
 /// Reads the words and then the whole input, runs the circuit, the elimination or the mesh that it
 /// describes, and writes the print: the log, the finals, the number of tasks, and, where figures
@@ -48,6 +58,11 @@ pub fn run<R: Threads + Sync, S: Source, K: Sink, G: Gate + Sync>(
         Promises options (transfer_of S.remaining S.faults source.old source.new)
         (transfer_of K.contents K.faults sink.old sink.new) result) }
 
+    // The levels of a graph are the lengths of shortest walks.
+    ensures levels { IfOk (options_of (map string_bytes words.now.items)) (λ options.
+        TellsLevels options (transfer_of S.remaining S.faults source.old source.new)
+        (transfer_of K.contents K.faults sink.old sink.new) result) }
+
     // Where the input is made from a number, no read is made.
     ensures unread { IfOk (options_of (map string_bytes words.now.items))
         (λ options. 0 < options.big → source.new ≡ source.old) }
@@ -74,6 +89,8 @@ pub fn run_plain<R: Threads + Sync, S: Source, K: Sink, G: Gate + Sync>(
 ) -> Status
     requires { IsAllowed options.now }
     ensures promises { Promises options.now (transfer_of S.remaining S.faults source.old source.new)
+        (transfer_of K.contents K.faults sink.old sink.new) result }
+    ensures levels { TellsLevels options.now (transfer_of S.remaining S.faults source.old source.new)
         (transfer_of K.contents K.faults sink.old sink.new) result }
     ensures unread { 0 < options.now.big → source.new ≡ source.old }
     ensures no_write { result ≢ Status.Ok → result ≢ Status.WriteFault → sink.new ≡ sink.old }
@@ -119,11 +136,13 @@ fn print_of<R: Threads + Sync, G: Gate + Sync>(
     requires { IsAllowed options.now }
     ensures print { IfOk result (λ bytes. answer_of options.now input ≡ whole_print bytes) }
     ensures refusal { IfErr result (IsRefusal options.now input) }
+    ensures levels { options.now.command ≡ Command.Levels → IfOk result (PrintsLevels options.now input) }
 {
     match options.command {
         Command::Sim => circuit_print(rt, alloc, options, input, gate),
         Command::Rank => matrix_print(rt, alloc, options, input, gate),
         Command::Mesh => mesh_print(rt, alloc, options, input, gate),
+        Command::Levels => levels_print(rt, alloc, options, input, gate),
     }
 }
 
@@ -182,4 +201,48 @@ fn mesh_print<R: Threads + Sync, G: Gate + Sync>(
     drop(input);
     let mesh = Mesh::new(alloc, file);
     print_of_run(rt, alloc, options, &mesh, gate)
+}
+
+/// The print for a graph, or why there is none. The input is dropped before the run.
+fn levels_print<R: Threads + Sync, G: Gate + Sync>(
+    rt: &R,
+    alloc: Global,
+    options: &Options,
+    input: Text,
+    gate: &G,
+) -> Result<Text, Status>
+    requires allowed { IsAllowed options.now }
+    requires big { options.now.big ≡ 0 }
+    ensures print { IfOk result (λ bytes. answer_for Command.Levels options.now input ≡ whole_print bytes) }
+    ensures refusal { IfErr result (IsRefusalFor Command.Levels options.now input) }
+    ensures levels { IfOk result (PrintsLevels options.now input) }
+{
+    levels_are_shortest();
+    let pattern = pattern_for(alloc, options.big, input.bytes())?;
+    drop(input);
+    let walk = Walk::new(alloc, pattern, options.from)?;
+    let graph = &walk;
+    let act = |task: &Task, bundle: Bundle<Level>| -> Result<Effect<Level>, Bundle<Level>>
+        requires { IsAsked (walking graph.now.pattern) (vertex_sets (vertex_count graph.now.pattern)) task.now bundle }
+        ensures { IsAnswered (walking graph.entry.now.pattern) (vertex_sets (vertex_count graph.entry.now.pattern)) task.now bundle result }
+    { visit(graph, task, bundle) };
+    levels_by(rt, alloc, options, graph, act, gate)
+}
+
+/// The same of an operator that does the deed of the search.
+fn levels_by<R: Threads + Sync, H: Hook<Level> + Sync, G: Gate + Sync>(
+    rt: &R,
+    alloc: Global,
+    options: &Options,
+    walk: &Walk,
+    hook: H,
+    gate: &G,
+) -> Result<Text, Status>
+    requires allowed { IsAllowed options.now }
+    requires does { DoesDeeds (walking walk.now.pattern) (vertex_sets (vertex_count walk.now.pattern)) (H.may hook) (H.gives hook) }
+    ensures print { IfOk result (λ bytes. answer_by options.now (search_problem walk.now) ≡ whole_print bytes) }
+    ensures refusal { IfErr result (IsRunRefusal options.now (search_problem walk.now)) }
+{
+    let app = HookApp::new(walk, walk.count(), walk.sets()?, 1, hook);
+    print_of_run(rt, alloc, options, &app, gate)
 }

@@ -1,6 +1,5 @@
 ghost use Rattle.std.specs.Prelude.{◌≡◌, ◌+◌, ◌≤◌, map, option_and_then, slice_get, string_bytes, is_some, Err, IfOk, IfErr, IfSome, OnSome};
-ghost use Rattle.kdg_prog.specs.Words.{options_of, IsAllowed, IsHeading, is_big, command_named, most_for, option_for, option_named, takes, number_within, mode_value, switch_value, is_value};
-ghost use Rattle.kdg_prog.specs.Problem.{word_of};
+ghost use Rattle.kdg_prog.specs.Words.{if_made, options_of, IsAllowed, IsHeading, is_big, command_named, most_for, option_for, option_named, takes, number_within, mode_value, switch_value, is_value, word_of};
 ghost use Rattle.kdg_prog.specs.Draft.{is_given, with_value, options_of_draft};
 
 use kdg_text::read_u64;
@@ -14,6 +13,9 @@ const LATEST_TIME: u64 = 1_000_000_000;
 /// The longest time between two ticks of a circuit's clock.
 const LONGEST_CLOCK: u64 = 1_000_000_000;
 
+/// The last vertex that a search may begin at.
+const LAST_VERTEX: u64 = 4096;
+
 /// The greatest budget.
 const MOST_TASKS: u64 = 1_000_000_000;
 
@@ -26,6 +28,8 @@ pub enum Command {
     Rank,
     /// The simulation of a mesh of springs.
     Mesh,
+    /// The search for the levels of a graph.
+    Levels,
 }
 
 /// How tasks are run.
@@ -53,6 +57,8 @@ pub struct Options {
     pub until: u64,
     /// The time between two ticks of the flip-flops, 1 to 1,000,000,000.
     pub clock: u64,
+    /// The vertex from which a graph is searched, 1 to 4,096.
+    pub from: u32,
     /// How many tasks may be created, 0 to 1,000,000,000.
     pub budget: u64,
     /// Whether figures of the run are printed behind its results.
@@ -62,10 +68,10 @@ pub struct Options {
 /// Reads the words of a command line, without the program's name, or gives the place of the first
 /// bad one, counted from 1.
 ///
-/// The first word is the command, `sim`, `rank` or `mesh`. The input is read, unless `big` stands
-/// before the command and a number behind it, from which the input is made then: 1 to 999 for
-/// `sim`, to 1,365 for `rank`, to 2,048 for `mesh`. Pairs of an option and its value follow in any
-/// order, each option at most once:
+/// The first word is the command, `sim`, `rank`, `mesh` or `levels`. The input is read, unless `big`
+/// stands before the command and a number behind it, from which the input is made then: 1 to 999 for
+/// `sim`, to 1,365 for `rank`, to 2,048 for `mesh`; that of `levels` is always read. Pairs of an
+/// option and its value follow in any order, each option at most once:
 ///
 /// | option | value | default |
 /// |---|---|---|
@@ -74,6 +80,7 @@ pub struct Options {
 /// | `--seed` | 0 to 2^64 - 1 | 0 |
 /// | `--until`, only of `sim` | 0 to 1,000,000,000 | 1000 |
 /// | `--clock`, only of `sim` | 1 to 1,000,000,000 | 10 |
+/// | `--from`, only of `levels` | 1 to 4,096 | 1 |
 /// | `--budget` | 0 to 1,000,000,000 | 1,000,000 |
 /// | `--stats` | `on` or `off` | `off` |
 ///
@@ -126,7 +133,7 @@ fn read_heading(words: &Vec<String>) -> Result<Heading, u32>
             len: 1,
         });
     }
-    let Some(command) = command_at(words, 1) else {
+    let Some(command) = made_command_at(words, 1) else {
         return Err(2);
     };
     let Some(big) = number_at(words, 2, command.most_for()) else {
@@ -156,6 +163,18 @@ fn command_at(words: &Vec<String>, index: usize) -> Option<Command>
     command_named(words.get(index)?.as_str())
 }
 
+/// The command that the word at an index names, if its input may be made from a number.
+fn made_command_at(words: &Vec<String>, index: usize) -> Option<Command>
+    ensures { result ≡ if_made (option_and_then command_named (slice_get (map string_bytes words.now.items) index)) }
+{
+    let command = command_at(words, index)?;
+    if command.most_for() > 0 {
+        Some(command)
+    } else {
+        None
+    }
+}
+
 /// The number from 1 to `most` that the word at an index spells.
 fn number_at(words: &Vec<String>, index: usize, most: u64) -> Option<u64>
     ensures value { result ≡ option_and_then (number_within 1 most) (slice_get (map string_bytes words.now.items) index) }
@@ -172,6 +191,7 @@ enum OptionName {
     Seed,
     Until,
     Clock,
+    From,
     Budget,
     Stats,
 }
@@ -184,6 +204,7 @@ fn command_named(word: &str) -> Option<Command>
         "sim" => Some(Command::Sim),
         "rank" => Some(Command::Rank),
         "mesh" => Some(Command::Mesh),
+        "levels" => Some(Command::Levels),
         _ => None,
     }
 }
@@ -197,10 +218,11 @@ impl Command {
             Command::Sim => "sim",
             Command::Rank => "rank",
             Command::Mesh => "mesh",
+            Command::Levels => "levels",
         }
     }
 
-    /// The greatest number that its input may be made from.
+    /// The greatest number that its input may be made from, or 0 where that is always read.
     fn most_for(self) -> u64
         ensures value { result ≡ most_for self }
         ensures few { result ≤ 2048 }
@@ -209,6 +231,7 @@ impl Command {
             Command::Sim => 999,
             Command::Rank => 1365,
             Command::Mesh => 2048,
+            Command::Levels => 0,
         }
     }
 
@@ -216,8 +239,9 @@ impl Command {
     fn takes(self, name: OptionName) -> bool
         ensures { result ≡ takes self name }
     {
-        match (self, name) {
-            (Command::Rank | Command::Mesh, OptionName::Until | OptionName::Clock) => false,
+        match name {
+            OptionName::Until | OptionName::Clock => self == Command::Sim,
+            OptionName::From => self == Command::Levels,
             _ => true,
         }
     }
@@ -245,6 +269,7 @@ fn option_named(word: &str) -> Option<OptionName>
         "--seed" => Some(OptionName::Seed),
         "--until" => Some(OptionName::Until),
         "--clock" => Some(OptionName::Clock),
+        "--from" => Some(OptionName::From),
         "--budget" => Some(OptionName::Budget),
         "--stats" => Some(OptionName::Stats),
         _ => None,
@@ -294,6 +319,7 @@ struct Draft {
     seed: Option<u64>,
     until: Option<u64>,
     clock: Option<u64>,
+    from: Option<u32>,
     budget: Option<u64>,
     stats: Option<bool>,
 }
@@ -309,6 +335,7 @@ impl Draft {
             OptionName::Seed => self.seed.is_some(),
             OptionName::Until => self.until.is_some(),
             OptionName::Clock => self.clock.is_some(),
+            OptionName::From => self.from.is_some(),
             OptionName::Budget => self.budget.is_some(),
             OptionName::Stats => self.stats.is_some(),
         }
@@ -325,6 +352,7 @@ impl Draft {
             OptionName::Seed => self.seed = Some(read_within(value, 0, u64::MAX)?),
             OptionName::Until => self.until = Some(read_within(value, 0, LATEST_TIME)?),
             OptionName::Clock => self.clock = Some(read_within(value, 1, LONGEST_CLOCK)?),
+            OptionName::From => self.from = Some(read_within(value, 1, LAST_VERTEX)? as u32),
             OptionName::Budget => self.budget = Some(read_within(value, 0, MOST_TASKS)?),
             OptionName::Stats => self.stats = Some(read_switch(value)?),
         }
@@ -343,6 +371,7 @@ impl Draft {
             seed: self.seed.unwrap_or(0),
             until: self.until.unwrap_or(1000),
             clock: self.clock.unwrap_or(10),
+            from: self.from.unwrap_or(1),
             budget: self.budget.unwrap_or(1_000_000),
             stats: self.stats.unwrap_or(false),
         }

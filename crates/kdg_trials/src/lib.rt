@@ -15,6 +15,8 @@ mod failures;
 #[cfg(test)]
 mod generated;
 #[cfg(test)]
+mod levels;
+#[cfg(test)]
 mod matrices;
 #[cfg(test)]
 mod meshes;

@@ -21,6 +21,7 @@ fn defaults() -> Options {
         seed: 0,
         until: 1000,
         clock: 10,
+        from: 1,
         budget: 1_000_000,
         stats: false,
     }
@@ -33,7 +34,7 @@ fn reads_words(rt: HostRuntime) -> Result<(), Fail> {
         mode: Mode::Serial,
         ..sim
     };
-    let rows: [(&[&str], Options); 25] = [
+    let rows: [(&[&str], Options); 27] = [
         (&["sim"], sim),
         (
             &["mesh"],
@@ -140,6 +141,21 @@ fn reads_words(rt: HostRuntime) -> Result<(), Fail> {
                 ..sim
             },
         ),
+        (
+            &["levels"],
+            Options {
+                command: Command::Levels,
+                ..sim
+            },
+        ),
+        (
+            &["levels", "--from", "4096", "--mode", "serial"],
+            Options {
+                command: Command::Levels,
+                from: 4096,
+                ..serial
+            },
+        ),
         (&["big", "sim", "999"], Options { big: 999, ..sim }),
         (
             &["big", "rank", "01", "--mode", "serial"],
@@ -158,7 +174,7 @@ fn reads_words(rt: HostRuntime) -> Result<(), Fail> {
 
 #[test]
 fn names_the_first_bad_word(rt: HostRuntime) -> Result<(), Fail> {
-    let rows: [(&[&str], u32); 44] = [
+    let rows: [(&[&str], u32); 52] = [
         (&[], 1),
         (&[""], 1),
         (&["Sim"], 1),
@@ -170,6 +186,14 @@ fn names_the_first_bad_word(rt: HostRuntime) -> Result<(), Fail> {
         (&["mesh", "--until", "5"], 2),
         (&["mesh", "--seed", "1", "--until", "5"], 4),
         (&["mesh", "mesh"], 2),
+        (&["levels", "--from", "0"], 3),
+        (&["levels", "--from", "4097"], 3),
+        (&["levels", "--from"], 3),
+        (&["rank", "--from", "1"], 2),
+        (&["sim", "--from", "1"], 2),
+        (&["levels", "--until", "5"], 2),
+        (&["big", "levels", "5"], 2),
+        (&["big", "levels"], 2),
         (&["--seed", "1"], 1),
         (&["big"], 2),
         (&["big", "big", "1"], 2),

@@ -1,0 +1,67 @@
+-- The print of a search tells the lengths of shortest walks.
+use Rattle.std.proofs.Common.{◌≡◌, ℕ, ◌≤◌, List, ◌++◌, true, false, Option, Some, None, Result, Ok, Err, sym, ◌∙◌, ap, subst, refl, cond, eq-eqb, inl, inr}
+use Rattle.std.specs.Prelude.{IfOk, ◌==◌}
+use Rattle.std.proofs.lemmas.Bool.{cond-true}
+use Rattle.kdg_text.specs.declared.fault.Fault.{Fault}
+use Rattle.app_laws.specs.Execution.{Execution}
+use Rattle.mtx_reader.specs.declared.pattern.Pattern.{Pattern}
+use Rattle.mtx_reader.specs.Patterns.{IsPattern}
+use Rattle.level_walk.specs.declared.level.Level.{Level}
+use Rattle.level_walk.specs.Laws.{LevelsAreShortest, LogsAreVisits}
+use Rattle.level_walk.specs.Walks.{Search}
+use Rattle.outer_edge.specs.declared.whole_input.ReadAllFault.{ReadAllFault}
+use Rattle.outer_edge.specs.declared.whole_input.ReadAllFault.TheVariants as faults
+use Rattle.kdg_prog.specs.declared.status.Status.{Status}
+use Rattle.kdg_prog.specs.declared.status.Status.TheVariants as status
+use Rattle.kdg_prog.specs.declared.words.Options.{Options}
+use Rattle.kdg_prog.specs.Answer.{graph_problem, search_problem}
+use Rattle.kdg_prog.specs.Inputs.{pattern_for}
+use Rattle.kdg_prog.specs.Problem.{answer_by, answer_by_end, end_of, print_of, rounds_text, rounds_told, whole_print}
+use Rattle.kdg_prog.specs.Refusals.{AnswersRead, IsRefusal}
+use Rattle.kdg_prog.specs.Searches.{PrintsLevels}
+use Rattle.kdg_prog.specs.Status.{status_of_fault}
+
+module _ (options : Options) (input : List ℕ) (pattern : Pattern) (shortest : LevelsAreShortest) (visits : LogsAreVisits) (is-pattern : IsPattern pattern) (from-one : 1 ≤ options.from)
+    (read : options.big ≡ 0) (spelled : pattern_for options.big input ≡ Ok pattern) where
+  print_from_end : (bytes : List ℕ) (end : Option (Execution Level)) → end_of options (graph_problem options pattern) ≡ end
+      → answer_by_end (graph_problem options pattern) options (rounds_told options (graph_problem options pattern)) end ≡ whole_print bytes → PrintsLevels options input bytes
+  print_from_end bytes None is printed = absurd cc
+  print_from_end bytes (Some last) is printed =
+      let told = rounds_told options (graph_problem options pattern) in
+      let same : print_of (graph_problem options pattern) options told last ≡ bytes = cc in
+      let whole = cond-true (options.big == 0) _ _ (eq-eqb options.big 0 read) in record {
+        pattern = pattern;
+        spelled = subst (λ (big : ℕ). pattern_for big input ≡ Ok pattern) read spelled;
+        levels = last.cells;
+        shortest = shortest pattern options.from options.budget last is-pattern from-one is;
+        log = last.log;
+        visits = visits pattern options.from options.budget last is;
+        told = told;
+        is = sym same ∙ ap (λ (text : List ℕ). text ++ rounds_text told) whole;
+      }
+
+  -- the print of a run of the search
+  pub levels_when_read : (search : Search) → search ≡ record { pattern = pattern; from = options.from } → (result : Result (List ℕ) Status) → IfOk result (λ bytes. answer_by options (search_problem search) ≡ whole_print bytes)
+      → IfOk result (PrintsLevels options input)
+  levels_when_read search is (Ok bytes) print =
+      print_from_end bytes (end_of options (graph_problem options pattern)) refl (subst (λ (s : Search). answer_by options (search_problem s) ≡ whole_print bytes) is print)
+  levels_when_read search is (Err answer) print = tt
+
+-- ---- what is refused isn't Ok
+
+fault_status : (fault : Fault) → status_of_fault fault ≡ status.Ok → ⊥
+fault_status fault = by_test (fault.bound == 0)
+  where
+    by_test : (small : _) → cond small (status.BadInput fault.line fault.kind) (status.TooLarge fault.line fault.bound) ≡ status.Ok → ⊥
+    by_test true is = cc
+    by_test false is = cc
+
+pub refused_not_ok : (options : Options) (input : List ℕ) (answer : Status) → IsRefusal options input answer → answer ≡ status.Ok → ⊥
+refused_not_ok options input answer (inl (fault, is, told)) ok = fault_status fault (sym told ∙ ok)
+refused_not_ok options input answer (inr (inl over)) ok = let told = over.told in cc
+refused_not_ok options input answer (inr (inr told)) ok = cc
+
+pub unread_not_ok : (fault : ReadAllFault) (answer : Status) → AnswersRead fault answer → answer ≡ status.Ok → ⊥
+unread_not_ok faults.ReadFault answer told ok = cc
+unread_not_ok faults.TooLarge answer told ok = cc
+unread_not_ok faults.NoRoom answer told ok = cc
