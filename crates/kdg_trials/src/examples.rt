@@ -200,7 +200,7 @@ fn bad_words_are_told_by_their_place(rt: HostRuntime) -> Result<(), Fail> {
         ("", 1),
         ("rank --until 5", 2),
         ("mesh --until 5", 2),
-        ("levels", 1),
+        ("level", 1),
         ("--budget 5", 1),
         ("sim --workers 0", 3),
         ("sim --seed 1 --seed 2", 4),

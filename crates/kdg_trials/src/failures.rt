@@ -19,6 +19,7 @@ fn plain_options() -> Options
         seed: 0,
         until: 1000,
         clock: 10,
+        from: 1,
         budget: 1_000_000,
         stats: false,
     }
