@@ -6,7 +6,7 @@ use Rattle.std.specs.List.{slice_get}
 use Rattle.std.specs.Str.{bytes_eq}
 use Rattle.std.specs.Prelude.{codes}
 use Rattle.kdg_text.specs.Numbers.{u64_of}
-use Rattle.kdg_prog.specs.Words.{Word, IsAllowed, number_within, mode_value, given_value, options_given, options_unless, options_of, first_bad, settings_of, command_in, big_of, is_big, number_of, most_for}
+use Rattle.kdg_prog.specs.Words.{Word, IsAllowed, number_within, given_value, options_given, options_unless, options_of, first_bad, settings_of, command_in, big_of, is_big, number_of, most_for}
 use Rattle.kdg_prog.specs.declared.words.Mode.TheVariants.{Serial, Rounds, Free}
 use Rattle.kdg_prog.specs.declared.words.OptionName.TheVariants as name
 use Rattle.kdg_prog.specs.declared.words.Options.{Options}
@@ -26,15 +26,6 @@ kept_lies low high default lies (Some n) =
 value_lies : (low high default : ℕ) → Lies low high default → (given : Option Word) → Lies low high (unwrap_or (option_and_then (number_within low high) given) default)
 value_lies low high default lies None = lies
 value_lies low high default lies (Some word) = kept_lies low high default lies (result_ok (u64_of word))
-
-mode_is_not_free : (given : Option Word) → unwrap_or (option_and_then mode_value given) Rounds ≢ Free
-mode_is_not_free None = λ e. cc
-mode_is_not_free (Some word) = by_word (bytes_eq word (codes "serial")) (bytes_eq word (codes "rounds"))
-  where
-    by_word : (serial rounds : Bool) → unwrap_or (cond serial (Some Serial) (cond rounds (Some Rounds) None)) Rounds ≢ Free
-    by_word true rounds = λ e. cc
-    by_word false true = λ e. cc
-    by_word false false = λ e. cc
 
 -- a number that passed the test of a range, or 0, lies below its end
 kept_below : (low high : ℕ) (read : Option ℕ) → unwrap_or (option_and_then (λ n. cond (nat_le low n && nat_le n high) (Some n) None) read) 0 ≤ high
@@ -57,7 +48,6 @@ given_allowed : (words : List Word) → IsAllowed (options_given (command_in wor
 given_allowed words = record {
   big = big_lies words (is_big words);
   workers = value_lies 1 64 4 (omega arith, omega arith) (given_value name.Workers (settings_of words));
-  mode = mode_is_not_free (given_value name.Mode (settings_of words));
   until = (value_lies 0 1000000000 1000 (omega arith, omega arith) (given_value name.Until (settings_of words))).1;
   clock = value_lies 1 1000000000 10 (omega arith, omega arith) (given_value name.Clock (settings_of words));
   from = value_lies 1 4096 1 (omega arith, omega arith) (given_value name.From (settings_of words));

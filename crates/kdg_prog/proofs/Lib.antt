@@ -1,12 +1,13 @@
 pub mod Allowed
+pub mod AtEnd
+pub mod ByCommand
 pub mod Digits
 pub mod FirstBad
 pub mod FirstTasks
 pub mod Given
 pub mod InMemory
-pub mod InRounds
 pub mod Promising
 pub mod Reading
 pub mod Refusing
-pub mod Searched
 pub mod RoundCounting
+pub mod Searched

@@ -1,6 +1,6 @@
 -- What a run promises, by the way that it ended.
 use Rattle.std.proofs.Common.{◌≡◌, ℕ, zero, suc, ◌<◌, ◌≤◌, List, [], cond, false, length, None, Some, Option, Ok, Err, nat_eq, refl, sym, ◌∙◌, ap, subst, arith, inl, inr, ◌⊎◌, length-append}
-use Rattle.std.specs.Prelude.{IfSome, Result}
+use Rattle.std.specs.Prelude.{IfSome, IfOk, IfErr, Result}
 use Rattle.std.specs.Io.KnownBytes.{Appends, Consumes}
 use Rattle.std.proofs.lemmas.Bool.{cases_Bool, cond-true, cond-false, ne_eqb}
 use Rattle.kdg_text.specs.declared.fault.Fault.{Fault}
@@ -24,7 +24,7 @@ use Rattle.kdg_prog.specs.Answer.{input_fault, whole_print, answer_for, answer_o
 use Rattle.kdg_prog.specs.Inputs.{Offers, TakesAll, TakesInput}
 use Rattle.kdg_prog.specs.Problem.{Problem, answer_by, answer_by_end, answer_read, end_of, rounds_told}
 use Rattle.kdg_prog.specs.Bounds.{input_bound}
-use Rattle.kdg_prog.specs.Headline.{IsAnswered, Completes, Promises, TellsOfReading}
+use Rattle.kdg_prog.specs.Headline.{IsAnswered, IsWritten, Completes, Promises, TellsOfReading}
 use Rattle.kdg_prog.specs.Refusals.{IsRefusal, AnswersRead}
 use Rattle.kdg_prog.specs.Status.{status_of_fault}
 
@@ -105,7 +105,7 @@ module _ (options : Options) (source sink : Transfer) (text : List ℕ) (takes :
   read = (taken_from_all options.big source text takes).1
 
   -- the print is written whole
-  pub when_printed : (bytes : List ℕ) → answer_of options text ≡ whole_print bytes → Appends sink.before sink.after bytes → sink.faults_after ≡ sink.faults_before → Promises options source sink status.Ok
+  when_printed : (bytes : List ℕ) → answer_of options text ≡ whole_print bytes → Appends sink.before sink.after bytes → sink.faults_after ≡ sink.faults_before → Promises options source sink status.Ok
   when_printed bytes is appends same_sink = record {
     print = λ e. (bytes, (text, taken, is), appends);
     budget = λ created limit e. absurd cc;
@@ -124,7 +124,7 @@ module _ (options : Options) (source sink : Transfer) (text : List ℕ) (takes :
   }
 
   -- a write of the print failed
-  pub when_cut : (bytes : List ℕ) → answer_of options text ≡ whole_print bytes → AppendsFront sink.before sink.after bytes → HasFailed sink → Promises options source sink status.WriteFault
+  when_cut : (bytes : List ℕ) → answer_of options text ≡ whole_print bytes → AppendsFront sink.before sink.after bytes → HasFailed sink → Promises options source sink status.WriteFault
   when_cut bytes is front failed = record {
     print = λ e. absurd cc;
     budget = λ created limit e. absurd cc;
@@ -143,7 +143,7 @@ module _ (options : Options) (source sink : Transfer) (text : List ℕ) (takes :
   }
 
   -- no print for the input
-  pub when_refused : (answer : Status) → IsRefusal options text answer → sink.faults_after ≡ sink.faults_before → Promises options source sink answer
+  when_refused : (answer : Status) → IsRefusal options text answer → sink.faults_after ≡ sink.faults_before → Promises options source sink answer
   when_refused answer (inl (fault, is, told)) same_sink = elim (fault_kinds fault) as (λ _. Promises options source sink answer) [
     | inl kind ↦
         let bad : answer ≡ status.BadInput fault.line fault.kind = told ∙ kind in record {
@@ -223,6 +223,13 @@ module _ (options : Options) (source sink : Transfer) (text : List ℕ) (takes :
     written = λ e. absurd cc;
     complete = λ no_fault room. absurd (room told);
   }
+
+  -- the print, or why there is none, was told
+  pub when_written : (print : Result (List ℕ) Status) (answer : Status) → IfOk print (λ bytes. answer_of options text ≡ whole_print bytes) → IfErr print (IsRefusal options text) → IsWritten print sink answer
+      → Promises options source sink answer
+  when_written (Ok bytes) answer is refusal (inl (told, appends, same_sink)) = subst (Promises options source sink) (sym told) (when_printed bytes is appends same_sink)
+  when_written (Ok bytes) answer is refusal (inr (told, front, failed)) = subst (Promises options source sink) (sym told) (when_cut bytes is front failed)
+  when_written (Err refusal) answer none is (told, same_sink) = subst (Promises options source sink) (sym told) (when_refused refusal is same_sink)
 
 -- bytes that came are among those that a source had
 came_within : (before after : Option (List ℕ)) (came input : List ℕ) → before ≡ Some input → Consumes before after came → length came ≤ length input

@@ -1,5 +1,5 @@
 -- The print of a run, and why there is none.
-use Rattle.std.proofs.Common.{◌≡◌, ℕ, ◌<◌, List, ◌++◌, ◌&&◌, Bool, true, false, cond, Option, Some, None, Ok, Err, refl, sym, ◌∙◌, ap, subst, inl, inr, arith}
+use Rattle.std.proofs.Common.{◌≡◌, ◌≢◌, ℕ, ◌<◌, List, ◌++◌, ◌&&◌, Bool, true, false, cond, Option, Some, None, Ok, Err, refl, sym, ◌∙◌, ap, subst, inl, inr, arith}
 use Rattle.std.specs.Bool.{then_some}
 use Rattle.std.specs.Prelude.{IfOk, IfErr, IsErrAnd, Result}
 use Rattle.cell_store.specs.Laws.{HomesAreValues}
@@ -22,8 +22,8 @@ use Rattle.kdg_prog.specs.Refusals.{AnswersSerial, IsRefusalBy, IsRunRefusal}
 pub run_is_home : {V : Type 0} (act : Operator V) (budget : ℕ) (start : Execution V) (finals : Finals V) → HomesAreValues V → IsRun act budget start finals → AreAllHome finals.store
 run_is_home act budget start finals laws run = subst AreAllHome (sym run.store) (laws.all_home run.end.cells)
 
-pub refused_with : (result : Result (List ℕ) Status) (P Q : Status → Type 0) → ((answer : Status) → P answer → Q answer) → IsErrAnd result P → IfErr result Q
-refused_with (Ok bytes) P Q implies is = tt
+pub refused_with : {T : Type 0} (result : Result T Status) (P Q : Status → Type 0) → ((answer : Status) → P answer → Q answer) → IsErrAnd result P → IfErr result Q
+refused_with (Ok given) P Q implies is = tt
 refused_with (Err answer) P Q implies is = implies answer is
 
 module _ {V : Type 0} (options : Options) (problem : Problem V) where
@@ -56,9 +56,9 @@ module _ {V : Type 0} (options : Options) (problem : Problem V) where
       is-bytes ∙ (λ i. text_shown options (run.text i) (problem.finals (cells i)) (run.count i) ++ rounds_text told) in
       (λ i. answer_by_end problem options (tells i) (run.ends i)) ∙ ap whole_print (sym printed)
 
-  -- in mode serial no rounds are told
-  pub none_told_in_serial : options.mode ≡ Serial → rounds_told options problem ≡ None
-  none_told_in_serial serial = ap (λ mode. cond (options.stats && is_in_rounds mode) (Some (rounds_of options problem)) None) serial ∙ neither options.stats
+  -- where it isn't mode rounds, no rounds are told
+  pub none_told : is_in_rounds options.mode ≡ false → rounds_told options problem ≡ None
+  none_told elsewhere = ap (λ rounds. cond (options.stats && rounds) (Some (rounds_of options problem)) None) elsewhere ∙ neither options.stats
     where
       neither : (stats : Bool) → cond (stats && false) (Some (rounds_of options problem)) None ≡ None
       neither true = refl
@@ -73,15 +73,15 @@ module _ {V : Type 0} (options : Options) (problem : Problem V) where
       asked true = refl
       asked false = refl
 
-  -- the refusal of a run in rounds that does not end within the budget
-  pub refusal_when_endless : options.mode ≡ Rounds → (created limit : ℕ) → end_of options problem ≡ None → limit ≡ options.budget → limit < created → (answer : Status) → answer ≡ status.Budget created limit → IsRunRefusal options problem answer
-  refusal_when_endless in_rounds created limit endless bound above answer told =
+  -- the refusal of a run that isn't serial and does not end within the budget
+  pub refusal_when_endless : options.mode ≢ Serial → (created limit : ℕ) → end_of options problem ≡ None → limit ≡ options.budget → limit < created → (answer : Status) → answer ≡ status.Budget created limit → IsRunRefusal options problem answer
+  refusal_when_endless not_serial created limit endless bound above answer told =
       inr (inl (record {
         created = created;
         told = told ∙ ap (status.Budget created) bound;
         above = omega (arith, above, bound);
         over = ap (answer_by_end problem options (rounds_told options problem)) endless;
-        first = λ serial. absurd (let both : Serial ≡ Rounds = sym serial ∙ in_rounds in cc);
+        first = λ serial. absurd (not_serial serial);
       }))
 
   module _ (cells : List V) (tasks : List Start) (is-cells : cells ≡ problem.cells) (is-tasks : tasks ≡ problem.tasks) where

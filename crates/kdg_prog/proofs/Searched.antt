@@ -1,6 +1,6 @@
 -- The print of a search tells the lengths of shortest walks.
 use Rattle.std.proofs.Common.{◌≡◌, ℕ, ◌≤◌, List, ◌++◌, true, false, Option, Some, None, Result, Ok, Err, sym, ◌∙◌, ap, subst, refl, cond, eq-eqb, inl, inr}
-use Rattle.std.specs.Prelude.{IfOk, ◌==◌}
+use Rattle.std.specs.Prelude.{IfOk, IfErr, ◌==◌}
 use Rattle.std.proofs.lemmas.Bool.{cond-true}
 use Rattle.kdg_text.specs.declared.fault.Fault.{Fault}
 use Rattle.app_laws.specs.Execution.{Execution}
@@ -15,11 +15,14 @@ use Rattle.kdg_prog.specs.declared.status.Status.{Status}
 use Rattle.kdg_prog.specs.declared.status.Status.TheVariants as status
 use Rattle.kdg_prog.specs.declared.words.Options.{Options}
 use Rattle.kdg_prog.specs.Answer.{graph_problem, search_problem}
-use Rattle.kdg_prog.specs.Inputs.{pattern_for}
+use Rattle.outer_edge.specs.Transfers.{Transfer}
+use Rattle.kdg_prog.specs.Headline.{IsWritten}
+use Rattle.kdg_prog.specs.Inputs.{TakesAll, pattern_for}
 use Rattle.kdg_prog.specs.Problem.{answer_by, answer_by_end, end_of, print_of, rounds_text, rounds_told, whole_print}
 use Rattle.kdg_prog.specs.Refusals.{AnswersRead, IsRefusal}
-use Rattle.kdg_prog.specs.Searches.{PrintsLevels}
+use Rattle.kdg_prog.specs.Searches.{PrintsLevels, WritesLevels}
 use Rattle.kdg_prog.specs.Status.{status_of_fault}
+use Rattle.kdg_prog.proofs.Promising.{taken_from_all}
 
 module _ (options : Options) (input : List ℕ) (pattern : Pattern) (shortest : LevelsAreShortest) (visits : LogsAreVisits) (is-pattern : IsPattern pattern) (from-one : 1 ≤ options.from)
     (read : options.big ≡ 0) (spelled : pattern_for options.big input ≡ Ok pattern) where
@@ -65,3 +68,16 @@ pub unread_not_ok : (fault : ReadAllFault) (answer : Status) → AnswersRead fau
 unread_not_ok faults.ReadFault answer told ok = cc
 unread_not_ok faults.TooLarge answer told ok = cc
 unread_not_ok faults.NoRoom answer told ok = cc
+
+-- where a print was written whole, it is that of the search
+pub levels_when_written : (options : Options) (source sink : Transfer) (input : List ℕ) → TakesAll options.big source (Ok input) → (print : Result (List ℕ) Status) (answer : Status) → IfOk print (PrintsLevels options input)
+    → IfErr print (IsRefusal options input) → IsWritten print sink answer → answer ≡ status.Ok → WritesLevels options source sink
+levels_when_written options source sink input takes (Ok bytes) answer prints none (inl whole) ok = record {
+  input = input;
+  read = (taken_from_all options.big source input takes).0;
+  bytes = bytes;
+  prints = prints;
+  written = whole.1;
+}
+levels_when_written options source sink input takes (Ok bytes) answer prints none (inr cut) ok = absurd (let told = sym cut.0 ∙ ok in cc)
+levels_when_written options source sink input takes (Err refusal) answer none refused told ok = absurd (refused_not_ok options input refusal refused (sym told.0 ∙ ok))

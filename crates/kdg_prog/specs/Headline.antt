@@ -1,5 +1,5 @@
 -- What a run promises of its answer, for the words and the input that it is given.
-use Rattle.std.specs.Prelude.{ℕ, ◌≡◌, ◌≢◌, ◌+◌, ◌<◌, ◌≤◌, ◌⊎◌, ◌↔◌, List, ◌++◌, length, Result, Err}
+use Rattle.std.specs.Prelude.{ℕ, ◌≡◌, ◌≢◌, ◌+◌, ◌<◌, ◌≤◌, ◌⊎◌, ◌↔◌, List, ◌++◌, length, Result, Ok, Err}
 use Rattle.std.specs.Io.KnownBytes.{Appends}
 use Rattle.kdg_text.specs.declared.fault.Fault.{Fault}
 use Rattle.outer_edge.specs.Transfers.{Transfer, HasFailed, BringsMore, BringsAtMost}
@@ -89,6 +89,13 @@ pub record Promises (options : Options) (source sink : Transfer) (answer : Statu
   pub causes : HasCause options source sink answer
   pub written : answer ≡ status.WriteFault → WritesFront options source sink
   pub complete : Completes options source sink answer
+
+-- what is written of a print, and how it is answered: the whole, or a front of it where a write fails; nothing where there is none
+abbrev pub IsWritten : Result (List ℕ) Status → Transfer → Status → Type 0
+IsWritten (Ok bytes) sink answer =
+    ((answer ≡ status.Ok) × Appends sink.before sink.after bytes × (sink.faults_after ≡ sink.faults_before))
+    ⊎ ((answer ≡ status.WriteFault) × AppendsFront sink.before sink.after bytes × HasFailed sink)
+IsWritten (Err refusal) sink answer = (answer ≡ refusal) × (sink.faults_after ≡ sink.faults_before)
 
 -- over devices in memory that never fail: a print is written whole where there is room for more than it
 abbrev pub IsAnsweredInMemory : Options → CleanWriter → CleanWriter → Answer → Status → Type 0

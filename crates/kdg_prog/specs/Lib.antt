@@ -1,11 +1,12 @@
 pub mod Answer
 pub mod Bounds
 pub mod Draft
-pub mod Searches
 pub mod Headline
 pub mod Inputs
 pub mod Problem
 pub mod Refusals
 pub mod RoundCount
+pub mod Searches
+pub mod Starts
 pub mod Status
 pub mod Words

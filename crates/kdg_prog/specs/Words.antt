@@ -97,7 +97,10 @@ workers_value = number_within 1 most_workers
 
 abbrev pub mode_value : Word → Option Mode
 mode_value word =
-    if bytes_eq word (codes "serial") then Some Serial else if bytes_eq word (codes "rounds") then Some Rounds else None
+    if bytes_eq word (codes "serial") then Some Serial
+    else if bytes_eq word (codes "rounds") then Some Rounds
+    else if bytes_eq word (codes "free") then Some Free
+    else None
 
 abbrev pub seed_value : Word → Option ℕ
 seed_value = number_within 0 (2 ^ 64 - 1)
@@ -242,7 +245,6 @@ options_of words =
 pub record IsAllowed (options : Options) : Type 0 where
   pub big : options.big ≤ most_for options.command
   pub workers : (1 ≤ options.workers) × (options.workers ≤ most_workers)
-  pub mode : options.mode ≢ Free
   pub until : options.until ≤ latest_time
   pub clock : (1 ≤ options.clock) × (options.clock ≤ longest_clock)
   pub from : (1 ≤ options.from) × (options.from ≤ last_vertex)

@@ -1,11 +1,13 @@
 //! The command line, the top calls from words and bytes to bytes, and their answers.
 #![tactic(auto)]
 
+mod described;
 mod faults;
 mod inputs;
 mod laws;
 mod problem;
 mod running;
+mod searching;
 mod status;
 mod whole_run;
 mod words;

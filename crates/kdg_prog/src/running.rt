@@ -1,7 +1,8 @@
-ghost use Rattle.std.specs.Prelude.{◌≡◌, ◌++◌, IfOk, IfErr, OnOk};
+ghost use Rattle.std.specs.Prelude.{◌≡◌, ◌≢◌, ◌++◌, IfOk, IfErr, OnOk};
 ghost use Rattle.cell_store.specs.Values.{AreAllHome, values_of};
 ghost use Rattle.kdg_prog.specs.Problem.{answer_by, figure_line, line_count, made_from, print_of_finals, problem_of, rounds_text, text_shown, whole_print};
 ghost use Rattle.kdg_prog.specs.Refusals.{IsRunRefusal};
+ghost use Rattle.kdg_prog.specs.Starts.{IsStarted};
 ghost use Rattle.kdg_prog.specs.Words.{IsAllowed};
 
 use crate::laws::round_count_laws;
@@ -10,16 +11,18 @@ use crate::{Mode, Options, Status};
 use app_laws::{App, Finals, execution_laws, orderly_laws, serial};
 use cell_store::value_laws;
 use commuting::{round_laws, standing_laws};
+use free_pool::run_free;
 use graph_update::Engine;
 use kdg_text::{NoRoom, Text, push_u64};
 use outer_edge::Gate;
 use output_log::join_laws;
 use source_pool::run_rounds;
 use std::alloc::Global;
+use std::sync::Wait;
 use std::thread::Threads;
 use task_order::put_in_laws;
 
-/// Runs an application, and gives the print, or why there is none.
+/// Runs an application in mode serial or rounds, and gives the print, or why there is none.
 pub(crate) fn print_of_run<R: Threads + Sync, A: Runnable, G: Gate + Sync>(
     rt: &R,
     alloc: Global,
@@ -27,20 +30,29 @@ pub(crate) fn print_of_run<R: Threads + Sync, A: Runnable, G: Gate + Sync>(
     app: &A,
     gate: &G,
 ) -> Result<Text, Status>
-    requires { IsAllowed options.now }
+    requires allowed { IsAllowed options.now }
+    requires plain { options.now.mode ≢ Mode.Free }
     ensures print { IfOk result (λ bytes. answer_by options.now (problem_of (A.meaning app.now) (A.setting app.now)) ≡ whole_print bytes) }
+    ensures refusal { IfErr result (IsRunRefusal options.now (problem_of (A.meaning app.now) (A.setting app.now))) }
+{
+    check_start(options, app)?;
+    match options.mode {
+        Mode::Serial => serial_print(alloc, options, app),
+        Mode::Rounds => rounds_print(rt, alloc, options, app, gate),
+        Mode::Free => unreachable!(),
+    }
+}
+
+/// Refuses a run whose start has more tasks than the budget, where it pays to know that early.
+fn check_start<A: Runnable>(options: &Options, app: &A) -> Result<(), Status>
     ensures refusal { IfErr result (IsRunRefusal options.now (problem_of (A.meaning app.now) (A.setting app.now))) }
 {
     execution_laws::<A::Val>();
     put_in_laws();
     let limit = options.budget;
-    if let Some(created) = app.too_many_tasks(limit) {
-        return Err(Status::Budget { created, limit });
-    }
-    match options.mode {
-        Mode::Serial => serial_print(alloc, options, app),
-        Mode::Rounds => rounds_print(rt, alloc, options, app, gate),
-        Mode::Free => unreachable!(),
+    match app.too_many_tasks(limit) {
+        Some(created) => Err(Status::Budget { created, limit }),
+        None => Ok(()),
     }
 }
 
@@ -58,6 +70,24 @@ fn serial_print<A: Runnable>(alloc: Global, options: &Options, app: &A) -> Resul
     Ok(finals_print(alloc, options, app, finals, None)?)
 }
 
+/// An engine at the start of a run, or why there is none.
+fn start_run<'a, A: Runnable>(
+    alloc: Global,
+    options: &Options,
+    app: &'a A,
+) -> Result<Engine<'a, A>, Status>
+    requires { IsAllowed options.now }
+    ensures started { IfOk result (λ engine. IsStarted options.now (A.meaning app.now) (A.setting app.now) engine.progress) }
+    ensures app { IfOk result (λ engine. engine.app ≡ app.now) }
+    ensures refusal { IfErr result (IsRunRefusal options.now (problem_of (A.meaning app.now) (A.setting app.now))) }
+{
+    execution_laws::<A::Val>();
+    put_in_laws();
+    let cells = app.start_cells()?;
+    let tasks = app.start_tasks()?;
+    Ok(Engine::begin_uncounted(alloc, app, cells, tasks, options.budget)?)
+}
+
 /// The print of a run in rounds.
 fn rounds_print<R: Threads + Sync, A: Runnable, G: Gate + Sync>(
     rt: &R,
@@ -72,19 +102,37 @@ fn rounds_print<R: Threads + Sync, A: Runnable, G: Gate + Sync>(
     ensures refusal { IfErr result (IsRunRefusal options.now (problem_of (A.meaning app.now) (A.setting app.now))) }
 {
     value_laws::<A::Val>();
-    execution_laws::<A::Val>();
     orderly_laws::<A>();
-    put_in_laws();
     join_laws();
     round_laws::<A>();
     standing_laws::<A>();
     round_count_laws::<A>();
-    let cells = app.start_cells()?;
-    let tasks = app.start_tasks()?;
-    let engine = Engine::begin_uncounted(alloc, app, cells, tasks, options.budget)?;
+    let engine = start_run(alloc, options, app)?;
     let (finals, rounds) = run_rounds(rt, alloc, engine, gate, options.seed, options.workers)?;
     let rounds = options.stats.then_some(rounds);
     Ok(finals_print(alloc, options, app, finals, rounds)?)
+}
+
+/// Runs an application in mode free, and gives the print, or why there is none.
+pub(crate) fn print_of_free_run<R: Threads + Wait + Sync, A: Runnable, G: Gate + Sync>(
+    rt: &R,
+    alloc: Global,
+    options: &Options,
+    app: &A,
+    gate: &G,
+) -> Result<Text, Status>
+    requires allowed { IsAllowed options.now }
+    requires mode { options.now.mode ≡ Mode.Free }
+    ensures print { IfOk result (λ bytes. answer_by options.now (problem_of (A.meaning app.now) (A.setting app.now)) ≡ whole_print bytes) }
+    ensures refusal { IfErr result (IsRunRefusal options.now (problem_of (A.meaning app.now) (A.setting app.now))) }
+{
+    value_laws::<A::Val>();
+    orderly_laws::<A>();
+    join_laws();
+    check_start(options, app)?;
+    let engine = start_run(alloc, options, app)?;
+    let finals = run_free(rt, alloc, engine, gate, options.seed, options.workers)?;
+    Ok(finals_print(alloc, options, app, finals, None)?)
 }
 
 /// The print of a run that has ended: its log, the finals and the number of tasks, or their figures

@@ -39,7 +39,7 @@ pub enum Mode {
     Serial,
     /// In rounds that all workers end together.
     Rounds,
-    /// By workers that never wait for one another.
+    /// By workers of which none waits for the others to end their tasks.
     Free,
 }
 
@@ -76,7 +76,7 @@ pub struct Options {
 /// | option | value | default |
 /// |---|---|---|
 /// | `--workers` | 1 to 64 | 4 |
-/// | `--mode` | `serial` or `rounds` | `rounds` |
+/// | `--mode` | `serial`, `rounds` or `free` | `rounds` |
 /// | `--seed` | 0 to 2^64 - 1 | 0 |
 /// | `--until`, only of `sim` | 0 to 1,000,000,000 | 1000 |
 /// | `--clock`, only of `sim` | 1 to 1,000,000,000 | 10 |
@@ -283,6 +283,7 @@ fn read_mode(word: &str) -> Option<Mode>
     match word {
         "serial" => Some(Mode::Serial),
         "rounds" => Some(Mode::Rounds),
+        "free" => Some(Mode::Free),
         _ => None,
     }
 }

@@ -6,10 +6,11 @@ use kdg_prog::{Status, run};
 use kdg_text::NoRoom;
 use outer_edge::{CleanSink, CleanSource, Gate, Seeded};
 use std::alloc::{AllocError, Global};
+use std::sync::Wait;
 use std::thread::Threads;
 
 /// The ways to run.
-pub const MODES: [&str; 2] = ["serial", "rounds"];
+pub const MODES: [&str; 3] = ["serial", "rounds", "free"];
 
 /// The words of a line.
 fn words_of(alloc: Global, line: &str) -> Result<Vec<String>, AllocError> {
@@ -21,7 +22,7 @@ fn words_of(alloc: Global, line: &str) -> Result<Vec<String>, AllocError> {
 }
 
 /// The status and what was printed, by reads and writes of at most `step` bytes.
-pub fn answer<R: Threads + Sync>(
+pub fn answer<R: Threads + Wait + Sync>(
     rt: &R,
     alloc: Global,
     words: &str,
@@ -34,7 +35,7 @@ pub fn answer<R: Threads + Sync>(
 }
 
 /// The same at a gate.
-pub fn answer_at<R: Threads + Sync, G: Gate + Sync>(
+pub fn answer_at<R: Threads + Wait + Sync, G: Gate + Sync>(
     rt: &R,
     alloc: Global,
     gate: &G,
@@ -52,7 +53,7 @@ pub fn answer_at<R: Threads + Sync, G: Gate + Sync>(
 }
 
 /// The same with the words for a mode behind the others.
-pub fn answer_in<R: Threads + Sync>(
+pub fn answer_in<R: Threads + Wait + Sync>(
     rt: &R,
     alloc: Global,
     mode: &str,

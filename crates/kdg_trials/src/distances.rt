@@ -5,11 +5,12 @@ use crate::decks::{C17, C17_STIMULUS, RING};
 use kdg_prog::Status;
 use std::alloc::Global;
 use std::process::Abort;
+use std::sync::Wait;
 use std::test::Fail;
 use std::thread::Threads;
 
-/// Asks that a deck, which prints the same in both modes, runs in so many rounds.
-fn expect_rounds<R: Threads + Abort + Sync>(
+/// Asks that a deck, which prints the same in all modes, runs in so many rounds.
+fn expect_rounds<R: Threads + Wait + Abort + Sync>(
     rt: &R,
     alloc: Global,
     words: &str,

@@ -78,6 +78,7 @@ fn runs_are_in_rounds_unless_another_mode_is_named(rt: HostRuntime) -> Result<()
         ("sim --stats on", C17, C17_ROUNDS_PRINT),
         ("sim --mode rounds --stats on", C17, C17_ROUNDS_PRINT),
         ("sim --mode serial --stats on", C17, C17_PRINT),
+        ("sim --mode free --stats on", C17, C17_PRINT),
         ("sim --stats on", "", "tasks 0\nrounds 0\n"),
         (
             "sim --stats on",
@@ -93,17 +94,19 @@ fn runs_are_in_rounds_unless_another_mode_is_named(rt: HostRuntime) -> Result<()
 }
 
 #[test]
-fn a_long_run_prints_the_same_in_both_modes(rt: HostRuntime) -> Result<(), Fail> {
+fn a_long_run_prints_the_same_in_all_modes(rt: HostRuntime) -> Result<(), Fail> {
     let words = "sim --until 400";
-    let (serial, wanted) = answer_in(&rt, rt.alloc(), "serial", words, FEEDBACK, 4096)?;
-    let (rounds, print) = answer_in(&rt, rt.alloc(), "rounds", words, FEEDBACK, 4096)?;
-    assert_eq!(rt; (serial, rounds), (Status::Ok, Status::Ok));
-    assert_eq!(rt; print.held(), wanted.held());
+    let (_, wanted) = answer_in(&rt, rt.alloc(), "serial", words, FEEDBACK, 4096)?;
     assert!(rt;
-        print
+        wanted
             .held()
             .ends_with(b"399 s4 0\nfinal s4 0\ntasks 2284\n")
     );
+    for mode in MODES {
+        let (answered, print) = answer_in(&rt, rt.alloc(), mode, words, FEEDBACK, 4096)?;
+        assert_eq!(rt; answered, Status::Ok, "{mode}");
+        assert_eq!(rt; print.held(), wanted.held(), "{mode}");
+    }
     Ok(())
 }
 
@@ -205,7 +208,7 @@ fn bad_words_are_told_by_their_place(rt: HostRuntime) -> Result<(), Fail> {
         ("sim --workers 0", 3),
         ("sim --seed 1 --seed 2", 4),
         ("sim --budget", 3),
-        ("sim --mode free", 3),
+        ("sim --mode fre", 3),
         ("rank --clock 2", 2),
         ("sim --until 1000000001", 3),
     ] {

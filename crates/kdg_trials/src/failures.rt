@@ -1,5 +1,6 @@
 //! What is answered where a source or a sink fails, or an input is too large.
 
+ghost use Rattle.std.specs.Prelude.{◌≢◌};
 ghost use Rattle.kdg_prog.specs.Words.{IsAllowed};
 
 use crate::decks::{C17, C17_PRINT};
@@ -9,7 +10,8 @@ use std::test::Fail;
 
 /// What the plain command asks for.
 fn plain_options() -> Options
-    ensures { IsAllowed result }
+    ensures allowed { IsAllowed result }
+    ensures plain { result.mode ≢ Mode.Free }
 {
     Options {
         command: Command::Sim,

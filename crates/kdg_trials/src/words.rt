@@ -34,7 +34,7 @@ fn reads_words(rt: HostRuntime) -> Result<(), Fail> {
         mode: Mode::Serial,
         ..sim
     };
-    let rows: [(&[&str], Options); 27] = [
+    let rows: [(&[&str], Options); 28] = [
         (&["sim"], sim),
         (
             &["mesh"],
@@ -59,6 +59,13 @@ fn reads_words(rt: HostRuntime) -> Result<(), Fail> {
             },
         ),
         (&["sim", "--workers", "1"], Options { workers: 1, ..sim }),
+        (
+            &["sim", "--mode", "free"],
+            Options {
+                mode: Mode::Free,
+                ..sim
+            },
+        ),
         (&["sim", "--workers", "64"], Options { workers: 64, ..sim }),
         (&["sim", "--workers", "007"], Options { workers: 7, ..sim }),
         (&["sim", "--mode", "serial"], serial),
@@ -208,7 +215,7 @@ fn names_the_first_bad_word(rt: HostRuntime) -> Result<(), Fail> {
         (&["sim", "--workers", "+4"], 3),
         (&["sim", "--workers", "4 "], 3),
         (&["sim", "--mode", "Rounds"], 3),
-        (&["sim", "--mode", "free"], 3),
+        (&["sim", "--mode", "Free"], 3),
         (&["sim", "--mode", "Serial"], 3),
         (&["sim", "--seed", "18446744073709551616"], 3),
         (&["sim", "--seed", "-1"], 3),

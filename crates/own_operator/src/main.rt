@@ -1,6 +1,6 @@
 //! `own_operator MODE WORKERS LENGTH`: runs an operator of one's own, a closure over 64 groups of cells, and
-//! prints what the cells come to. MODE is `serial` or `rounds`, WORKERS a number from 1 to 64, LENGTH how
-//! many multiplications a task makes.
+//! prints what the cells come to. MODE is `serial`, `rounds` or `free`, WORKERS a number from 1 to 64,
+//! LENGTH how many multiplications a task makes.
 #![tactic(auto)]
 
 ghost use Rattle.std.specs.Prelude.{◌≤◌, IfSome};
@@ -18,7 +18,7 @@ use std::process::ExitCode;
 
 fn main(rt: HostRuntime) -> ExitCode {
     let Some(setting) = setting_of(&rt) else {
-        let _ = eprintln!(rt; "usage: own_operator serial|rounds WORKERS LENGTH");
+        let _ = eprintln!(rt; "usage: own_operator serial|rounds|free WORKERS LENGTH");
         return ExitCode::from(2);
     };
     let Ok(finals) = run(&rt, rt.alloc(), &setting) else {

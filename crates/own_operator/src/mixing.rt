@@ -9,6 +9,7 @@ ghost use Rattle.own_operator.specs.Mixing.{group_sets, group_tasks, mixing, mul
 use crate::setting::{Mode, Setting};
 use app_laws::{Child, ChildList, Effect, Finals, serial};
 use cell_store::Bundle;
+use free_pool::run_free;
 use graph_update::Engine;
 use hook_app::{Deed, Hook, HookApp};
 use kdg_text::{NoRoom, Text};
@@ -16,6 +17,7 @@ use outer_edge::Seeded;
 use rw_sets::{Access, RwSet};
 use source_pool::run_rounds;
 use std::alloc::Global;
+use std::sync::Wait;
 use std::thread::Threads;
 use task_order::{Body, Start, StartList, Task};
 
@@ -143,7 +145,7 @@ fn first_tasks(alloc: Global) -> Result<StartList, NoRoom>
 }
 
 /// Runs the operator to its end: 4,096 tasks.
-pub fn run<R: Threads + Sync>(
+pub fn run<R: Threads + Wait + Sync>(
     rt: &R,
     alloc: Global,
     setting: &Setting,
@@ -159,7 +161,7 @@ pub fn run<R: Threads + Sync>(
 }
 
 /// The same of an operator that keeps the mixer's deed.
-fn run_by<R: Threads + Sync, H: Hook<u64> + Sync>(
+fn run_by<R: Threads + Wait + Sync, H: Hook<u64> + Sync>(
     rt: &R,
     alloc: Global,
     setting: &Setting,
@@ -171,15 +173,14 @@ fn run_by<R: Threads + Sync, H: Hook<u64> + Sync>(
 {
     let app = HookApp::new(mixer, GROUPS, sets(alloc)?, 1, hook);
     let (cells, first) = (first_cells(alloc)?, first_tasks(alloc)?);
-    match setting.mode {
-        Mode::Serial => serial(alloc, &app, cells, first, 10_000).map_err(|_| NoRoom),
-        Mode::Rounds => {
-            let engine = Engine::begin_uncounted(alloc, &app, cells, first, 10_000).map_err(
-                |_| NoRoom,
-            )?;
-            let ended = run_rounds(rt, alloc, engine, &Seeded, 1, setting.workers);
-            let (finals, _) = ended.map_err(|_| NoRoom)?;
-            Ok(finals)
-        }
+    if let Mode::Serial = setting.mode {
+        return serial(alloc, &app, cells, first, 10_000).map_err(|_| NoRoom);
     }
+    let engine = Engine::begin_uncounted(alloc, &app, cells, first, 10_000).map_err(|_| NoRoom)?;
+    if let Mode::Free = setting.mode {
+        return run_free(rt, alloc, engine, &Seeded, 1, setting.workers).map_err(|_| NoRoom);
+    }
+    let ended = run_rounds(rt, alloc, engine, &Seeded, 1, setting.workers);
+    let (finals, _) = ended.map_err(|_| NoRoom)?;
+    Ok(finals)
 }

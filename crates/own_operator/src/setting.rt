@@ -4,11 +4,13 @@ ghost use Rattle.std.specs.Prelude.{◌≤◌, IfSome};
 
 use kdg_text::read_u64;
 
-/// How the tasks are run: the earliest one at a time, or all that are clear in rounds.
+/// How the tasks are run: the earliest one at a time, all that are clear in rounds, or by workers that
+/// each claim the next one as soon as they have performed one.
 #[derive(Clone, Copy)]
 pub enum Mode {
     Serial,
     Rounds,
+    Free,
 }
 
 /// What the words say.
@@ -31,6 +33,7 @@ pub fn read_setting(words: &[String]) -> Option<Setting>
     let mode = match mode.as_str() {
         "serial" => Mode::Serial,
         "rounds" => Mode::Rounds,
+        "free" => Mode::Free,
         _ => return None,
     };
     let workers = u32_of(workers)?;

@@ -7,6 +7,6 @@ use Rattle.kdg_prog.proofs.whole_run.run.Goals as goal
 
 pub returns-in-Ok-clause-levels : goal.returns-in-Ok-clause-levels
 returns-in-Ok-clause-levels g c =
-    let source = transfer_of g.S.Source.remaining g.S.Source.faults c.args.source.now c.run_plain.new.source in
-    let sink = transfer_of g.K.Sink.contents g.K.Sink.faults c.args.sink.now c.run_plain.new.sink in
-    subst (λ (read : Result Options ℕ). IfOk read (λ options. TellsLevels options source sink c.run_plain.result)) c.in-Ok.ensures.value c.run_plain.ensures.levels
+    let source = transfer_of g.S.Source.remaining g.S.Source.faults c.args.source.now c.run_asked.new.source in
+    let sink = transfer_of g.K.Sink.contents g.K.Sink.faults c.args.sink.now c.run_asked.new.sink in
+    subst (λ (read : Result Options ℕ). IfOk read (λ options. TellsLevels options source sink c.run_asked.result)) c.in-Ok.ensures.value c.run_asked.ensures.levels

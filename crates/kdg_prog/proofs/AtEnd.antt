@@ -1,5 +1,5 @@
--- A run in rounds, as the sequential run that it comes to.
-use Rattle.std.proofs.Common.{◌≡◌, ℕ, ◌-◌, List, [], ◌∷◌, Option, Some, None, ap, sym, subst, ◌∙◌, inr, arith}
+-- The end of a run in rounds or in mode free, as that of the sequential run.
+use Rattle.std.proofs.Common.{◌≡◌, ◌≢◌, ℕ, ◌-◌, List, [], ◌∷◌, Option, Some, None, ap, sym, subst, ◌∙◌, inr, arith}
 use Rattle.std.specs.Prelude.{IfSome}
 use Rattle.std.specs.List.Sorted.{IsStrictlySortedBy}
 use Rattle.std.specs.Option.{option_map}
@@ -9,7 +9,7 @@ use Rattle.cell_store.specs.Laws.{HomesAreValues}
 use Rattle.cell_store.specs.Values.{AreAllHome, values_of}
 use Rattle.output_log.specs.Entries.{Entry, IsInKeyOrder, joined_by_key, joined_texts}
 use Rattle.output_log.specs.Laws.{JoinsWithNone}
-use Rattle.app_laws.specs.Applications.{Application}
+use Rattle.app_laws.specs.Applications.{Application, AreFitStarts}
 use Rattle.app_laws.specs.Execution.{Execution, after_steps, steps_until}
 use Rattle.app_laws.specs.Order.{IsOrderly, Pairwise}
 use Rattle.app_laws.specs.Serial.{IsRun}
@@ -21,14 +21,16 @@ use Rattle.crew.specs.declared.answers.OverCause.{OverCause}
 use Rattle.crew.specs.declared.answers.OverCause.TheVariants as faults
 use Rattle.run_laws.specs.Answers.{IsBegun}
 use Rattle.run_laws.specs.Progress.{Progress}
+use Rattle.free_pool.specs.Runs.{IsRunEnd}
 use Rattle.source_pool.specs.Runs.{IsRoundsEnd, IsRunFault, rest_of_run, state_at_rest}
 use Rattle.task_order.specs.declared.start.Start.{Start}
 use Rattle.kdg_prog.specs.declared.status.Status.{Status}
-use Rattle.kdg_prog.specs.declared.words.Mode.TheVariants.{Rounds}
+use Rattle.kdg_prog.specs.declared.words.Mode.TheVariants.{Serial}
 use Rattle.kdg_prog.specs.declared.words.Options.{Options}
-use Rattle.kdg_prog.specs.Problem.{Problem, end_of, first_state, rounds_of, start_for}
+use Rattle.kdg_prog.specs.Problem.{Problem, Setting, end_of, first_state, rounds_of, start_for}
 use Rattle.kdg_prog.specs.Refusals.{AnswersRounds, IsRunRefusal}
 use Rattle.kdg_prog.specs.RoundCount.{RoundsToTheEndAreCounted}
+use Rattle.kdg_prog.specs.Starts.{IsStarted}
 use Rattle.kdg_prog.proofs.Refusing.{refusal_when_endless}
 
 ascends : (entries : List Entry) → Pairwise (λ entry other. key_cmp entry.0 other.0 ≡ Less) entries → IsInKeyOrder entries
@@ -36,14 +38,22 @@ unfolding IsStrictlySortedBy
 ascends [] each = tt
 ascends (entry ∷ entries) each = (each.0, ascends entries each.1)
 
--- the cells are home at its end
-pub home_in_rounds : {V : Type 0} (app : Application V) (progress : Progress V) (finals : Finals V) (rounds : ℕ) → HomesAreValues V → IsRoundsEnd app progress finals rounds → AreAllHome finals.store
-home_in_rounds app progress finals rounds values ended = subst AreAllHome (sym ended.store) (values.all_home ended.last.cells)
+-- the end of a run in rounds is one of a run in any mode
+pub any_end : {V : Type 0} (app : Application V) (progress : Progress V) (finals : Finals V) (rounds : ℕ) → IsRoundsEnd app progress finals rounds → IsRunEnd app progress finals
+any_end app progress finals rounds ended = record { last = ended.last; is_end = ended.is_end; store = ended.store; text = ended.text; count = ended.count }
 
--- an engine that has begun on the first cells and tasks, as they were made
-pub begun_for : {V : Type 0} (options : Options) (problem : Problem V) (cells : List V) (tasks : List Start) (progress : Progress V) → cells ≡ problem.cells → tasks ≡ problem.tasks →
-    IsBegun problem.app cells tasks options.budget progress → IsBegun problem.app problem.cells problem.tasks options.budget progress
-begun_for options problem cells tasks progress is-cells is-tasks begun = (rw (is-cells, is-tasks) at begun)
+-- the cells are home at the end
+pub home_at_end : {V : Type 0} (app : Application V) (progress : Progress V) (finals : Finals V) → HomesAreValues V → IsRunEnd app progress finals → AreAllHome finals.store
+home_at_end app progress finals values ended = subst AreAllHome (sym ended.store) (values.all_home ended.last.cells)
+
+-- an engine that has begun on cells and tasks that are those of the setting
+pub started_on : {V : Type 0} (options : Options) (app : Application V) (setting : Setting V) (cells : List V) (tasks : List Start) (progress : Progress V) → cells ≡ setting.cells → tasks ≡ setting.tasks →
+    IsBegun app cells tasks options.budget progress → app.is_fit_cells cells → AreFitStarts app tasks → IsStarted options app setting progress
+started_on options app setting cells tasks progress is-cells is-tasks begun fit_cells fit_tasks = record {
+  begun = (rw (is-cells, is-tasks) at begun);
+  fit_cells = subst app.is_fit_cells is-cells fit_cells;
+  fit_tasks = subst (AreFitStarts app) is-tasks fit_tasks;
+}
 
 module _ {V : Type 0} (options : Options) (problem : Problem V) (progress : Progress V) (values : HomesAreValues V) (begun : IsBegun problem.app problem.cells problem.tasks options.budget progress) where
   -- it begins where the sequential run does
@@ -58,12 +68,12 @@ module _ {V : Type 0} (options : Options) (problem : Problem V) (progress : Prog
       let limit : progress.limit - progress.ended ≡ options.budget = omega (arith, begun.limit_is, begun.none_ended) in
       (λ i. run_from problem.app.act (limit i) end (begins i))
 
-  pub refusal_of_rounds : options.mode ≡ Rounds → (fault : OverCause) (answer : Status) → IsRunFault problem.app progress fault → AnswersRounds fault answer → IsRunRefusal options problem answer
-  refusal_of_rounds in_rounds (faults.Budget created limit) answer over told =
-      refusal_when_endless options problem in_rounds created limit (sym rest_is_whole ∙ over.too_long) (over.limit_is ∙ begun.limit_is) over.above answer told
-  refusal_of_rounds in_rounds faults.NoRoom answer over told = inr (inr told)
+  pub refusal_of_run : options.mode ≢ Serial → (fault : OverCause) (answer : Status) → IsRunFault problem.app progress fault → AnswersRounds fault answer → IsRunRefusal options problem answer
+  refusal_of_run not_serial (faults.Budget created limit) answer over told =
+      refusal_when_endless options problem not_serial created limit (sym rest_is_whole ∙ over.too_long) (over.limit_is ∙ begun.limit_is) over.above answer told
+  refusal_of_run not_serial faults.NoRoom answer over told = inr (inr told)
 
-  module _ (orderly : (steps : ℕ) → IsOrderly (after_steps problem.app.act steps (start_for problem))) (joins : JoinsWithNone) (finals : Finals V) (rounds : ℕ) (ended : IsRoundsEnd problem.app progress finals rounds) where
+  module _ (orderly : (steps : ℕ) → IsOrderly (after_steps problem.app.act steps (start_for problem))) (joins : JoinsWithNone) (finals : Finals V) (ended : IsRunEnd problem.app progress finals) where
     ends : end_of options problem ≡ Some ended.last
     ends = sym rest_is_whole ∙ ended.is_end
 
@@ -77,8 +87,8 @@ module _ {V : Type 0} (options : Options) (problem : Problem V) (progress : Prog
             subst (λ e. IsInKeyOrder e.log) same (ascends _ (orderly steps).log_ascending)
 
     -- its end is that of the sequential run
-    pub run_in_rounds : IsRun problem.app.act options.budget (start_for problem) finals
-    run_in_rounds = record {
+    pub run_at_end : IsRun problem.app.act options.budget (start_for problem) finals
+    run_at_end = record {
       end = ended.last;
       ends = ends;
       store = ended.store;
@@ -86,8 +96,9 @@ module _ {V : Type 0} (options : Options) (problem : Problem V) (progress : Prog
       count = omega (arith, ended.count, begun.none_ended);
     }
 
-    -- it has taken as many rounds as the definition counts
-    pub rounds_in_rounds : RoundsToTheEndAreCounted problem.app → RoundsAreOneNumber problem.app → IsReady problem.app (first_state problem) → rounds_of options problem ≡ rounds
-    rounds_in_rounds counted one_number ready =
-        let taken = subst (λ (found : Option (Execution V)). IfSome found (λ _. TakesRounds problem.app (rounds_of options problem) (first_state problem))) ends (counted (first_state problem) ready options.budget) in
-        one_number (first_state problem) (rounds_of options problem) rounds taken (subst (λ state. TakesRounds problem.app rounds state) begins ended.rounds_are)
+  -- it has taken as many rounds as the definition counts
+  pub rounds_in_rounds : (finals : Finals V) (rounds : ℕ) → IsRoundsEnd problem.app progress finals rounds → RoundsToTheEndAreCounted problem.app → RoundsAreOneNumber problem.app → IsReady problem.app (first_state problem) → rounds_of options problem ≡ rounds
+  rounds_in_rounds finals rounds ended counted one_number ready =
+      let ends : end_of options problem ≡ Some ended.last = sym rest_is_whole ∙ ended.is_end in
+      let taken = subst (λ (found : Option (Execution V)). IfSome found (λ _. TakesRounds problem.app (rounds_of options problem) (first_state problem))) ends (counted (first_state problem) ready options.budget) in
+      one_number (first_state problem) (rounds_of options problem) rounds taken (subst (λ state. TakesRounds problem.app rounds state) begins ended.rounds_are)

@@ -1,0 +1,113 @@
+//! The command that tells the levels of a graph.
+
+ghost use Rattle.std.specs.Prelude.{◌≡◌, ◌≢◌, IfOk, IfErr};
+ghost use Rattle.hook_app.specs.Kept.{DoesDeeds, IsAnswered, IsAsked};
+ghost use Rattle.level_walk.specs.Levels.{vertex_sets, walking};
+ghost use Rattle.level_walk.specs.Walks.{vertex_count};
+ghost use Rattle.kdg_prog.specs.Answer.{answer_for, search_problem, whole_print};
+ghost use Rattle.kdg_prog.specs.Problem.{answer_by};
+ghost use Rattle.kdg_prog.specs.Refusals.{IsRefusalFor, IsRunRefusal};
+ghost use Rattle.kdg_prog.specs.Searches.{PrintsLevels};
+ghost use Rattle.kdg_prog.specs.Words.{IsAllowed};
+
+use crate::described::walk_for;
+use crate::running::{print_of_free_run, print_of_run};
+use crate::{Command, Mode, Options, Status};
+use app_laws::Effect;
+use cell_store::Bundle;
+use hook_app::{Hook, HookApp};
+use kdg_text::Text;
+use level_walk::{Level, Walk, levels_are_shortest, visit};
+use outer_edge::Gate;
+use std::alloc::Global;
+use std::sync::Wait;
+use std::thread::Threads;
+use task_order::Task;
+
+/// The print for a graph in mode serial or rounds, or why there is none.
+pub(crate) fn levels_print<R: Threads + Sync, G: Gate + Sync>(
+    rt: &R,
+    alloc: Global,
+    options: &Options,
+    input: Text,
+    gate: &G,
+) -> Result<Text, Status>
+    requires allowed { IsAllowed options.now }
+    requires big { options.now.big ≡ 0 }
+    requires plain { options.now.mode ≢ Mode.Free }
+    ensures print { IfOk result (λ bytes. answer_for Command.Levels options.now input ≡ whole_print bytes) }
+    ensures refusal { IfErr result (IsRefusalFor Command.Levels options.now input) }
+    ensures levels { IfOk result (PrintsLevels options.now input) }
+{
+    levels_are_shortest();
+    let walk = walk_for(alloc, options, input)?;
+    let graph = &walk;
+    let act = |task: &Task, bundle: Bundle<Level>| -> Result<Effect<Level>, Bundle<Level>>
+        requires { IsAsked (walking graph.now.pattern) (vertex_sets (vertex_count graph.now.pattern)) task.now bundle }
+        ensures { IsAnswered (walking graph.entry.now.pattern) (vertex_sets (vertex_count graph.entry.now.pattern)) task.now bundle result }
+    { visit(graph, task, bundle) };
+    levels_by(rt, alloc, options, graph, act, gate)
+}
+
+/// The same of an operator that does the deed of the search.
+fn levels_by<R: Threads + Sync, H: Hook<Level> + Sync, G: Gate + Sync>(
+    rt: &R,
+    alloc: Global,
+    options: &Options,
+    walk: &Walk,
+    hook: H,
+    gate: &G,
+) -> Result<Text, Status>
+    requires allowed { IsAllowed options.now }
+    requires plain { options.now.mode ≢ Mode.Free }
+    requires does { DoesDeeds (walking walk.now.pattern) (vertex_sets (vertex_count walk.now.pattern)) (H.may hook) (H.gives hook) }
+    ensures print { IfOk result (λ bytes. answer_by options.now (search_problem walk.now) ≡ whole_print bytes) }
+    ensures refusal { IfErr result (IsRunRefusal options.now (search_problem walk.now)) }
+{
+    let app = HookApp::new(walk, walk.count(), walk.sets()?, 1, hook);
+    print_of_run(rt, alloc, options, &app, gate)
+}
+
+/// The print for a graph in mode free, or why there is none.
+pub(crate) fn free_levels_print<R: Threads + Wait + Sync, G: Gate + Sync>(
+    rt: &R,
+    alloc: Global,
+    options: &Options,
+    input: Text,
+    gate: &G,
+) -> Result<Text, Status>
+    requires allowed { IsAllowed options.now }
+    requires big { options.now.big ≡ 0 }
+    requires mode { options.now.mode ≡ Mode.Free }
+    ensures print { IfOk result (λ bytes. answer_for Command.Levels options.now input ≡ whole_print bytes) }
+    ensures refusal { IfErr result (IsRefusalFor Command.Levels options.now input) }
+    ensures levels { IfOk result (PrintsLevels options.now input) }
+{
+    levels_are_shortest();
+    let walk = walk_for(alloc, options, input)?;
+    let graph = &walk;
+    let act = |task: &Task, bundle: Bundle<Level>| -> Result<Effect<Level>, Bundle<Level>>
+        requires { IsAsked (walking graph.now.pattern) (vertex_sets (vertex_count graph.now.pattern)) task.now bundle }
+        ensures { IsAnswered (walking graph.entry.now.pattern) (vertex_sets (vertex_count graph.entry.now.pattern)) task.now bundle result }
+    { visit(graph, task, bundle) };
+    free_levels_by(rt, alloc, options, graph, act, gate)
+}
+
+/// The same of an operator that does the deed of the search.
+fn free_levels_by<R: Threads + Wait + Sync, H: Hook<Level> + Sync, G: Gate + Sync>(
+    rt: &R,
+    alloc: Global,
+    options: &Options,
+    walk: &Walk,
+    hook: H,
+    gate: &G,
+) -> Result<Text, Status>
+    requires allowed { IsAllowed options.now }
+    requires mode { options.now.mode ≡ Mode.Free }
+    requires does { DoesDeeds (walking walk.now.pattern) (vertex_sets (vertex_count walk.now.pattern)) (H.may hook) (H.gives hook) }
+    ensures print { IfOk result (λ bytes. answer_by options.now (search_problem walk.now) ≡ whole_print bytes) }
+    ensures refusal { IfErr result (IsRunRefusal options.now (search_problem walk.now)) }
+{
+    let app = HookApp::new(walk, walk.count(), walk.sets()?, 1, hook);
+    print_of_free_run(rt, alloc, options, &app, gate)
+}
