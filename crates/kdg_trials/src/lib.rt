@@ -23,4 +23,6 @@ mod meshes;
 #[cfg(test)]
 mod recording;
 #[cfg(test)]
+mod together;
+#[cfg(test)]
 mod words;
