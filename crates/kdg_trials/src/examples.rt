@@ -197,6 +197,26 @@ fn a_deck_has_at_most_4096_signals(rt: HostRuntime) -> Result<(), Fail> {
     Ok(())
 }
 
+/// An input and 4,095 gates.
+#[test]
+fn a_deck_may_have_4096_signals(rt: HostRuntime) -> Result<(), Fail> {
+    let mut deck = String::new(rt.alloc());
+    deck.push_str("INPUT(a)\nOUTPUT(g4095)\n")?;
+    for number in 1..4096 {
+        deck.push_str(&format!(in rt.alloc(); "g{number} = NOT(a)\n")?)?;
+    }
+    for mode in ["serial", "rounds"] {
+        let (answered, sink) = answer_in(&rt, rt.alloc(), mode, "sim", &deck, 4096)?;
+        assert_eq!(rt; answered, Status::Ok, "{mode}");
+        assert_eq!(rt;
+            sink.held(),
+            b"1 g4095 1\nfinal g4095 1\ntasks 8190\n".as_slice(),
+            "{mode}"
+        );
+    }
+    Ok(())
+}
+
 #[test]
 fn bad_words_are_told_by_their_place(rt: HostRuntime) -> Result<(), Fail> {
     for (words, word) in [
