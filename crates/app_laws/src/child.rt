@@ -81,7 +81,7 @@ impl ChildList {
         self.push_further(child)
     }
 
-    /// The same, also where there are children. This is apart, since most tasks have at most one, and
+    /// Adds a child, also where there are some. This is apart, since most tasks have at most one, and
     /// what it moves takes place.
     #[inline(never)]
     fn push_further(&mut self, child: Child) -> Result<(), Child>

@@ -118,7 +118,7 @@ fn counted_run<A: App, L: Ledger>(
     Ok(Finals { store, text, count })
 }
 
-/// Gives the pending tasks short paths where that pays, when so many tasks ran since it was last looked
+/// Gives the pending tasks short paths where that pays, when `since` tasks ran since it was last looked
 /// whether the earliest one's path is long, and the application ignores paths. Answers how many ran since.
 #[inline(always)]
 fn shortened<A: App>(
@@ -142,7 +142,7 @@ fn shortened<A: App>(
     Ok(0)
 }
 
-/// Whether new paths for so many pending tasks take little beside what so many tasks took that ran.
+/// Whether new paths for `pending` tasks take little beside what the `ran` tasks took that acted since.
 ///
 /// Each pending task gets a new path and is put into a new list, which takes about as long as to put in a
 /// child. Where 32 tasks ran for each of them, that is a small part of their time, while no path has grown
@@ -164,7 +164,7 @@ fn begins_long(pending: &TaskList) -> bool {
     }
 }
 
-/// The same tasks with paths of one number: they are numbered in the order of their paths, as first
+/// Gives tasks paths of one number: they are numbered in the order of their paths, as first
 /// tasks are. So they keep their order, and their children theirs among them.
 #[inline(never)]
 fn renamed(alloc: Global, mut pending: TaskList) -> Result<TaskList, NoRoom>

@@ -120,7 +120,7 @@ fn names_behind(line: &[u8]) -> Tokens
 }
 
 impl Making {
-    /// An empty deck of so many signals.
+    /// An empty deck of `signals` signals.
     fn new(alloc: Global, signals: u32) -> Result<Making, NoRoom>
         ensures deck { IfOk result (λ making. making.deck ≡ record { signals = []; outputs = []; stimuli = []; delays = [] }) }
         ensures marked { IfOk result (IsMarked signals) }

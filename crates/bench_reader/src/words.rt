@@ -94,7 +94,7 @@ pub(crate) fn is_constant(word: &[u8]) -> bool
     spells(word, b"vdd") || spells(word, b"gnd")
 }
 
-/// Whether a gate of this kind may have so many fan-ins, of which there is one.
+/// Whether a gate of this kind may have `fan_ins` fan-ins, at least one.
 pub(crate) fn is_arity(kind: GateKind, fan_ins: usize) -> bool
     ensures { result ≡ is_arity kind fan_ins }
 {

@@ -23,7 +23,7 @@ pub(crate) fn exchange<V>(home: &mut [Cell<V>], set: &[(u32, Access)], held: &mu
     }
 }
 
-/// The same, of cells that stand in memory.
+/// Exchanges cells that stand in memory.
 #[inline(never)]
 fn exchange_many<V>(home: &mut [Cell<V>], set: &[(u32, Access)], held: &mut [Cell<V>])
     requires ascending { IsAscending set.now }

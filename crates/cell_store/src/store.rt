@@ -189,7 +189,7 @@ fn read_copies<V: Held>(cells: &Vec<Cell<V>>, set: &[(u32, Access)]) -> Result<C
     Ok(CellList::InMemory(many_copies(cells, set)?))
 }
 
-/// The same, in memory.
+/// Copies of the cells of a set, in memory.
 #[inline(never)]
 fn many_copies<V: Held>(cells: &Vec<Cell<V>>, set: &[(u32, Access)]) -> Result<Vec<Cell<V>>, NoRoom>
     requires { AreHome cells.now.items set.now }

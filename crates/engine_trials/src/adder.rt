@@ -46,7 +46,7 @@ pub fn adder_runs<R: Threads + Sync>(
     runs_by(rt, alloc, ahead, add, budget)
 }
 
-/// The same of an operator that keeps the adder's deed.
+/// What the runs come to by an operator that keeps the adder's deed.
 fn runs_by<R: Threads + Sync, H: Hook<u64> + Sync>(
     rt: &R,
     alloc: Global,

@@ -50,7 +50,7 @@ fn crowd_outcomes<R: Threads + Sync>(
     outcomes_of(rt, alloc, &app, &cells, first.items(), 12300)
 }
 
-/// Rounds of so many jobs are performed by threads.
+/// Rounds of thousands of jobs are performed by threads.
 #[test]
 fn many_meet_at_once(rt: HostRuntime) -> Result<(), Fail> {
     let outcomes = crowd_outcomes(&rt, rt.alloc())?;

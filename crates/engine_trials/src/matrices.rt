@@ -24,7 +24,7 @@ const THREE_BY_FOUR: &str =
 /// and the columns of their ones.
 const COLUMN_3: Accesses = &[(0, Write), (2, Write), (3, Write), (5, Write), (6, Write)];
 
-/// The same, merged with the set of column 2.
+/// The set of column 3, merged with that of column 2.
 const COLUMN_3_MERGED: Accesses = &[
     (0, Write),
     (1, Write),

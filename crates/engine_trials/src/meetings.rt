@@ -76,7 +76,7 @@ fn begin_meetings(
 /// The set that the third meeting declares at first.
 const DECLARED: Accesses = &[(4, Read), (6, Read), (8, Write), (9, Write)];
 
-/// The same, merged with the set of the first meeting.
+/// The set of the third meeting, merged with that of the first.
 const MERGED: Accesses = &[
     (0, Read),
     (1, Read),

@@ -84,7 +84,7 @@ pub fn serial_outcome<A: App>(
     }
 }
 
-/// The same cause, where a run doesn't begin.
+/// The cause of a run that doesn't begin.
 pub fn cause_of(fault: BeginFault) -> OverCause {
     match fault {
         BeginFault::Budget { asked, limit } => OverCause::Budget {

@@ -12,7 +12,7 @@ use std::test::Fail;
 use std::thread::Threads;
 use task_order::Path;
 
-/// A run in which so many tasks follow one another at each place.
+/// A run in which `more` tasks follow one another at each place.
 #[derive(Clone, Copy)]
 struct Passings {
     more: u64,
@@ -23,7 +23,7 @@ struct Passings {
 }
 
 /// At each place the last task is the second child of the last but two. In the last row the paths are so
-/// long, and there are so many tasks, that they would get short ones if they ignored their paths.
+/// long, and the tasks so numerous, that they would get short ones if they ignored their paths.
 const ROWS: [Passings; 4] = [
     Passings {
         more: 0,
@@ -67,7 +67,7 @@ fn is_left(outcome: &Outcome<Trail>, place: u32, path: &Path) -> bool {
     }
 }
 
-/// What the runs come to in which so many tasks follow one another at each place.
+/// What the runs come to in which `more` tasks follow one another at each place.
 fn outcomes_after<R: Threads + Sync>(
     rt: &R,
     alloc: Global,

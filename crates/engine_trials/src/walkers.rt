@@ -51,7 +51,7 @@ pub fn walker_runs<R: Threads + Sync>(
     runs_by(rt, alloc, graph, ahead, walk)
 }
 
-/// The same of an operator that keeps the deed of these arrows.
+/// What the runs come to by an operator that keeps the deed of these arrows.
 fn runs_by<R: Threads + Sync, H: Hook<u64> + Sync>(
     rt: &R,
     alloc: Global,

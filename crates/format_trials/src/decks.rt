@@ -289,7 +289,7 @@ fn faults(rt: HostRuntime) {
     }
 }
 
-/// A gate with so many fan-ins, of which the last is this one.
+/// A gate with `fan_ins` fan-ins, of which the last is `last`.
 fn gate_of(alloc: Global, fan_ins: usize, last: &str) -> Result<Text, Fail> {
     let mut text = Text::new(alloc);
     text.push_all(b"b = NAND(")?;
@@ -313,7 +313,7 @@ fn inputs(alloc: Global, count: u64, more: &[u8]) -> Result<Text, Fail> {
     Ok(text)
 }
 
-/// An input, so many stimuli, and what comes behind them.
+/// An input, `count` stimuli, and `more` behind them.
 fn stimuli(alloc: Global, count: usize, more: &str) -> Result<Text, Fail> {
     let mut text = Text::new(alloc);
     text.push_all(b"INPUT(a)\n")?;

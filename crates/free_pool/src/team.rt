@@ -16,7 +16,7 @@ use std::sync::Wait;
 use std::thread::{self, Threads};
 use worker_gate::{Hall, Seat};
 
-/// Has so many workers work until nothing more is to be claimed, the caller among them, who is worker 0
+/// Has `workers` workers work until nothing more is to be claimed, the caller among them, who is worker 0
 /// and has the first seat. It comes back when all have stopped, with all seats joined to the first one.
 pub(crate) fn work_together<'h, 'a, R: Threads + Wait + Sync, A: App + Sync, G: Gate + Sync>(
     rt: &R,

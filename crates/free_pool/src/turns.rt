@@ -152,7 +152,7 @@ fn leave_as<'h, 'a, A: App>(turn: Turn<'h, 'a, A>, next: &Next<A::Val>) -> Seat<
     leave_with::<A, Brand>(turn, next)
 }
 
-/// The same, by what contracts call the jobs and the keys.
+/// Leaves the turn, by what contracts call the jobs and the keys.
 fn leave_with<'h, 'a, A: App, P: Did<A::Val>>(
     turn: Turn<'h, 'a, A>,
     next: &Next<A::Val>,

@@ -48,7 +48,7 @@ pub(crate) fn work<'h, 'a, R: Wait, A: App, G: Gate>(
     }
 }
 
-/// The same, with a count of the sets that are asked for.
+/// Works until nothing more is to be claimed, with a count of the sets that are asked for.
 fn work_counted<'h, 'a, R: Wait, A: App, G: Gate, L: Ledger>(
     rt: &R,
     gate: &G,

@@ -26,7 +26,7 @@ pub fn block_pattern(alloc: Global, n: u32) -> Result<Pattern, NoRoom>
     })
 }
 
-/// Adds the places of a block behind so many rows and columns.
+/// Adds the places of a block behind `before` rows and columns.
 fn push_block(places: &mut PlaceList, before: u32) -> Result<(), NoRoom>
     requires room { before + 3 < 2 ^ 32 }
     requires behind { AllByRecursion (λ place. place.0 ≤ before) places.old }

@@ -8,7 +8,7 @@ use cell_store::{Seen, Store};
 use kdg_text::{NoRoom, Text, push_u64};
 use std::alloc::Global;
 
-/// A line for each of so many rows with the columns of its ones, and then the rank.
+/// A line for each of `rows` rows with the columns of its ones, and then the rank.
 pub(crate) fn finals(alloc: Global, rows: u32, store: &Store<Line2>) -> Result<Text, NoRoom>
     requires home { store.now ≡ homes (values_of store.now) }
     requires fit { (columns : ℕ) × AreLines rows columns (values_of store.now) }

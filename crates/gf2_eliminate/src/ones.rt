@@ -184,7 +184,7 @@ fn end_of_words(words: &[u64]) -> usize
     end
 }
 
-/// Makes them at least so many words, by words without a bit.
+/// Lengthens `words` to at least `len`, by words without a bit.
 fn lengthen(words: &mut Vec<u64>, len: usize) -> Result<(), NoRoom>
     ensures long { OnOk result (len ≤ length words.new.items) }
     ensures err { OnErr result (words.new.items ≡ words.old.items) }

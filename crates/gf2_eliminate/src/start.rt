@@ -11,7 +11,7 @@ use mtx_reader::Pattern;
 use std::alloc::Global;
 use task_order::{Body, Start, StartList};
 
-/// A task for each of so many columns, in their order.
+/// A task for each of `columns` columns, in their order.
 pub(crate) fn first_tasks(alloc: Global, columns: u32) -> Result<StartList, NoRoom>
     ensures { IfOk result (λ tasks. tasks ≡ map start_task (numbers_from 0 columns)) }
 {
@@ -55,7 +55,7 @@ fn empty_lines(alloc: Global, rows: u32, columns: u32) -> Result<Vec<Line2>, NoR
     Ok(lines)
 }
 
-/// The line of a location without a one, where there are so many rows.
+/// The line of a location without a one, where there are `rows` rows.
 fn empty_line(alloc: Global, rows: u32, loc: u32) -> Line2
     ensures { result ≡ empty_line rows loc }
 {

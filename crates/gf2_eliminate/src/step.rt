@@ -12,7 +12,7 @@ use crate::ones::Addend;
 use kdg_text::{NoRoom, Text, push_u64};
 use std::alloc::Global;
 
-/// Does what the task of a column does, where there are so many rows, and tells its line. All memory is
+/// Does what the task of a column does, where there are `rows` rows, and tells its line. All memory is
 /// taken before a line changes.
 pub(crate) fn eliminate<C: Lines>(
     alloc: Global,
@@ -60,7 +60,7 @@ fn pivot_among<C: Lines>(cells: &C, holders: &[u32]) -> Option<u32>
     None
 }
 
-/// Adds ones to the lines of these numbers, which count from 1 behind so many lines.
+/// Adds ones to the lines of these numbers, which count from 1 behind `before` lines.
 fn add_to_lines<C: Lines>(cells: &mut C, before: u32, numbers: &[u32], added: &Addend)
     requires laws { PutsOneLine C.held C.has_line C.put_at }
     requires ready { AllByRecursion (CanTake before (C.held cells.old) (C.has_line cells.old)) numbers.now }

@@ -28,7 +28,7 @@ pub(crate) fn first_out(store: &Store<Line2>, rows: &[u32]) -> Option<u32>
     None
 }
 
-/// The pairs of the set of a column in which these rows have a one, in a matrix of so many rows and
+/// The pairs of the set of a column in which these rows have a one, in a matrix of `size`, its rows and
 /// columns.
 pub(crate) fn touched(
     alloc: Global,

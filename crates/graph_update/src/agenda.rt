@@ -32,7 +32,7 @@ pub(crate) struct Tally {
 }
 
 impl Tally {
-    /// How many tasks there are with so many pending ones, and with the children of one of them.
+    /// How many tasks there are with `pending` pending ones, and with `children` of one of them.
     #[inline(always)]
     pub(crate) fn created(&self, pending: usize, children: usize) -> u64
         requires { self.now.ended + pending + children < 2 ^ 64 }

@@ -22,7 +22,7 @@ use std::sync::ledger::Ledger;
 use task_order::Task;
 
 impl<'a, A: App> Engine<'a, A> {
-    /// The same execution with paths of one number: the pending tasks are numbered in the order of
+    /// Gives the execution paths of one number: the pending tasks are numbered in the order of
     /// their paths, as first tasks are. So they keep their order, and their children theirs among them.
     /// What is logged writes nothing, and is forgotten.
     ///

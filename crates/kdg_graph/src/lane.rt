@@ -72,7 +72,7 @@ impl Lane {
         self.ids.get(place).copied()
     }
 
-    /// Makes room for so many more ids.
+    /// Makes room for `additional` more ids.
     #[inline(always)]
     pub(crate) fn reserve(&mut self, additional: usize) -> Result<(), NoRoom>
         ensures room { OnOk result (length self.new.ids.items + additional ≤ self.new.ids.capacity) }
@@ -195,7 +195,7 @@ impl Lane {
         }
     }
 
-    /// The same, where the node at the start is earlier: by steps that grow, and then by halving.
+    /// A search from a place at which the node is earlier: by steps that grow, and then by halving.
     fn search_up(&self, slots: &Slab<Entry>, key: &Key, start: usize) -> Result<usize, usize>
         requires earlier { cmp_at slots.now key.now self.now.ids.items start ≡ Ordering.Less }
         requires small { length self.now.ids.items < 2 ^ 63 }
@@ -219,7 +219,7 @@ impl Lane {
         }
     }
 
-    /// The same, where the node at the start is later, or none is there.
+    /// A search from a place at which the node is later, or none is there.
     fn search_down(&self, slots: &Slab<Entry>, key: &Key, start: usize) -> Result<usize, usize>
         requires inside { start ≤ length self.now.ids.items }
         requires later { cmp_at slots.now key.now self.now.ids.items start ≡ Ordering.Greater }
@@ -242,7 +242,7 @@ impl Lane {
         self.search_between(slots, key, low, high)
     }
 
-    /// The same between two places, by halving.
+    /// A search between two places, by halving.
     fn search_between(
         &self,
         slots: &Slab<Entry>,

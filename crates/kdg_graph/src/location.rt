@@ -37,9 +37,9 @@ pub(crate) struct Location {
     writers: Lane,
     /// Whether those that write stand in their own list.
     apart: bool,
-    /// The list of all has room for at least so many more ids.
+    /// For at least how many more ids the list of all has room.
     spare: u32,
-    /// The other list has room for at least so many more behind all that write, in whichever list these
+    /// For at least how many more the other list has room behind all that write, in whichever list these
     /// stand.
     spare_writers: u32,
 }
@@ -86,7 +86,7 @@ impl Location {
         }
     }
 
-    /// Makes room for so many more nodes.
+    /// Makes room for `additional` more nodes.
     #[inline(always)]
     pub(crate) fn reserve(&mut self, additional: usize) -> Result<(), NoRoom>
         ensures room { OnOk result (additional ≤ room_in self.new) }
@@ -100,7 +100,7 @@ impl Location {
         self.reserve_lists(additional)
     }
 
-    /// Makes room for so many more nodes, where the counters may not tell that there is.
+    /// Makes room for `additional` more nodes, where the counters may not tell that there is.
     #[inline(never)]
     fn reserve_lists(&mut self, additional: usize) -> Result<(), NoRoom>
         ensures room { OnOk result (additional ≤ room_in self.new) }

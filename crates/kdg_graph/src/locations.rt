@@ -39,7 +39,7 @@ impl Locations {
         }
     }
 
-    /// Makes room for so many more nodes at each location of a set.
+    /// Makes room for `additional` more nodes at each location of a set.
     #[inline(always)]
     pub(crate) fn reserve(&mut self, set: &RwSet, additional: usize) -> Result<(), NoRoom>
         ensures room { OnOk result (HasRoom additional set.now (rooms_of self.new.locations.items)) }
@@ -199,7 +199,7 @@ impl Locations {
         }
     }
 
-    /// The same behind a node, which mostly was put in last.
+    /// The front behind a node, which mostly was put in last.
     pub(crate) fn front_behind(
         &self,
         nodes: &OrderedNodes,
@@ -223,7 +223,8 @@ impl Locations {
         }
     }
 
-    /// The same, where so many are not later. Where all write the location, it is the next one alone.
+    /// The front behind those that are known not to be later, `start` of them. Where all write the
+    /// location, it is the next one alone.
     #[inline(always)]
     fn front_from(
         &self,
@@ -256,7 +257,7 @@ impl Locations {
         start..end
     }
 
-    /// The first node later than the key that writes a location, where so many of those that an access
+    /// The first node later than the key that writes a location, where `start` of those that an access
     /// clashes with are not later. Where none is, it is the first of all that write it.
     fn writer_behind(
         &self,
@@ -311,8 +312,8 @@ impl Locations {
         lane.get(place)
     }
 
-    /// The same behind a node. Where the access writes, the node mostly is one of these, at a place or
-    /// close behind it.
+    /// The first node behind a given one that an access clashes with. Where the access writes, the node
+    /// mostly is one of these, at a place or close behind it.
     fn first_behind(
         &self,
         nodes: &OrderedNodes,
@@ -417,7 +418,7 @@ impl Locations {
         }
     }
 
-    /// Makes room for so many more nodes at a location.
+    /// Makes room for `additional` more nodes at a location.
     fn reserve_at(&mut self, loc: u32, additional: usize) -> Result<(), NoRoom>
         ensures room { OnOk result (additional ≤ room_at (rooms_of self.new.locations.items) loc) }
         ensures no_less { HaveNoLess (rooms_of self.old.locations.items) (rooms_of self.new.locations.items) }

@@ -34,7 +34,7 @@ pub(crate) struct NodeList {
     order: Option<Lane>,
     locations: Locations,
     sources: SourceLane,
-    /// There is room for at least so many more nodes, but at the locations of their sets.
+    /// For at least how many more nodes there is room, but at the locations of their sets.
     spare: usize,
 }
 
@@ -62,7 +62,7 @@ impl NodeList {
         NodeList::with_order(alloc, None)
     }
 
-    /// The same, where all nodes are kept in key order besides.
+    /// No node, where all nodes are to be kept in key order besides.
     pub(crate) fn ordered(alloc: Global) -> NodeList
         ensures { result.nodes ≡ [] }
     {
@@ -168,7 +168,7 @@ impl NodeList {
         reserve_fresh(&mut self.locations, fresh, coming)
     }
 
-    /// Makes room for so many more nodes, but at the locations of their sets.
+    /// Makes room for `additional` more nodes, but at the locations of their sets.
     #[inline(always)]
     fn reserve_nodes(&mut self, additional: usize) -> Result<(), NoRoom>
         ensures room { OnOk result (additional ≤ self.new.room) }
@@ -180,8 +180,8 @@ impl NodeList {
         self.reserve_ahead(additional)
     }
 
-    /// Makes room for so many more nodes, where `spare` may not tell that there is: for more than are
-    /// asked for, if memory allows.
+    /// Makes room for `additional` more nodes, where `spare` may not tell that there is: for more than
+    /// are asked for, if memory allows.
     #[inline(never)]
     fn reserve_ahead(&mut self, additional: usize) -> Result<(), NoRoom>
         ensures room { OnOk result (additional ≤ self.new.room) }
@@ -193,7 +193,7 @@ impl NodeList {
         }
     }
 
-    /// Asks all that is kept for room for so many more nodes.
+    /// Asks all that is kept for room for `additional` more nodes.
     fn reserve_lists(&mut self, additional: usize) -> Result<(), NoRoom>
         ensures room { OnOk result (additional ≤ self.new.room) }
         ensures nodes { self.new.nodes ≡ self.old.nodes }

@@ -247,7 +247,7 @@ impl OrderedNodes {
         self.put_among(lane, id)
     }
 
-    /// The same, where some are there. It stays a call.
+    /// Puts a node into a list that has some. It stays a call.
     #[inline(never)]
     fn put_among(&self, lane: &mut Lane, id: NodeId) -> usize
         requires there { HasNode self.now.nodes id }
@@ -263,7 +263,7 @@ impl OrderedNodes {
         place
     }
 
-    /// The same, where those from a place on are known to be later.
+    /// Puts a node into a list of which those from `end` on are known to be later.
     #[inline(always)]
     pub(crate) fn put_before(&self, lane: &mut Lane, id: NodeId, end: usize) -> usize
         requires there { HasNode self.now.nodes id }
@@ -302,7 +302,7 @@ impl OrderedNodes {
         }
     }
 
-    /// The same, wherever it is. It stays a call.
+    /// Takes a node out of a list, wherever it is. It stays a call.
     #[inline(never)]
     fn take_within(&self, lane: &mut Lane, id: NodeId) -> bool
         requires { HasNode self.now.nodes id }
@@ -340,7 +340,7 @@ impl OrderedNodes {
         Some(node.id)
     }
 
-    /// Makes room for so many more nodes.
+    /// Makes room for `additional` more nodes.
     pub(crate) fn reserve(&mut self, additional: usize) -> Result<(), NoRoom>
         ensures numbers { OnOk result (additional ≤ self.new.numbers) }
         ensures nodes { self.new.nodes ≡ self.old.nodes }

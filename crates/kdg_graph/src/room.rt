@@ -6,7 +6,7 @@ use crate::locations::Locations;
 use crate::{Fresh, SetChange};
 use kdg_text::NoRoom;
 
-/// Makes room for so many more nodes at each location of the changed sets.
+/// Makes room for `coming` more nodes at each location of the changed sets.
 pub(crate) fn reserve_changed(
     locations: &mut Locations,
     changed: &[SetChange],
@@ -22,7 +22,7 @@ pub(crate) fn reserve_changed(
     Ok(())
 }
 
-/// Makes room for so many more nodes at each location of the fresh sets.
+/// Makes room for `coming` more nodes at each location of the fresh sets.
 pub(crate) fn reserve_fresh(
     locations: &mut Locations,
     fresh: &[Fresh],

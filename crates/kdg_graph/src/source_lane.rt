@@ -106,7 +106,7 @@ impl SourceLane {
         place
     }
 
-    /// Makes room for the ids of so many nodes, and marks for ids below a number.
+    /// Makes room for the ids of `nodes` nodes, and marks for the ids below `below`.
     pub(crate) fn reserve(&mut self, nodes: usize, below: usize) -> Result<(), NoRoom>
         ensures room { OnOk result (nodes ≤ self.new.room) }
         ensures marks { OnOk result (below ≤ length self.new.standings) }
@@ -392,7 +392,8 @@ impl SourceLane {
         }
     }
 
-    /// The same, unless it is known that no node is left that its accesses clash with.
+    /// Refreshes the fronts behind a node, unless it is known that none is left that its accesses clash
+    /// with.
     #[inline(always)]
     pub(crate) fn refresh_behind(
         &mut self,
@@ -492,7 +493,7 @@ fn reserve_marks(standings: &mut Vec<Standing>, below: usize) -> Result<(), NoRo
     Ok(())
 }
 
-/// Takes those out that are marked as being there no more, of which there are so many at most.
+/// Takes those out that are marked as being there no more, of which there are at most `gone`.
 fn take_gone(settled: &mut Lane, standings: &[Standing], gone: usize)
     requires { HasFewGone standings.now settled.old.ids.items gone }
     ensures left { settled.new.ids.items ≡ settled_among standings.now settled.old.ids.items }

@@ -19,7 +19,7 @@ pub(crate) trait Runnable: App + Sync {
     /// What its run begins with, and what its cells give at the end.
     ghost setting: { Self → Setting Self.Val };
 
-    /// How many tasks there are at the start, where they are more than the budget and so many that
+    /// How many tasks there are at the start, where they are more than the budget and enough that
     /// it pays to know before they are made.
     fn too_many_tasks(&self, budget: u64) -> Option<u64>
         ensures { IfSome result (λ created. (created ≡ length (setting self.now).tasks) × (budget < created)) };

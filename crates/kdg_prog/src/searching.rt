@@ -49,7 +49,7 @@ pub(crate) fn levels_print<R: Threads + Sync, G: Gate + Sync>(
     levels_by(rt, alloc, options, graph, act, gate)
 }
 
-/// The same of an operator that does the deed of the search.
+/// The print in mode serial or rounds, by an operator that does the deed of the search.
 fn levels_by<R: Threads + Sync, H: Hook<Level> + Sync, G: Gate + Sync>(
     rt: &R,
     alloc: Global,
@@ -93,7 +93,7 @@ pub(crate) fn free_levels_print<R: Threads + Wait + Sync, G: Gate + Sync>(
     free_levels_by(rt, alloc, options, graph, act, gate)
 }
 
-/// The same of an operator that does the deed of the search.
+/// The print in mode free, by an operator that does the deed of the search.
 fn free_levels_by<R: Threads + Wait + Sync, H: Hook<Level> + Sync, G: Gate + Sync>(
     rt: &R,
     alloc: Global,

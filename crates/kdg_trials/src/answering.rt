@@ -34,7 +34,7 @@ pub fn answer<R: Threads + Wait + Sync>(
     answer_at(rt, alloc, &Seeded, words, input, step)
 }
 
-/// The same at a gate.
+/// The status and what was printed, at a gate.
 pub fn answer_at<R: Threads + Wait + Sync, G: Gate + Sync>(
     rt: &R,
     alloc: Global,
@@ -52,7 +52,7 @@ pub fn answer_at<R: Threads + Wait + Sync, G: Gate + Sync>(
     Ok((status, sink))
 }
 
-/// The same with the words for a mode behind the others.
+/// The status and what was printed, with the words for a mode behind the others.
 pub fn answer_in<R: Threads + Wait + Sync>(
     rt: &R,
     alloc: Global,

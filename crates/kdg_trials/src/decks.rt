@@ -31,8 +31,8 @@ pub const C17_SHORT_STIMULUS: &str =
 /// What c17 prints: 6 evaluations at 0, 6 changes and 6 evaluations at 1, and 2 changes at 2.
 pub const C17_PRINT: &str = "1 22 1\n1 23 1\n2 22 0\n2 23 0\nfinal 22 0\nfinal 23 0\ntasks 20\n";
 
-/// The same where figures are asked for in mode rounds: evaluations at 0, changes at 1, four of the
-/// evaluations at 1, the two others, and the changes at 2.
+/// What c17 prints where figures are asked for in mode rounds: evaluations at 0, changes at 1, four of
+/// the evaluations at 1, the two others, and the changes at 2.
 pub const C17_ROUNDS_PRINT: &str =
     "1 22 1\n1 23 1\n2 22 0\n2 23 0\nfinal 22 0\nfinal 23 0\ntasks 20\nrounds 5\n";
 

@@ -9,7 +9,7 @@ use std::sync::Wait;
 use std::test::Fail;
 use std::thread::Threads;
 
-/// Asks that a deck, which prints the same in all modes, runs in so many rounds.
+/// Asks that a deck, which prints the same in all modes, runs in `rounds` rounds.
 fn expect_rounds<R: Threads + Wait + Abort + Sync>(
     rt: &R,
     alloc: Global,

@@ -13,7 +13,7 @@ use std::test::Fail;
 use task_order::{Key, Path};
 
 /// A task of c17, the round and the worker that it is to have, and what is recorded of it: how
-/// often it was passed, by which worker, and as the how manieth of all.
+/// often it was passed, by which worker, and its place among all.
 #[derive(Drop)]
 struct Place {
     round: u32,

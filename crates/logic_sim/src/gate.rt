@@ -6,7 +6,7 @@ ghost use Rattle.logic_sim.specs.Wiring.{fan_in_of};
 use crate::cells::Cells;
 use bench_reader::{Form, GateKind};
 
-/// What a gate computes where so many of its inputs are 1.
+/// What a gate computes where `ones` of its inputs are 1.
 pub(crate) fn output_of(kind: GateKind, ones: usize, inputs: usize) -> u8
     ensures { result ≡ bit_of (is_high kind ones inputs) }
 {

@@ -18,7 +18,7 @@ pub struct Horizon {
 }
 
 impl Horizon {
-    /// A horizon of so many signals that knows nothing.
+    /// A horizon of `signals` signals that knows nothing.
     pub(crate) fn new(alloc: Global, signals: usize) -> Result<Horizon, NoRoom>
         requires { signals ≤ 4096 }
         ensures near { IfOk result (λ horizon. horizon.near.items ≡ replicate signals never) }

@@ -27,7 +27,7 @@ impl Model for SignalQueue {
 }
 
 impl SignalQueue {
-    /// A queue in which each of so many signals waits.
+    /// A queue in which each of `count` signals waits.
     pub(crate) fn with_all(alloc: Global, count: usize) -> Result<SignalQueue, NoRoom>
         requires { count ≤ 4096 }
         ensures { IfOk result (λ queue. queue ≡ replicate count true) }

@@ -100,7 +100,7 @@ fn ends_with(numbers: &[u32], number: u32) -> bool
     }
 }
 
-/// For each of so many signals, whether it is an output.
+/// For each of `signals` signals, whether it is an output.
 pub(crate) fn output_marks(
     alloc: Global,
     outputs: &[u32],

@@ -154,7 +154,7 @@ impl Board {
         true
     }
 
-    /// The same for one location.
+    /// Whether no mark of a lower rank clashes at one location.
     fn is_free_at(&self, marker: &mut Marker, rank: u32, loc: u32, access: Access) -> bool
         requires here { marker.old.board ≡ self.now.id }
         requires first { marker.old.number ≡ 0 }

@@ -62,8 +62,8 @@ impl Least {
         true
     }
 
-    /// The same for one location. What writes there clashes with every mark, what reads there with those
-    /// that write.
+    /// Whether no mark of a lower rank clashes at one location. What writes there clashes with every
+    /// mark, what reads there with those that write.
     fn is_free_at(&self, rank: u32, loc: u32, access: Access) -> bool
         requires in_range { loc < self.now.cells }
         ensures { IsTrue result ↔ IsFreeAt self.now.marks rank loc access }

@@ -17,7 +17,7 @@ pub(crate) fn word_of(loc: u32, access: Access) -> usize
     }
 }
 
-/// The number with which ranks begin in a round after which so many more can follow.
+/// The number with which ranks begin in a round after which `renewals` more can follow.
 #[inline(always)]
 pub(crate) fn base_of(renewals: u32) -> u64
     ensures { result ≡ base_of renewals }

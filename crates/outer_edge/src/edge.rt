@@ -114,7 +114,7 @@ impl<W: Write> Sink for WriteEdge<W> {
     }
 }
 
-/// What a write of so many bytes comes to, by the writer's answer to the flush after it.
+/// What a write of `count` bytes comes to, by the writer's answer to the flush after it.
 fn push_by(count: usize, flushed: io::Result<()>) -> Push
     ensures { result ≡ push_by count flushed }
 {

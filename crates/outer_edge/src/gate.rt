@@ -11,7 +11,8 @@ pub trait Gate {
     /// The number by which a worker picks among the clear tasks, at this turn of its own.
     fn choose(&self, seed: u64, worker: u32, turn: u64) -> u64;
 
-    /// The numbers for so many turns from this one on, for a gate that has them at once.
+    /// The numbers for as many turns as `picks` has places, from this one on, for a gate that has them
+    /// at once.
     fn choose_ahead(&self, seed: u64, worker: u32, turn: u64, picks: &mut [u64]) {
         let mut at = turn;
         for pick in picks.iter_mut() {

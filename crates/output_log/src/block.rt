@@ -107,7 +107,7 @@ impl Block {
         self.rank_from(start, key)
     }
 
-    /// How many entries are earlier than the key, where so many are known to be, and at most a few more
+    /// How many entries are earlier than the key, where `start` are known to be, and at most a few more
     /// are: in steps that double, and then by halving.
     pub(crate) fn rank_from(&self, start: usize, key: &Key) -> Option<usize>
         requires ordered { IsInKeyOrder self.now }
@@ -178,7 +178,7 @@ impl Block {
         }
     }
 
-    /// Takes so many entries from the first on out.
+    /// Takes `count` entries from the first on out.
     pub(crate) fn remove_first(&mut self, count: usize)
         requires { count ≤ length self.old }
         ensures { self.new ≡ drop count self.old }
@@ -186,7 +186,7 @@ impl Block {
         self.entries.drain(..count);
     }
 
-    /// Adds the texts of so many entries from the first on to a text.
+    /// Adds the texts of `count` entries from the first on to a text.
     pub(crate) fn push_texts(&self, count: usize, text: &mut Text) -> Result<(), NoRoom>
         requires { count ≤ length self.now }
         ensures { OnOk result (text.new ≡ text.old ++ joined_texts (take count self.now)) }

@@ -65,7 +65,7 @@ fn place_behind(recent: usize, at: usize, place: usize) -> usize {
     }
 }
 
-/// Makes spare blocks until there are so many.
+/// Makes spare blocks until there are `count`.
 fn add_spare(alloc: Global, spare: &mut Vec<Block>, count: usize) -> Result<(), NoRoom>
     requires { AllByRecursion IsEmpty spare.old.items }
     ensures ok { OnOk result (count ≤ length spare.new.items) }

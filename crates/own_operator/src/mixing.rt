@@ -160,7 +160,7 @@ pub fn run<R: Threads + Wait + Sync>(
     run_by(rt, alloc, setting, &Mixer { times }, act)
 }
 
-/// The same of an operator that keeps the mixer's deed.
+/// Runs an operator that keeps the mixer's deed.
 fn run_by<R: Threads + Wait + Sync, H: Hook<u64> + Sync>(
     rt: &R,
     alloc: Global,

@@ -22,7 +22,7 @@ impl Pairs {
         Pairs::InPlace(Few::new())
     }
 
-    /// An empty list with room for so many pairs.
+    /// An empty list with room for `room` pairs.
     pub(crate) fn with_room(alloc: Global, room: usize) -> Result<Pairs, NoRoom>
         ensures { IfOk result (λ pairs. pairs_of pairs ≡ []) }
     {

@@ -69,7 +69,7 @@ impl RwSet {
         }
     }
 
-    /// The same, where the first location is the lower one.
+    /// The set of two accesses, of which the first has the lower location.
     #[inline(always)]
     fn in_order(alloc: Global, first: (u32, Access), second: (u32, Access)) -> RwSet
         requires { first.0 < second.0 }

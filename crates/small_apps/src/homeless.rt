@@ -18,7 +18,7 @@ pub struct HomelessTrails {
 }
 
 impl HomelessTrails {
-    /// The same places.
+    /// The places of `trails`.
     pub fn new(trails: Trails) -> HomelessTrails {
         HomelessTrails { trails }
     }

@@ -51,7 +51,7 @@ impl Trails {
         Ok(vec![in self.alloc; new_trail(self.alloc)?, new_trail(self.alloc)?]?)
     }
 
-    /// A first task at each place, after which so many come one after the other, and as many beside them.
+    /// A first task at each place, after which `more` come one after the other, and as many beside them.
     pub fn first_tasks(&self, more: u64) -> Result<StartList, NoRoom>
         ensures tasks { IfOk result (λ tasks. tasks ≡ first_passings more) }
         ensures fit { IfOk result (AreFitStarts trails) }
@@ -73,7 +73,7 @@ fn new_trail(alloc: Global) -> Result<Trail, NoRoom>
     })
 }
 
-/// The first task at a place, which so many follow.
+/// The first task at a place, which `more` follow.
 fn passing(at: u32, more: u64) -> Start
     ensures { result ≡ record { prio = 0; body = record { kind = 0; at = at; arg = more } } }
 {

@@ -167,8 +167,8 @@ fn play_leg<R: Threads + Sync, A: App + Sync, G: Gate + Sync, L: Ledger>(
     Ok(rounds)
 }
 
-/// Whether pending tasks are to get new paths in a leg that began when so many tasks had ended. So it
-/// is only where nobody sees a path: the application ignores them, and the gate is open. Then so many
+/// Whether pending tasks are to get new paths in a leg that began when `ended` tasks had ended. So it
+/// is only where nobody sees a path: the application ignores them, and the gate is open. Then enough
 /// tasks have ended since that new paths take little beside them, the earliest one's path is long, and
 /// no text is logged that waits for a task.
 fn needs_new_paths<A: App, G: Gate>(engine: &Engine<'_, A>, gate: &G, ended: u64) -> bool

@@ -8,10 +8,10 @@ const TRANSPORT: u64 = 3_000;
 /// took 21, 39 and 57 microseconds for 2, 3 and 4 workers.
 const START: u64 = 150_000;
 
-/// From so many cells on, which the tasks of a round have in all, threads pay where it isn't known how
-/// much a task has to do. In rounds of 3,500 to 8,192 cells four workers took from nothing (matrices)
-/// to a tenth (pairs of nodes) longer than one, and in rounds of 16,400 cells as long or a twentieth
-/// less.
+/// From this number of cells on, which the tasks of a round have in all, threads pay where it isn't
+/// known how much a task has to do. In rounds of 3,500 to 8,192 cells four workers took from nothing
+/// (matrices) to a tenth (pairs of nodes) longer than one, and in rounds of 16,400 cells as long or a
+/// twentieth less.
 const MANY_CELLS: usize = 16_384;
 
 /// What is known of the work in rounds.
@@ -43,7 +43,7 @@ impl Work {
         self.task_nanos.is_none()
     }
 
-    /// Whether a round of so many tasks, which have so many cells in all, has work enough for threads.
+    /// Whether a round of `tasks` tasks, which have `cells` cells in all, has work enough for threads.
     pub(crate) fn note_round(&mut self, tasks: usize, cells: usize) -> bool {
         let is_enough = match self.task_nanos {
             Some(nanos) => { nanos.saturating_sub(TRANSPORT).saturating_mul(tasks as u64) >= START }

@@ -120,14 +120,14 @@ impl Draft {
     }
 }
 
-/// Whether the ends of a spring are two of so many nodes.
+/// Whether the ends of a spring are two of `nodes` nodes.
 fn are_two_of(nodes: usize, spring: &SpringDraft) -> bool
     ensures { result ≡ are_two_of nodes spring.now }
 {
     is_one_of(nodes, spring.a) && is_one_of(nodes, spring.b) && spring.a != spring.b
 }
 
-/// Whether a number, counted from 1, is one of so many nodes.
+/// Whether a number, counted from 1, is one of `nodes` nodes.
 fn is_one_of(nodes: usize, number: u64) -> bool
     ensures { result ≡ is_one_of nodes number }
 {

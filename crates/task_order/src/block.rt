@@ -258,7 +258,7 @@ impl Block {
         }
     }
 
-    /// The same by a search in one of the two parts of the queue.
+    /// How many tasks have at most this priority, by a search in one of the two parts of the queue.
     fn end_of_prio(&self, prio: u64) -> usize
         ensures { IsEndOfPriority prio self.now result }
     {
@@ -316,7 +316,7 @@ impl Block {
         }
     }
 
-    /// The same, by the first task itself.
+    /// Whether the first task is not later than the key, by the task itself.
     fn first_is_by(&self, key: &Key) -> bool
         ensures { result ≡ starts_by key.now self.now }
     {

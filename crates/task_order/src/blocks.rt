@@ -58,7 +58,7 @@ fn started_in(blocks: &[Block], prio: u64, beginning: u64) -> usize
     count
 }
 
-/// How many of so many blocks the first steps of a search pass.
+/// How many of `count` blocks the first steps of a search pass.
 fn longest_stride(count: usize) -> usize
     ensures { 1 ≤ result }
 {

@@ -40,7 +40,7 @@ impl Key {
         }
     }
 
-    /// The same key.
+    /// An equal key.
     pub fn copy(&self) -> Result<Key, NoRoom>
         ensures { IfOk result (λ key. key ≡ self.now) }
     {

@@ -84,7 +84,7 @@ impl Path {
         self.beginning() % 256 != 0
     }
 
-    /// The same path.
+    /// An equal path.
     pub fn copy(&self) -> Result<Path, NoRoom>
         ensures { IfOk result (λ path. path ≡ self.now) }
     {

@@ -20,7 +20,7 @@ pub struct Task {
 }
 
 impl Task {
-    /// The same task.
+    /// An equal task.
     pub fn copy(&self) -> Result<Task, NoRoom>
         ensures { IfOk result (λ task. task ≡ self.now) }
     {

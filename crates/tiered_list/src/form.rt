@@ -37,7 +37,7 @@ fn move_all<T>(ring: &mut VecDeque<T>, tiers: &mut Tiers<T>)
     }
 }
 
-/// The items of a ring in tiers, with room for so many more. After `NoRoom` the ring is as it was.
+/// The items of a ring in tiers, with room for `additional` more. After `NoRoom` the ring is as it was.
 fn tiers_from<T: Drop>(ring: &mut VecDeque<T>, additional: usize) -> Result<Box<Tiers<T>>, NoRoom>
     ensures items { IfOk result (λ tiers. all_items tiers.value ≡ ring.old.items) }
     ensures room { IfOk result (λ tiers. length ring.old.items + additional ≤ room_for tiers.value) }
@@ -54,8 +54,8 @@ fn tiers_from<T: Drop>(ring: &mut VecDeque<T>, additional: usize) -> Result<Box<
     Ok(tiers)
 }
 
-/// Makes room for so many more items in a ring, or gives tiers with all its items and that room, where
-/// there may then be more than a few.
+/// Makes room for `additional` more items in a ring, or gives tiers with all its items and that room,
+/// where there may then be more than a few.
 fn with_room<T: Drop>(
     ring: &mut VecDeque<T>,
     additional: usize,
@@ -76,7 +76,7 @@ fn with_room<T: Drop>(
     Ok(None)
 }
 
-/// Items in memory of their own, with room for so many more.
+/// Items in memory of their own, with room for `additional` more.
 #[inline(never)]
 fn in_memory<T: Copy + Drop>(
     alloc: Global,
@@ -140,8 +140,8 @@ impl<T: Copy> Form<T> {
         }
     }
 
-    /// Makes room for so many more items. Where there is none, items in place move to memory, and those
-    /// of a ring to tiers if there may then be more than a few.
+    /// Makes room for `additional` more items. Where there is none, items in place move to memory, and
+    /// those of a ring to tiers if there may then be more than a few.
     #[inline(always)]
     pub(crate) fn reserve(&mut self, alloc: Global, additional: usize) -> Result<(), NoRoom>
     where

@@ -76,7 +76,7 @@ impl<T: Copy> TieredList<T> {
         self.form.get(place)
     }
 
-    /// Makes room for so many more items. After `NoRoom` the items are as they were.
+    /// Makes room for `additional` more items. After `NoRoom` the items are as they were.
     #[inline(always)]
     pub fn reserve(&mut self, additional: usize) -> Result<(), NoRoom>
     where

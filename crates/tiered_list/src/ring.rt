@@ -22,7 +22,7 @@ pub(crate) fn put_at<T>(ring: &mut VecDeque<T>, place: usize, item: T)
     }
 }
 
-/// The same, where those up to the nearer end move.
+/// Puts an item at a place within, where those up to the nearer end move.
 #[inline(never)]
 fn put_within<T>(ring: &mut VecDeque<T>, place: usize, item: T)
     requires place { place ≤ length ring.old.items }
@@ -53,7 +53,7 @@ pub(crate) fn take_at<T>(ring: &mut VecDeque<T>, place: usize) -> T
     }
 }
 
-/// The same, where those up to the nearer end move.
+/// Takes an item out of a place within, where those up to the nearer end move.
 #[inline(never)]
 fn take_within<T>(ring: &mut VecDeque<T>, place: usize) -> T
     requires { place < length ring.old.items }

@@ -39,7 +39,7 @@ impl<T> Model for Tiers<T> {
     ghost invariant = { λ tiers. AreTiers tiers.middle.items tiers.spare.items (deque_capacity tiers.middle) (vec_capacity tiers.spare) };
 }
 
-/// Makes spare tiers until there are so many.
+/// Makes spare tiers until there are `count`.
 fn add_spare<T>(alloc: Global, spare: &mut Vec<Tier<T>>, count: usize) -> Result<(), NoRoom>
     requires few { length spare.old.items ≤ count }
     requires room { count ≤ vec_capacity spare.old }
@@ -95,7 +95,7 @@ impl<T> Tiers<T> {
         }
     }
 
-    /// Makes room for so many more items. After `NoRoom` the items are as they were.
+    /// Makes room for `additional` more items. After `NoRoom` the items are as they were.
     #[inline(never)]
     pub(crate) fn reserve(&mut self, additional: usize) -> Result<(), NoRoom>
         ensures room { OnOk result (length (all_items self.old) + additional ≤ room_for self.new) }
@@ -108,7 +108,7 @@ impl<T> Tiers<T> {
         self.reserve_tiers(total / FULL)
     }
 
-    /// Makes spare tiers until there are so many with those between the first and the last.
+    /// Makes spare tiers until there are `count` with those between the first and the last.
     fn reserve_tiers(&mut self, count: usize) -> Result<(), NoRoom>
         ensures room { OnOk result (count ≤ length self.new.middle + self.new.spare) }
         ensures no_less { self.old.spare ≤ self.new.spare }
@@ -153,7 +153,7 @@ impl<T> Tiers<T> {
         }
     }
 
-    /// The same, which is a call.
+    /// Puts an item at a place that no short way serves. It stays a call.
     #[inline(never)]
     fn insert_anywhere(&mut self, place: usize, item: T)
         requires inside { place ≤ length (all_items self.old) }
@@ -258,7 +258,7 @@ impl<T> Tiers<T> {
         }
     }
 
-    /// The same, which is a call.
+    /// Takes an item out of a place that no short way serves. It stays a call.
     #[inline(never)]
     fn remove_anywhere(&mut self, place: usize) -> T
         requires { place < length (all_items self.old) }

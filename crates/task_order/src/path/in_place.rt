@@ -7,7 +7,7 @@ ghost use Rattle.task_order.specs.SharedBytes.{IsPadded};
 use super::node::IN_PLACE;
 use std::cmp::Ordering;
 
-/// The bytes that a list keeps in place: so many from the first on, and zeros behind them.
+/// The bytes that a list keeps in place: those that it has from the first on, and zeros behind them.
 pub(super) type InPlace = [u8; IN_PLACE];
 
 /// How bytes in place compare: as two words of eight bytes. Where one list begins as the other, the zeros

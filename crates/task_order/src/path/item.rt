@@ -4,7 +4,7 @@ ghost use Rattle.task_order.specs.PathCode.{digits, item};
 use super::shared_bytes::SharedBytes;
 use kdg_text::NoRoom;
 
-/// Adds the bytes of a number above 0, behind so many zeros.
+/// Adds the bytes of a number above 0, behind `zeros` zeros.
 pub(super) fn push_item(bytes: &mut SharedBytes, zeros: u64, number: u32) -> Result<(), NoRoom>
     requires { 0 < number }
     ensures { OnOk result (bytes.new ≡ bytes.old ++ item zeros number) }

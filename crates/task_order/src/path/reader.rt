@@ -1,4 +1,4 @@
-/// A number, behind so many zeros.
+/// A number, behind some zeros.
 #[derive(Clone, Copy)]
 pub(super) struct Item {
     pub zeros: u64,

@@ -61,7 +61,7 @@ impl SharedBytes {
         Ok(())
     }
 
-    /// The same bytes.
+    /// An equal list of bytes.
     pub(super) fn copy(&self) -> Result<SharedBytes, NoRoom>
         ensures { IfOk result (λ bytes. bytes ≡ self.now) }
     {
