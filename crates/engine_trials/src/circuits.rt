@@ -6,18 +6,14 @@ ghost use Rattle.engine_trials.specs.InHand.{AreInHand};
 
 use super::decks::C17;
 use super::driving::{Answer, begin};
-use super::trials::{
-    answer_after, answer_given_up, counts_after, end_at_once, first_done, first_end,
-};
-use app_laws::{Child, Effect};
+use super::trials::{answer_after, counts_after, first_end};
 use bench_reader::read_deck;
 use graph_update::{BeginFault, Counts, Engine, FinishFault, OverCause};
 use kdg_text::NoRoom;
 use logic_sim::Circuit;
-use rw_sets::Access;
 use std::alloc::Global;
 use std::test::Fail;
-use task_order::{Body, Path};
+use task_order::Path;
 
 /// The circuit of a deck, in which nothing happens after the time 1000.
 pub fn circuit_of(alloc: Global, deck: &str) -> Result<Circuit, Fail> {
@@ -46,25 +42,6 @@ pub fn begin_circuit(
 fn first_child(alloc: Global) -> Result<Path, NoRoom> {
     let first = Path::root(alloc, 0)?;
     first.child(0)
-}
-
-/// Whether the signal 5 is to become high at the time 2.
-fn is_change(child: &Child) -> bool {
-    let change = Body {
-        kind: 0,
-        at: 5,
-        arg: 1,
-    };
-    let set = [(10, Access::Write)];
-    child.prio == 2 && child.body == change && child.set.items() == set.as_slice()
-}
-
-/// Whether nothing is printed, and that change is planned and nothing else.
-fn plans_the_change(effect: &Effect<u8>) -> bool {
-    match effect.children.items() {
-        [child] => effect.text.is_empty() && is_change(child),
-        _ => false,
-    }
 }
 
 /// Whether the task of the path came back with its child, which is the seventh task of six.
@@ -105,20 +82,6 @@ fn picks_choose_among_the_clear_tasks(rt: HostRuntime) -> Result<(), Fail> {
 }
 
 #[test]
-fn a_gate_plans_a_change(rt: HostRuntime) -> Result<(), Fail> {
-    let circuit = circuit_of(rt.alloc(), C17)?;
-    let engine = begin_circuit(rt.alloc(), &circuit, 1000)?;
-    match first_done(rt.alloc(), engine, 11)? {
-        Some((done, value)) => {
-            assert_eq!(rt; value, 1);
-            assert!(rt; plans_the_change(&done.effect));
-        }
-        None => panic!(rt; "no task is given"),
-    }
-    Ok(())
-}
-
-#[test]
 fn children_follow_the_tasks_that_ended(rt: HostRuntime) -> Result<(), Fail> {
     let circuit = circuit_of(rt.alloc(), C17)?;
     let engine = begin_circuit(rt.alloc(), &circuit, 1000)?;
@@ -149,25 +112,5 @@ fn a_task_too_many_is_refused_and_leaves_a_mark(rt: HostRuntime) -> Result<(), F
         }
         None => panic!(rt; "no task is given"),
     }
-    Ok(())
-}
-
-#[test]
-fn nothing_is_claimed_after_giving_up(rt: HostRuntime) -> Result<(), Fail> {
-    let circuit = circuit_of(rt.alloc(), C17)?;
-    let engine = begin_circuit(rt.alloc(), &circuit, 1000)?;
-    let answer = answer_given_up(engine)?;
-    assert_eq!(rt; answer, Answer::Over(OverCause::NoRoom));
-    Ok(())
-}
-
-#[test]
-fn an_empty_deck_has_ended_at_once(rt: HostRuntime) -> Result<(), Fail> {
-    let circuit = circuit_of(rt.alloc(), "")?;
-    let engine = begin_circuit(rt.alloc(), &circuit, 1000)?;
-    let (answer, text, count) = end_at_once(engine)?;
-    assert_eq!(rt; answer, Answer::Ended);
-    assert!(rt; text.is_empty());
-    assert_eq!(rt; count, Some(0));
     Ok(())
 }

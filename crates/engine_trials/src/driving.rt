@@ -9,7 +9,6 @@ ghost use Rattle.engine_trials.specs.InHand.{AreInHand, IsDoneBeside};
 use app_laws::App;
 use cell_store::Held;
 use graph_update::{BeginFault, Claim, Done, Engine, Job, OverCause, perform};
-use kdg_graph::laws::node_laws;
 use kdg_text::NoRoom;
 use outer_edge::Still;
 use run_laws::job_laws;
@@ -169,21 +168,6 @@ pub fn perform_at<A: App>(
         Ok(done) => Ok(done),
         Err(_) => Err(NoRoom),
     }
-}
-
-/// The value that a performed task left at a location, where its set has it.
-pub fn value_left<'a, A: App>(
-    engine: &Engine<'_, A>,
-    done: &'a Done<A::Val>,
-    loc: u32,
-) -> Option<&'a A::Val>
-    requires { IsDone (A.meaning engine.now.app) engine.now.progress done.now }
-{
-    node_laws();
-    job_laws::<A>();
-    let node = engine.graph().find(&done.task.key)?;
-    engine.graph().set(node).contains(loc)?;
-    Some(done.effect.bundle.get(loc))
 }
 
 /// Performs the job at a place among those in hand, and ends its task.

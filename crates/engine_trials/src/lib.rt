@@ -21,8 +21,6 @@ mod meetings;
 #[cfg(test)]
 mod outcomes;
 #[cfg(test)]
-mod random_runs;
-#[cfg(test)]
 mod recorded_sets;
 #[cfg(test)]
 mod rounds;

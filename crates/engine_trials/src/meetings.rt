@@ -44,21 +44,6 @@ fn three_meetings(alloc: Global) -> Result<StartList, NoRoom>
     Ok(first)
 }
 
-/// Six meetings, from which thirty others follow.
-pub fn six_meetings(alloc: Global) -> Result<StartList, NoRoom>
-    ensures fit { IfOk result (AreFitStarts (introductions 10)) }
-    ensures few { IfOk result (λ first. length first < 2 ^ 32) }
-{
-    let mut first = StartList::new(alloc);
-    first.push(meeting(1, 2, 0, 1))?;
-    first.push(meeting(1, 1, 2, 3))?;
-    first.push(meeting(1, 2, 4, 6))?;
-    first.push(meeting(2, 0, 7, 2))?;
-    first.push(meeting(2, 3, 5, 9))?;
-    first.push(meeting(4, 1, 8, 3))?;
-    Ok(first)
-}
-
 /// An engine at these meetings of ten people.
 fn begin_meetings(
     alloc: Global,

@@ -4,12 +4,11 @@ ghost use Rattle.std.specs.Prelude.{[]};
 ghost use Rattle.engine_trials.specs.InHand.{AreInHand};
 
 use super::driving::{
-    Answer, answer_of, claim, finish_all, give_first_tasks, gives, perform_next, value_left,
+    Answer, answer_of, claim, finish_all, give_first_tasks, gives, perform_next,
 };
-use app_laws::{App, Finals};
-use cell_store::Held;
-use graph_update::{Counts, Done, Engine, FinishFault};
-use kdg_text::{NoRoom, Text};
+use app_laws::App;
+use graph_update::{Counts, Engine, FinishFault};
+use kdg_text::NoRoom;
 use std::alloc::Global;
 use task_order::Path;
 
@@ -54,26 +53,6 @@ pub fn counts_after<A: App>(
     Ok(Some(engine.counts()))
 }
 
-/// The first task once it was performed, and the value that it leaves at a location of its set.
-pub fn first_done<A: App>(
-    alloc: Global,
-    engine: Engine<'_, A>,
-    loc: u32,
-) -> Result<Option<(Done<A::Val>, A::Val)>, NoRoom>
-    requires { AreInHand (A.meaning engine.app) engine.progress [] }
-{
-    let mut engine = engine;
-    let mut jobs = Vec::new(alloc);
-    let Some(done) = perform_next(&mut engine, &mut jobs)? else {
-        return Ok(None);
-    };
-    let value = match value_left(&engine, &done, loc) {
-        Some(value) => value.copy()?,
-        None => return Ok(None),
-    };
-    Ok(Some((done, value)))
-}
-
 /// How the first task ends, and what a claim answers then.
 pub fn first_end<A: App>(
     alloc: Global,
@@ -95,35 +74,4 @@ pub fn first_end<A: App>(
 fn answer_alone<A: App>(engine: &mut Engine<'_, A>) -> Result<Answer, NoRoom> {
     let claim = engine.claim(0)?;
     Ok(answer_of(&claim))
-}
-
-/// What a claim answers after giving up.
-pub fn answer_given_up<A: App>(engine: Engine<'_, A>) -> Result<Answer, NoRoom> {
-    let mut engine = engine;
-    engine.give_up();
-    answer_alone(&mut engine)
-}
-
-/// What a claim answers, what is drained then, and how many tasks have ended where none is pending.
-pub fn end_at_once<A: App>(engine: Engine<'_, A>) -> Result<(Answer, Text, Option<u64>), NoRoom> {
-    let mut engine = engine;
-    let answer = answer_alone(&mut engine)?;
-    let text = engine.drain()?;
-    Ok((answer, text, end_count(engine)?))
-}
-
-/// How many tasks have ended, where none is pending.
-fn end_count<A: App>(engine: Engine<'_, A>) -> Result<Option<u64>, NoRoom> {
-    match finals_of(engine)? {
-        Some(finals) => Ok(Some(finals.count)),
-        None => Ok(None),
-    }
-}
-
-/// What an engine comes to, where no task is pending.
-pub fn finals_of<A: App>(engine: Engine<'_, A>) -> Result<Option<Finals<A::Val>>, NoRoom> {
-    match engine.graph().least() {
-        Some(_) => Ok(None),
-        None => Ok(Some(engine.end()?)),
-    }
 }

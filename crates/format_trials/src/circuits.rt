@@ -1,10 +1,10 @@
 //! Circuits that run, and decks made from a number.
 
 use app_laws::{Finals, SerialFault, serial};
-use bench_reader::{Form, GateKind, Signal, read_deck};
+use bench_reader::read_deck;
 use cell_store::value_laws;
 use kdg_text::Text;
-use logic_sim::{Circuit, chain_deck};
+use logic_sim::Circuit;
 use std::alloc::Global;
 use std::process::Abort;
 use std::test::Fail;
@@ -178,49 +178,6 @@ fn flip_flops_and_delays(rt: HostRuntime) -> Result<(), Fail> {
         assert_eq!(rt; finals.text.bytes(), log);
         assert_eq!(rt; last_text.bytes(), last_lines);
         assert_eq!(rt; finals.count, count);
-    }
-    Ok(())
-}
-
-#[test]
-fn a_run_stays_within_its_budget(rt: HostRuntime) -> Result<(), Fail> {
-    let circuit = circuit_of(&rt, rt.alloc(), C17, 1000)?;
-    assert_eq!(rt; run(rt.alloc(), &circuit, 20)?.0.count, 20);
-    let fault = run(rt.alloc(), &circuit, 19).err();
-    let created = 20;
-    let limit = 19;
-    assert_eq!(rt; fault, Some(SerialFault::Budget { created, limit }));
-    Ok(())
-}
-
-/// Each gate's name, and the number of the signal that it inverts.
-#[test]
-fn gates_invert_the_signals_before_them(rt: HostRuntime) -> Result<(), Fail> {
-    let deck = chain_deck(rt.alloc(), 3)?;
-    let signals = deck.signals.items();
-    assert_eq!(rt; signals.len(), 4);
-    assert_eq!(rt; signals[0].name.bytes(), b"a".as_slice());
-    assert!(rt; matches!(signals[0].form, Form::Input));
-    for (number, name) in ["g1", "g2", "g3"].iter().enumerate() {
-        let Signal { name: given, form } = &signals[number + 1];
-        assert_eq!(rt; given.bytes(), name.as_bytes());
-        let Form::Gate { kind, fan_in } = form else {
-            panic!(rt; "no gate");
-        };
-        assert_eq!(rt; *kind, GateKind::Not);
-        assert_eq!(rt; fan_in.items(), [number as u32].as_slice());
-    }
-    assert_eq!(rt; deck.outputs.items(), [3].as_slice());
-    assert_eq!(rt; deck.delays.items(), [0, 1, 1, 1].as_slice());
-    assert!(rt; deck.stimuli.items().is_empty());
-    Ok(())
-}
-
-#[test]
-fn chains_are_circuits(rt: HostRuntime) -> Result<(), Fail> {
-    for n in [1, 2, 999] {
-        let circuit = Circuit::new(rt.alloc(), chain_deck(rt.alloc(), n)?, 1000, 10)?;
-        assert_eq!(rt; circuit.first_task_count(), u64::from(n));
     }
     Ok(())
 }

@@ -1,7 +1,7 @@
 //! Decks, and the faults of what is none.
 
-use bench_reader::{Deck, Form, GateKind, Signal, SignalList, Stim, StimList, read_deck};
-use kdg_text::{Fault, NumList, ReadFail, Text, push_u64};
+use bench_reader::{Deck, Form, GateKind, read_deck};
+use kdg_text::{Fault, ReadFail, Text, push_u64};
 use std::alloc::Global;
 use std::process::Abort;
 use std::test::Fail;
@@ -431,33 +431,5 @@ fn limits_of_one_line(rt: HostRuntime) -> Result<(), Fail> {
         text.push_all(end.as_bytes())?;
         refused(&rt, alloc, text.bytes(), 1, kind, bound);
     }
-    Ok(())
-}
-
-#[test]
-fn lists_have_what_is_pushed(rt: HostRuntime) -> Result<(), Fail> {
-    let alloc = rt.alloc();
-    let mut signals = SignalList::new(alloc);
-    let mut stimuli = StimList::new(alloc);
-    for time in [7, 7] {
-        let mut name = Text::new(alloc);
-        push_u64(&mut name, time)?;
-        signals.push(Signal {
-            name,
-            form: Form::Input,
-        })?;
-        stimuli.push(Stim {
-            time,
-            bits: NumList::new(alloc),
-        })?;
-    }
-    for signal in signals.items() {
-        assert_eq!(rt; signal.name.bytes(), b"7".as_slice());
-    }
-    for stimulus in stimuli.items() {
-        assert_eq!(rt; stimulus.time, 7);
-    }
-    assert_eq!(rt; signals.items().len(), 2);
-    assert_eq!(rt; stimuli.items().len(), 2);
     Ok(())
 }

@@ -2,7 +2,7 @@
 
 use app_laws::{App, serial};
 use cell_store::value_laws;
-use gf2_eliminate::{Line2, Matrix, OneSet, block_pattern};
+use gf2_eliminate::{Line2, Matrix};
 use kdg_text::Text;
 use mtx_reader::read_mtx;
 use std::alloc::Global;
@@ -111,49 +111,6 @@ fn matrices_are_reduced(rt: HostRuntime) -> Result<(), Fail> {
         ("general", "2 0 0", "row 1\nrow 2\nrank 0\n"),
     ] {
         prints(&rt, alloc, symmetry, lines, want)?;
-    }
-    Ok(())
-}
-
-/// The places at both ends of a word, and what a further one adds.
-#[test]
-fn lists_of_lines_are_made_and_read(rt: HostRuntime) -> Result<(), Fail> {
-    let mut places = Vec::new(rt.alloc());
-    places.push(1)?;
-    places.push(63)?;
-    places.push(64)?;
-    let mut cols = OneSet::from_vec(places)?;
-    cols.push(4096)?;
-    assert_eq!(&rt; cols.places()?.as_slice(), [1, 63, 64, 4096].as_slice());
-    let line = Line2::Row { cols, used: false };
-    match line {
-        Line2::Row { cols, .. } => assert_eq!(&rt; cols.places()?.len(), 4),
-        Line2::Col { .. } => panic!(&rt; "a row is a column"),
-    }
-    let none = OneSet::new(rt.alloc());
-    assert_eq!(&rt; none.places()?.len(), 0);
-    Ok(())
-}
-
-#[test]
-fn blocks_lie_along_the_diagonal(rt: HostRuntime) -> Result<(), Fail> {
-    let pattern = block_pattern(rt.alloc(), 2)?;
-    assert_eq!(rt; pattern.rows, 6);
-    assert_eq!(rt; pattern.cols, 6);
-    let first = [(1, 1), (1, 2), (2, 1), (2, 3), (3, 3)];
-    let second = [(4, 4), (4, 5), (5, 4), (5, 6), (6, 6)];
-    let places = pattern.places.items();
-    assert_eq!(rt; places.len(), 10);
-    assert_eq!(rt; &places[..5], first.as_slice());
-    assert_eq!(rt; &places[5..], second.as_slice());
-    Ok(())
-}
-
-#[test]
-fn blocks_are_matrices(rt: HostRuntime) -> Result<(), Fail> {
-    for n in [1, 1365] {
-        let matrix = Matrix::new(rt.alloc(), block_pattern(rt.alloc(), n)?);
-        assert_eq!(rt; matrix.first_tasks()?.items().len(), 3 * n as usize);
     }
     Ok(())
 }

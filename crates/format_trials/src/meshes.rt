@@ -1,7 +1,7 @@
 //! Meshes, and the faults of what is none.
 
 use kdg_text::{Fault, ReadFail, Text, push_i64, push_u64};
-use spring_mesh::{MassList, MeshFile, MeshNode, MeshNodeList, Spring, SpringList, read_mesh};
+use spring_mesh::{MeshFile, read_mesh};
 use std::alloc::Global;
 use std::process::Abort;
 use std::test::Fail;
@@ -174,37 +174,5 @@ fn limits(rt: HostRuntime) -> Result<(), Fail> {
     refused(&rt, alloc, springs.bytes(), 16387, 4, 16384);
     push_lines(&mut double, b"spring 1 1 1 0 0 1\n", 1)?;
     refused(&rt, alloc, double.bytes(), 16387, 3, 0);
-    Ok(())
-}
-
-#[test]
-fn nodes_masses_and_springs_are_listed(rt: HostRuntime) -> Result<(), Fail> {
-    let alloc = rt.alloc();
-    let node = MeshNode {
-        x: 1,
-        y: -2,
-        vx: 3,
-        vy: -4,
-        time: 5,
-    };
-    let mut nodes = MeshNodeList::new(alloc);
-    nodes.push(node)?;
-    assert_eq!(rt; nodes.items(), [node].as_slice());
-
-    let mut masses = MassList::new(alloc);
-    masses.push(7)?;
-    assert_eq!(rt; masses.items(), [7].as_slice());
-
-    let spring = Spring {
-        a: 0,
-        b: 1,
-        k: 2,
-        rx: 3,
-        ry: -4,
-        h: 5,
-    };
-    let mut springs = SpringList::new(alloc);
-    springs.push(spring)?;
-    assert_eq!(rt; springs.items(), [spring].as_slice());
     Ok(())
 }

@@ -1,7 +1,7 @@
 //! Patterns of matrices, and the faults of what is none.
 
 use kdg_text::{Fault, ReadFail, Text, push_u64};
-use mtx_reader::{Pattern, PlaceList, read_mtx};
+use mtx_reader::{Pattern, read_mtx};
 use std::alloc::Global;
 use std::process::Abort;
 use std::test::Fail;
@@ -52,53 +52,47 @@ fn refused(rt: &impl Abort, alloc: Global, input: &[u8], line: u64, kind: u8, bo
 }
 
 #[test]
-fn general_patterns(rt: HostRuntime) -> Result<(), Fail> {
-    let alloc = rt.alloc();
-    for (lines, want) in [
-        ("3 3 5\n1 1\n1 2\n2 1\n2 3\n3 3", "3 3|1 1|1 2|2 1|2 3|3 3"),
-        ("0 0 0", "0 0"),
-        ("4096 4096 0\n", "4096 4096"),
-        ("2 3 0\r\n%\n", "2 3"),
-        // twice the same place, in any order
-        ("2 2 4\n2 2\n1 2\n2 2\n1 1\n", "2 2|1 1|1 2|2 2"),
-        // blank lines, comments, tabs, carriage returns and leading zeros
-        ("%c\n\n \t\n\t02 2 1\r\n%1 1\n 001\t2 \r\n%\r\n", "2 2|1 2"),
-        // a place at each edge of the greatest matrix
-        ("4096 4096 2\n4096 1\n1 4096", "4096 4096|1 4096|4096 1"),
-    ] {
-        reads(
-            &rt,
-            alloc,
-            below_banner(alloc, "pattern general", lines)?.bytes(),
-            want,
-        )?;
-    }
-    Ok(())
-}
-
-#[test]
-fn symmetric_patterns(rt: HostRuntime) -> Result<(), Fail> {
-    let alloc = rt.alloc();
-    for (lines, want) in [
-        ("% c\n3 3 2\n2 1\n3 2", "3 3|1 2|2 1|2 3|3 2"),
-        // on, above and below the diagonal, and both of a pair
-        ("3 3 4\n2 2\n1 3\n3 1\n2 1", "3 3|1 2|1 3|2 1|2 2|3 1"),
-        ("0 0 0", "0 0"),
-    ] {
-        reads(
-            &rt,
-            alloc,
-            below_banner(alloc, "pattern symmetric", lines)?.bytes(),
-            want,
-        )?;
-    }
-    Ok(())
-}
-
-#[test]
-fn integers(rt: HostRuntime) -> Result<(), Fail> {
+fn patterns(rt: HostRuntime) -> Result<(), Fail> {
     let alloc = rt.alloc();
     for (words, lines, want) in [
+        (
+            "pattern general",
+            "3 3 5\n1 1\n1 2\n2 1\n2 3\n3 3",
+            "3 3|1 1|1 2|2 1|2 3|3 3",
+        ),
+        ("pattern general", "0 0 0", "0 0"),
+        ("pattern general", "4096 4096 0\n", "4096 4096"),
+        ("pattern general", "2 3 0\r\n%\n", "2 3"),
+        // twice the same place, in any order
+        (
+            "pattern general",
+            "2 2 4\n2 2\n1 2\n2 2\n1 1\n",
+            "2 2|1 1|1 2|2 2",
+        ),
+        // blank lines, comments, tabs, carriage returns and leading zeros
+        (
+            "pattern general",
+            "%c\n\n \t\n\t02 2 1\r\n%1 1\n 001\t2 \r\n%\r\n",
+            "2 2|1 2",
+        ),
+        // a place at each edge of the greatest matrix
+        (
+            "pattern general",
+            "4096 4096 2\n4096 1\n1 4096",
+            "4096 4096|1 4096|4096 1",
+        ),
+        (
+            "pattern symmetric",
+            "% c\n3 3 2\n2 1\n3 2",
+            "3 3|1 2|2 1|2 3|3 2",
+        ),
+        // on, above and below the diagonal, and both of a pair
+        (
+            "pattern symmetric",
+            "3 3 4\n2 2\n1 3\n3 1\n2 1",
+            "3 3|1 2|1 3|2 1|2 2|3 1",
+        ),
+        ("pattern symmetric", "0 0 0", "0 0"),
         (
             "integer general",
             "2 2 4\n1 1 3\n1 2 2\n2 2 -1\n2 2 2",
@@ -147,7 +141,8 @@ fn integers(rt: HostRuntime) -> Result<(), Fail> {
             "3 3|2 3|3 2",
         ),
     ] {
-        reads(&rt, alloc, below_banner(alloc, words, lines)?.bytes(), want)?;
+        let input = below_banner(alloc, words, lines)?;
+        reads(&rt, alloc, input.bytes(), want)?;
     }
     Ok(())
 }
@@ -231,17 +226,6 @@ fn faults_below_the_banner(rt: HostRuntime) -> Result<(), Fail> {
         ("pattern general", "2 2 2\n1 1 1\n3 3", 3, 4),
         ("pattern general", "2 2 3\n3 3\nx", 3, 5),
         ("pattern general", "2 2 3\n1 1\nx", 4, 4),
-    ] {
-        let input = below_banner(alloc, words, lines)?;
-        refused(&rt, alloc, input.bytes(), line, kind, 0);
-    }
-    Ok(())
-}
-
-#[test]
-fn faults_of_integers(rt: HostRuntime) -> Result<(), Fail> {
-    let alloc = rt.alloc();
-    for (words, lines, line, kind) in [
         // the size
         ("integer general", "1 1", 2, 3),
         ("integer general", "1 1 -1", 2, 3),
@@ -288,14 +272,5 @@ fn limits(rt: HostRuntime) -> Result<(), Fail> {
         let input = below_banner(alloc, words, lines)?;
         refused(&rt, alloc, input.bytes(), line, 8, bound);
     }
-    Ok(())
-}
-
-#[test]
-fn lists_have_what_is_pushed(rt: HostRuntime) -> Result<(), Fail> {
-    let mut places = PlaceList::new(rt.alloc());
-    places.push(1, 2)?;
-    places.push(2, 1)?;
-    assert_eq!(rt; places.items(), [(1, 2), (2, 1)].as_slice());
     Ok(())
 }

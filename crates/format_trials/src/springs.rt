@@ -4,10 +4,10 @@ ghost use Rattle.std.specs.Prelude.{◌≤◌, IfOk};
 ghost use Rattle.cell_store.specs.Values.{AreAllHome, values_of};
 ghost use Rattle.spring_mesh.specs.Meaning.{IsFitCells};
 
-use app_laws::{App, Finals, SerialFault, lawful, orderly_laws, serial};
+use app_laws::{Finals, SerialFault, serial};
 use cell_store::{Held, value_laws};
 use kdg_text::push_u64;
-use spring_mesh::{Mesh, MeshNode, Spring, pair_mesh, read_mesh};
+use spring_mesh::{Mesh, MeshNode, read_mesh};
 use std::alloc::Global;
 use std::process::Abort;
 use std::test::Fail;
@@ -142,64 +142,5 @@ fn meshes_begin_with_their_nodes_and_first_steps(rt: HostRuntime) -> Result<(), 
         },
     };
     assert_eq!(rt; mesh.first_tasks()?.items(), [step].as_slice());
-    Ok(())
-}
-
-#[test]
-fn one_step_less_is_over_budget(rt: HostRuntime) -> Result<(), Fail> {
-    let alloc = rt.alloc();
-    let mesh = mesh_of(alloc, ONE_SPRING)?;
-    let want = SerialFault::Budget {
-        created: 2,
-        limit: 1,
-    };
-    assert_eq!(rt; run(alloc, &mesh, 1).err(), Some(want));
-    assert!(rt; run(alloc, &mesh, 2).is_ok());
-    Ok(())
-}
-
-#[test]
-fn laws_hold_of_meshes() {
-    lawful::<Mesh>();
-    orderly_laws::<Mesh>();
-}
-
-#[test]
-fn pairs_lie_above_one_another(rt: HostRuntime) -> Result<(), Fail> {
-    let file = pair_mesh(rt.alloc(), 2)?;
-    let node = |x, y| MeshNode {
-        x,
-        y,
-        vx: 0,
-        vy: 0,
-        time: 0,
-    };
-    let nodes = [node(0, 0), node(30, 0), node(0, 50), node(30, 50)];
-    assert_eq!(rt; file.nodes.items(), nodes.as_slice());
-    assert_eq!(rt; file.masses.items(), [100; 4].as_slice());
-    let first = Spring {
-        a: 0,
-        b: 1,
-        k: 10,
-        rx: 20,
-        ry: 0,
-        h: 2,
-    };
-    let second = Spring {
-        a: 2,
-        b: 3,
-        ..first
-    };
-    assert_eq!(rt; file.springs.items(), [first, second].as_slice());
-    assert_eq!(rt; file.end, 4);
-    Ok(())
-}
-
-#[test]
-fn pairs_are_meshes(rt: HostRuntime) -> Result<(), Fail> {
-    for n in [1, 2048] {
-        let mesh = Mesh::new(rt.alloc(), pair_mesh(rt.alloc(), n)?);
-        assert_eq!(rt; mesh.first_tasks()?.items().len(), n as usize);
-    }
     Ok(())
 }

@@ -2,7 +2,7 @@
 
 use crate::answering::{MODES, answer, answer_in, tells_more_than};
 use crate::decks::{
-    C17, C17_CUT, C17_PRINT, C17_ROUNDS_PRINT, C17_SHORT_STIMULUS, C17_STIMULUS,
+    C17, C17_PRINT, C17_ROUNDS_PRINT, C17_SHORT_STIMULUS, C17_STIMULUS,
     C17_STIMULUS_PRINT, C17_WITH_HEADER, FEEDBACK, RING,
 };
 use crate::matrices::DIAGONAL;
@@ -159,7 +159,6 @@ fn more_tasks_than_the_budget_are_told(rt: HostRuntime) -> Result<(), Fail> {
 #[test]
 fn bad_decks_are_told_by_line_and_fault(rt: HostRuntime) -> Result<(), Fail> {
     for (input, line, kind) in [
-        (C17_CUT, 7, 6),
         ("INPUT(1)\nOUTPUT(x)\nx = NAND(1, y)\n", 3, 6),
         ("INPUT(1)\nINPUT(1)\n", 2, 5),
         (C17_SHORT_STIMULUS, 14, 7),
@@ -244,7 +243,7 @@ fn faults_are_told_with_their_codes(rt: HostRuntime) -> Result<(), Fail> {
     for (words, input, code, told) in [
         ("sim", C17, 0u8, ""),
         ("sim --workers 0", C17, 2, "usage: word 3"),
-        ("sim", C17_CUT, 3, "bad input: line 7: fault 6"),
+        ("sim", &C17[..151], 3, "bad input: line 7: fault 6"),
         ("sim --budget 19", C17, 5, "budget: more than 19 tasks"),
     ] {
         let (status, _) = answer(&rt, rt.alloc(), words, input, 5)?;
