@@ -196,6 +196,22 @@ impl<T: Copy> Form<T> {
     }
 
     #[inline(always)]
+    pub(crate) fn clear(&mut self)
+    where
+        T: Drop,
+        requires { IsForm self.old }
+        ensures items { (tiered_of self.new).items ≡ [] }
+        ensures capacity { (tiered_of self.new).capacity ≡ (tiered_of self.old).capacity }
+        ensures form { IsForm self.new }
+    {
+        match self {
+            Form::InPlace { len, .. } => *len = 0,
+            Form::Ring(ring) => ring.clear(),
+            Form::Tiers(tiers) => tiers.clear(),
+        }
+    }
+
+    #[inline(always)]
     pub(crate) fn remove(&mut self, place: usize) -> T
         requires form { IsForm self.old }
         requires inside { place < length (tiered_of self.old).items }

@@ -99,6 +99,17 @@ impl<T: Copy> TieredList<T> {
         self.form.insert(place, item);
     }
 
+    /// Takes all items out, and keeps the room that they had.
+    #[inline(always)]
+    pub fn clear(&mut self)
+    where
+        T: Drop,
+        ensures items { self.new.items ≡ [] }
+        ensures capacity { self.new.capacity ≡ self.old.capacity }
+    {
+        self.form.clear();
+    }
+
     /// Takes the item at a place out. It takes no memory.
     #[inline(always)]
     pub fn remove(&mut self, place: usize) -> T

@@ -109,6 +109,15 @@ impl<T> Tier<T> {
         take_last(&mut self.items)
     }
 
+    /// Takes all items out.
+    pub(crate) fn clear(&mut self)
+    where
+        T: Drop,
+        ensures { self.new ≡ [] }
+    {
+        self.items.clear();
+    }
+
     /// Puts an item before the others, and takes the last one out.
     pub(crate) fn shift_forward(&mut self, item: T) -> T
         requires { 0 < length self.old }

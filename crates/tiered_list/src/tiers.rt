@@ -243,6 +243,22 @@ impl<T> Tiers<T> {
         }
     }
 
+    /// Takes all items out, which leaves each tier between the first and the last as a spare one.
+    #[inline(never)]
+    pub(crate) fn clear(&mut self)
+    where
+        T: Drop,
+        ensures items { all_items self.new ≡ [] }
+        ensures room { room_for self.new ≡ room_for self.old }
+    {
+        self.front.clear();
+        self.back.clear();
+        while let Some(mut tier) = self.middle.pop_front() {
+            tier.clear();
+            self.spare.push_reserved(tier);
+        }
+    }
+
     /// Takes the item at a place out.
     #[inline(always)]
     pub(crate) fn remove(&mut self, place: usize) -> T
