@@ -36,7 +36,7 @@ pub use Rattle.kdg_graph.specs.Node.{Node, new_node}
 pub use Rattle.kdg_graph.specs.NodeStock.{NodeShelf, NodeStock, ids_left, places_in}
 pub use Rattle.kdg_graph.specs.Nodes.{HasNode, HaveOwnIds, HaveSets, IsGraph, earlier_than, ids_of, is_at, later_than, least_of, node_at, node_with_key, put_node, set_at, started, task_at, tasks_of}
 pub use Rattle.kdg_graph.specs.Rewrite.{AreAdded, AreOfOwnNodes, HaveNewKeys, fresh_nodes, fresh_tasks, put_nodes, set_after, with_sets, without}
-pub use Rattle.kdg_graph.specs.Selected.{AreForgotten, AreInTurn, AreLeft, AreMarked, AreRefreshed, AreRetested, AreSelected, AreSome, HasFewGone, HaveMarks, IsArrival, IsInOrder, IsLeft, IsNext, MarkedIds, TellsItsKey, arrival_cmp, arrived, forgotten, has_number, ids_in, is_among, is_behind, is_later, is_left, is_recent, is_settled, is_unblocked, key_at, left_in, listed_in, not_running, recent_among, recent_in, refreshed, retested, runs, settled_among, settled_from, settled_in, unblocked_of}
+pub use Rattle.kdg_graph.specs.Selected.{AreForgotten, AreInTurn, AreLeft, AreMarked, AreRefreshed, AreRetested, AreSelected, AreSome, HasGone, HaveMarks, IsArrival, IsInOrder, IsLeft, IsNext, MarkedIds, TellsItsKey, arrival_cmp, arrived, forgotten, has_number, ids_in, is_among, is_behind, is_later, is_left, is_recent, is_settled, is_unblocked, key_at, left_in, listed_in, not_running, recent_among, recent_in, refreshed, retested, runs, settled_among, settled_from, settled_in, unblocked_of}
 pub use Rattle.kdg_graph.specs.Stored.{AreKept, IsStored, in_order, nodes_of}
 pub use Rattle.kdg_graph.specs.declared.arrival.Arrival.{Arrival}
 pub use Rattle.kdg_graph.specs.declared.change.Fresh.{Fresh}

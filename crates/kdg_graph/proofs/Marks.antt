@@ -6,7 +6,7 @@ use Rattle.std.specs.Int.{from_bool}
 use Rattle.std.specs.List.{remove}
 use Rattle.std.proofs.lemmas.List.{take-append-le}
 use Rattle.std.proofs.lemmas.List.Elements.{Contains-push_cases, filter_agree, filter_more}
-use Rattle.kdg_graph.proofs.Common.{cases_eq, count_by-le-length, drop_more, get_or_from_slice_get, slice_get_within, list_any-IsPermutation, and_parts, from_map, in_map, length-filter, take_more, AllByRecursion, Arrival, NodeId, Standing, Absent, Recent, Settled, Node, HasNode, HaveOwnIds, IsGraph, ids_of, is_at, without, IsLaneAmong, IsInOrder, AreForgotten, AreMarked, AreRetested, AreSome, HasFewGone, HaveMarks, IsNext, MarkedIds, arrived, ids_in, listed_in, recent_in, settled_from, settled_in, has_number, is_among, is_recent, is_settled, recent_among, settled_among, all_at, all_from, from_filter, in_filter, here, there, filter-map, false_from_ne_true}
+use Rattle.kdg_graph.proofs.Common.{cases_eq, count_by-le-length, drop_more, get_or_from_slice_get, slice_get_within, list_any-IsPermutation, and_parts, from_map, in_map, length-filter, take_more, AllByRecursion, Arrival, NodeId, Standing, Absent, Recent, Settled, Node, HasNode, HaveOwnIds, IsGraph, ids_of, is_at, without, IsLaneAmong, IsInOrder, AreForgotten, AreMarked, AreRetested, AreSome, HasGone, HaveMarks, IsNext, MarkedIds, arrived, ids_in, listed_in, recent_in, settled_from, settled_in, has_number, is_among, is_recent, is_settled, recent_among, settled_among, all_at, all_from, from_filter, in_filter, here, there, filter-map, false_from_ne_true}
 use Rattle.kdg_graph.proofs.Blocking.{any_from}
 use Rattle.kdg_graph.proofs.Lanes.{among_own_ids, length-ids, same_by_number}
 use Rattle.kdg_graph.proofs.LookUps.{ids_find_nodes, none_at, same_id, without_none}
@@ -258,12 +258,25 @@ marked_forgotten standings entries arrivals id marked inside =
     marked_set standings (settled_among standings entries) (settled_among (set standings id.at Absent) entries) (recent_among standings arrivals) (recent_among (set standings id.at Absent) arrivals) id Absent marked inside
     (mark_lost_settled standings entries id inside) (mark_lost_recent standings arrivals id inside)
 
+-- one that is there is lost
+loses_it : (id : NodeId) (ids : List NodeId) → has_number id.at ids ≡ true → suc (length (ids_but id ids)) ≤ length ids
+loses_it id [] has = absurd (true≢false (sym has))
+loses_it id (first ∷ ids) has =
+    let others : NodeId → Bool = λ other. not (other.at == id.at) in
+    let by_case : (same : Bool) → (first.at == id.at) ≡ same → suc (length (cond (not same) (first ∷ ids_but id ids) (ids_but id ids))) ≤ length (first ∷ ids) = elim [
+      | true ↦ λ _. omega (arith, length-filter others ids, count_by-le-length others ids)
+      | false ↦ λ other.
+          let differs : (id.at == first.at) ≡ false = false_from_ne_true (id.at == first.at) (λ same. true≢false (sym (eq-eqb first.at id.at (sym (eqb-true id.at first.at same))) ∙ other)) in
+          omega (arith, loses_it id ids (ap (λ b. b || has_number id.at ids) (sym differs) ∙ has))
+    ] in
+    by_case (first.at == id.at) refl
+
 -- of those in order one is lost, if it was one of them
-pub lost_by_mark : (nodes : List Node) (standings : List Standing) (entries : List NodeId) (id : NodeId) (answer : Bool) → IsGraph nodes → IsInOrder nodes (settled_among standings entries) → id.at < length standings → is_settled (get_or standings id.at Absent) ≡ answer
-    → length (settled_among standings entries) ≤ from_bool answer + length (settled_among (set standings id.at Absent) entries)
-lost_by_mark nodes standings entries id true graph in_order inside is =
-    omega (arith, fewer_by_one nodes id (settled_among standings entries) graph in_order, ap length (settled_unmarked standings entries id Absent inside refl))
-lost_by_mark nodes standings entries id false graph in_order inside is =
+pub lost_by_mark : (nodes : List Node) (standings : List Standing) (entries : List NodeId) (id : NodeId) (answer : Bool) → IsGraph nodes → IsInOrder nodes (settled_among standings entries) → id.at < length standings → is_settled (get_or standings id.at Absent) ≡ answer → has_number id.at (settled_among standings entries) ≡ answer
+    → length (settled_among standings entries) ≡ from_bool answer + length (settled_among (set standings id.at Absent) entries)
+lost_by_mark nodes standings entries id true graph in_order inside is has =
+    omega (arith, fewer_by_one nodes id (settled_among standings entries) graph in_order, loses_it id (settled_among standings entries) has, ap length (settled_unmarked standings entries id Absent inside refl))
+lost_by_mark nodes standings entries id false graph in_order inside is has =
     omega (arith, ap length (settled_stays standings entries id Absent inside refl is))
 
 pub forgets : (nodes : List Node) (id : NodeId) (some : MarkedIds) → IsGraph nodes → HasNode nodes id → AreSome nodes some → AreForgotten nodes (id ∷ []) some (record some { standings = set some.standings id.at Absent })
@@ -411,12 +424,12 @@ put_all nodes before was arrivals ids standings end put marked = (
 pub cleaned : (standings : List Standing) (entries now : List NodeId) → now ≡ settled_among standings entries → settled_among standings now ≡ settled_among standings entries
 cleaned standings entries now is = ap (settled_among standings) is ∙ filter_again (λ (id : NodeId). is_settled (get_or standings id.at Absent)) entries
 
-pub marked_cleaned : (standings : List Standing) (entries now : List NodeId) (arrivals : List Arrival) → AreMarked (settled_among standings entries) (recent_among standings arrivals) standings → now ≡ settled_among standings entries → AreMarked (settled_among standings now) (recent_among standings arrivals) standings × HasFewGone standings now 0
+pub marked_cleaned : (standings : List Standing) (entries now : List NodeId) (arrivals : List Arrival) → AreMarked (settled_among standings entries) (recent_among standings arrivals) standings → now ≡ settled_among standings entries → AreMarked (settled_among standings now) (recent_among standings arrivals) standings × HasGone standings now 0
 marked_cleaned standings entries now arrivals marked is =
     let again = cleaned standings entries now is in
     (subst (λ (l : List NodeId). AreMarked l (recent_among standings arrivals) standings) (sym again) marked, omega (arith, ap length is, ap length again))
 
-pub none_gone : (standings : List Standing) (entries : List NodeId) (gone : ℕ) → HasFewGone standings entries gone → gone ≤ 0 → entries ≡ settled_among standings entries
+pub none_gone : (standings : List Standing) (entries : List NodeId) (gone : ℕ) → HasGone standings entries gone → gone ≤ 0 → entries ≡ settled_among standings entries
 none_gone standings entries gone few none = sym (filter_full (λ (id : NodeId). is_settled (get_or standings id.at Absent)) entries (omega (arith, few, none)))
 
 -- the walk over the list: the one at the place stays, or is taken out

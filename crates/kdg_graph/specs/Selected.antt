@@ -104,9 +104,9 @@ settled_among standings ids = filter (λ id. is_settled (get_or standings id.at 
 abbrev pub recent_among : List Standing → List Arrival → List Arrival
 recent_among standings arrivals = filter (λ arrival. is_recent (get_or standings arrival.id.at Absent)) arrivals
 
--- at most so many ids that were put in order are marked otherwise by now
-abbrev pub HasFewGone : List Standing → List NodeId → ℕ → Type 0
-HasFewGone standings ids gone = length ids ≤ gone + length (settled_among standings ids)
+-- how many ids that were put in order are marked otherwise by now
+abbrev pub HasGone : List Standing → List NodeId → ℕ → Type 0
+HasGone standings ids gone = length ids ≡ gone + length (settled_among standings ids)
 
 -- ids that were put in order, those that came since, how each number is marked, and room for so many in order: an id that is marked otherwise counts no more
 pub record MarkedIds : Type 0 where

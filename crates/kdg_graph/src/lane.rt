@@ -313,6 +313,15 @@ impl Lane {
         }
     }
 
+    /// Takes all ids out.
+    #[inline(always)]
+    pub(crate) fn clear(&mut self)
+        ensures ids { self.new.ids.items ≡ [] }
+        ensures room { self.new.ids.capacity ≡ self.old.ids.capacity }
+    {
+        self.ids.clear();
+    }
+
     /// Takes the id at a place out.
     #[inline(always)]
     pub(crate) fn remove(&mut self, place: usize) -> NodeId

@@ -6,7 +6,7 @@ ghost use Rattle.kdg_graph.specs.Edges.{is_blocked};
 ghost use Rattle.kdg_graph.specs.Fronts.{fronts_after};
 ghost use Rattle.kdg_graph.specs.Lanes.{IsRankPast};
 ghost use Rattle.kdg_graph.specs.Locations.{AreFiled, clashing_at, front_after};
-ghost use Rattle.kdg_graph.specs.Selected.{AreForgotten, AreInTurn, AreMarked, AreRefreshed, AreRetested, AreSelected, AreSome, HasFewGone, HaveMarks, IsInOrder, IsNext, TellsItsKey, arrived, forgotten, has_number, ids_in, is_left, is_recent, is_settled, listed_in, recent_among, recent_in, settled_among, settled_from, settled_in};
+ghost use Rattle.kdg_graph.specs.Selected.{AreForgotten, AreInTurn, AreMarked, AreRefreshed, AreRetested, AreSelected, AreSome, HasGone, HaveMarks, IsInOrder, IsNext, TellsItsKey, arrived, forgotten, has_number, ids_in, is_left, is_recent, is_settled, listed_in, recent_among, recent_in, settled_among, settled_from, settled_in};
 ghost use Rattle.kdg_graph.specs.declared.source_lane.Standing.TheVariants.{Absent};
 
 use crate::NodeId;
@@ -46,12 +46,12 @@ pub(crate) struct SourceLane {
     arrivals: Vec<Arrival>,
     /// Where each id stands, by its number.
     standings: Vec<Standing>,
-    /// How many ids of the list in key order are marked otherwise at most.
+    /// How many ids of the list in key order are marked otherwise.
     gone: usize,
 }
 
 impl Model for SourceLane {
-    ghost use Rattle.kdg_graph.specs.Selected.{AreMarked, HasFewGone, MarkedIds, recent_among, settled_among};
+    ghost use Rattle.kdg_graph.specs.Selected.{AreMarked, HasGone, MarkedIds, recent_among, settled_among};
 
     ghost Value = { MarkedIds };
 
@@ -62,7 +62,7 @@ impl Model for SourceLane {
       room = s.settled.ids.capacity;
     } };
 
-    ghost invariant = { λ s. AreMarked (settled_among s.standings.items s.settled.ids.items) (recent_among s.standings.items s.arrivals.items) s.standings.items × HasFewGone s.standings.items s.settled.ids.items s.gone };
+    ghost invariant = { λ s. AreMarked (settled_among s.standings.items s.settled.ids.items) (recent_among s.standings.items s.arrivals.items) s.standings.items × HasGone s.standings.items s.settled.ids.items s.gone };
 }
 
 impl SourceLane {
@@ -493,12 +493,18 @@ fn reserve_marks(standings: &mut Vec<Standing>, below: usize) -> Result<(), NoRo
     Ok(())
 }
 
-/// Takes those out that are marked as being there no more, of which there are at most `gone`.
+/// Takes those out that are marked as being there no more, of which there are `gone`. Where a round had
+/// all of them, none is looked at.
+#[inline(always)]
 fn take_gone(settled: &mut Lane, standings: &[Standing], gone: usize)
-    requires { HasFewGone standings.now settled.old.ids.items gone }
+    requires { HasGone standings.now settled.old.ids.items gone }
     ensures left { settled.new.ids.items ≡ settled_among standings.now settled.old.ids.items }
     ensures room { settled.old.ids.capacity ≤ settled.new.ids.capacity }
 {
+    if gone == settled.len() {
+        settled.clear();
+        return;
+    }
     let mut left = gone;
     let mut place = 0;
     while left > 0 {

@@ -1,10 +1,10 @@
 use Rattle.std.proofs.Common.{◌≡◌, ◌∙◌, List, ap, arith, subst, sym}
-use Rattle.kdg_graph.proofs.Common.{HasFewGone, MarkedIds, Standing, settled_among, settled_in}
+use Rattle.kdg_graph.proofs.Common.{HasGone, MarkedIds, Standing, settled_among, settled_in}
 use Rattle.kdg_graph.proofs.Marks.{cleaned, marked_cleaned, none_gone}
 use Rattle.kdg_graph.proofs.source_lane.SourceLane.drop_gone.Goals as goal
 
 pub take_gone-requires : goal.take_gone-requires
-take_gone-requires c = subst (λ (standings : List Standing). HasFewGone standings c.self.inside.settled.ids.items c.self.inside.gone) (sym c.deref.ensures.value) c.self.invariant.1
+take_gone-requires c = subst (λ (standings : List Standing). HasGone standings c.self.inside.settled.ids.items c.self.inside.gone) (sym c.deref.ensures.value) c.self.invariant.1
 
 left : (c : goal.After-self-1) → c.take_gone.new.settled.ids.items ≡ settled_among c.self.inside.standings.items c.self.inside.settled.ids.items
 left c = c.take_gone.ensures.left ∙ ap (λ (standings : List Standing). settled_among standings c.self.inside.settled.ids.items) c.deref.ensures.value

@@ -15,7 +15,7 @@ invariant_of-self c =
     let some = subst (AreSome c.args.nodes.now.nodes) (sym c.self.view_is) c.requires.some in
     let inside : c.args.id.at < length standings = has_mark c.args.nodes.now.nodes c.args.id (length standings) c.requires.there some.marks in
     let was : is_settled (get_or standings c.args.id.at Absent) ≡ c.is_in_order.result = ap (λ (m : MarkedIds). is_settled (get_or m.standings c.args.id.at Absent)) c.self.view_is ∙ sym c.is_in_order.ensures in
-    let lost = lost_by_mark c.args.nodes.now.nodes standings c.self.inside.settled.ids.items c.args.id c.is_in_order.result c.requires.graph some.in_order inside was in (
+    let lost = lost_by_mark c.args.nodes.now.nodes standings c.self.inside.settled.ids.items c.args.id c.is_in_order.result c.requires.graph some.in_order inside was (sym (c.self.invariant.0.are_settled c.args.id.at) ∙ was) in (
       marked_forgotten standings c.self.inside.settled.ids.items c.self.inside.arrivals.items c.args.id c.self.invariant.0 inside,
       omega (arith, c.self.invariant.1, lost),
     )

@@ -1,5 +1,5 @@
 use Rattle.std.proofs.Common.{◌≡◌, ◌∙◌, ◌∷◌, [], ◌<◌, ℕ, true, false, List, ap, arith, length, set, subst, sym}
-use Rattle.kdg_graph.proofs.Common.{AreMarked, AreRetested, AreSome, Arrival, HasFewGone, IsInOrder, MarkedIds, Node, NodeId, Settled, Standing, has_number, listed_in, recent_among, settled_among, settled_in}
+use Rattle.kdg_graph.proofs.Common.{AreMarked, AreRetested, AreSome, Arrival, HasGone, IsInOrder, MarkedIds, Node, NodeId, Settled, Standing, has_number, listed_in, recent_among, settled_among, settled_in}
 use Rattle.kdg_graph.proofs.Listed.{has_mark, room_for_one}
 use Rattle.kdg_graph.proofs.Marks.{all_settled, as_marked, marked_placed, placed, still_absent}
 use Rattle.kdg_graph.proofs.source_lane.SourceLane.list_at_once.Goals as goal
@@ -31,7 +31,7 @@ invariant_of-self c =
     let inside : c.args.id.at < length standings = has_mark c.args.nodes.now.nodes c.args.id (length standings) c.requires.there some.marks in
     let marked : AreMarked (settled_among standings entries) [] standings = subst (λ (l : List Arrival). AreMarked (settled_among standings entries) (recent_among standings l) standings) none c.self.invariant.0 in
     let told : AreMarked ids [] now = marked_placed c.args.nodes.now.nodes standings entries ids c.args.id c.requires.graph c.requires.there inside marked all some.in_order c.put_into.ensures.ids in
-    let few : HasFewGone now ids c.self.inside.gone = omega (arith, ap length (all_settled now ids told.are_settled)) in
+    let few : HasGone now ids c.self.inside.gone = omega (arith, c.self.invariant.1, ap length all, ap length (all_settled now ids told.are_settled)) in
     let kept : AreMarked (settled_among now ids) (recent_among now c.self.inside.arrivals.items) now = subst (λ (l : List Arrival). AreMarked (settled_among now ids) (recent_among now l) now) (sym none) (as_marked ids now told) in
     (kept, few)
 

@@ -1,5 +1,5 @@
 use Rattle.std.proofs.Common.{◌≡◌, ◌<◌, ◌∙◌, ◌++◌, ◌||◌, [], IsPermutation, List, ap, arith, drop, length, subst, sym, take}
-use Rattle.kdg_graph.proofs.Common.{AllByRecursion, AreInTurn, AreMarked, AreSome, Arrival, HasFewGone, HasNode, HaveMarks, IsInOrder, MarkedIds, Node, NodeId, Standing, TellsItsKey, arrived, has_number, listed_in, recent_among, recent_in, settled_among, settled_in}
+use Rattle.kdg_graph.proofs.Common.{AllByRecursion, AreInTurn, AreMarked, AreSome, Arrival, HasGone, HasNode, HaveMarks, IsInOrder, MarkedIds, Node, NodeId, Standing, TellsItsKey, arrived, has_number, listed_in, recent_among, recent_in, settled_among, settled_in}
 use Rattle.kdg_graph.proofs.Listed.{all_placed}
 use Rattle.kdg_graph.proofs.Marks.{all_settled, as_marked, moved_marked, moved_numbers, moved_there, written_back}
 use Rattle.kdg_graph.proofs.source_lane.SourceLane.settle_arrivals.Goals as goal
@@ -61,7 +61,8 @@ all_put c = all_settled c.put_in_order.new.standings c.put_in_order.new.settled.
 
 pub invariant_of-self : goal.invariant_of-self
 invariant_of-self c =
-    subst (λ (m : MarkedIds). AreMarked (settled_in m) (recent_in m) m.standings × HasFewGone m.standings m.entries c.self.inside.gone) (sym (put_is c)) (as_marked c.put_in_order.new.settled.ids.items c.put_in_order.new.standings c.put_in_order.ensures.marked, omega (arith, ap length (all_put c)))
+    let all : settled_among c.self.inside.standings.items c.self.inside.settled.ids.items ≡ c.self.inside.settled.ids.items = subst (λ (m : MarkedIds). settled_in m ≡ m.entries) (sym c.self.view_is) c.requires.none_gone in
+    subst (λ (m : MarkedIds). AreMarked (settled_in m) (recent_in m) m.standings × HasGone m.standings m.entries c.self.inside.gone) (sym (put_is c)) (as_marked c.put_in_order.new.settled.ids.items c.put_in_order.new.standings c.put_in_order.ensures.marked, omega (arith, c.self.invariant.1, ap length all, ap length (all_put c)))
 
 pub returns-clause-none_gone : goal.returns-clause-none_gone
 returns-clause-none_gone c = subst (λ (m : MarkedIds). settled_in m ≡ m.entries) (sym (put_is c)) (all_put c)
