@@ -13,4 +13,6 @@ pub use child::{Child, ChildList};
 pub use family::family_laws;
 pub use laws::{execution_laws, lawful, naming_laws, orderly_laws, renaming_laws};
 pub use listing::starts_by_path;
-pub use serial_run::{Finals, SerialFault, new_paths_pay, serial};
+pub use serial_run::{
+    Finals, SerialFault, act, first_tasks, new_paths_pay, put_children, serial, store_of,
+};

@@ -213,8 +213,8 @@ fn within(created: u64, limit: u64) -> Result<(), SerialFault>
     }
 }
 
-/// A store of the application's cells, all of them home.
-fn store_of<A: App>(alloc: Global, app: &A, cells: Vec<A::Val>) -> Result<Store<A::Val>, NoRoom>
+/// A store of the application's cells, all of them home. After `NoRoom` they are dropped.
+pub fn store_of<A: App>(alloc: Global, app: &A, cells: Vec<A::Val>) -> Result<Store<A::Val>, NoRoom>
     requires { (A.meaning app.now).is_fit_cells cells.items }
     ensures { IfOk result (λ store. store ≡ homes cells.items) }
 {
@@ -223,9 +223,10 @@ fn store_of<A: App>(alloc: Global, app: &A, cells: Vec<A::Val>) -> Result<Store<
     Store::new(alloc, cells)
 }
 
-/// Lets a task act on the cells, which are all home: finds out its set, and runs it on them there.
+/// Lets a task act on the cells, which are all home: finds out its set, and runs it on them there. The
+/// answer is its children and its text.
 #[inline(always)]
-fn act<A: App, L: Ledger>(
+pub fn act<A: App, L: Ledger>(
     app: &A,
     task: &Task,
     store: &mut Store<A::Val>,
@@ -254,7 +255,7 @@ fn act<A: App, L: Ledger>(
 }
 
 /// The first tasks, with their keys.
-fn first_tasks(alloc: Global, first: &[Start]) -> Result<TaskList, NoRoom>
+pub fn first_tasks(alloc: Global, first: &[Start]) -> Result<TaskList, NoRoom>
     requires few { length first.now < 2 ^ 32 }
     ensures tasks { IfOk result (λ tasks. tasks ≡ put_all (first_from 0 first.now) []) }
 {
@@ -269,9 +270,9 @@ fn first_tasks(alloc: Global, first: &[Start]) -> Result<TaskList, NoRoom>
     Ok(pending)
 }
 
-/// Puts the children of a task among the pending ones.
+/// Puts the children of a task among the pending ones. After `NoRoom` some are among them.
 #[inline(always)]
-fn put_children(pending: &mut TaskList, parent: &Key, children: &[Child]) -> Result<(), NoRoom>
+pub fn put_children(pending: &mut TaskList, parent: &Key, children: &[Child]) -> Result<(), NoRoom>
     requires few { length children.now < 2 ^ 32 }
     requires not_earlier { AllByRecursion (λ child. parent.now.prio ≤ child.prio) children.now }
     requires new { AllByRecursion (λ task. IsNewKey task.key pending.old) (children_from parent.now 0 (starts_of children.now)) }

@@ -1,0 +1,198 @@
+-- Where the parts of a run have come, when a task acts, a log is drained, and nothing is left.
+use Rattle.std.proofs.Common.{◌≡◌, false, ℕ, suc, ◌+◌, ◌<◌, ◌≤◌, List, [], ◌∷◌, ◌++◌, length, Option, Some, None, refl, sym, ap, ◌∙◌, subst, arith, append-nil, append_assoc}
+use Rattle.std.specs.Prelude.{Contains, IsSomeAnd}
+use Rattle.std.specs.List.{AllByRecursion}
+use Rattle.task_order.specs.declared.key.Key.{Key}
+use Rattle.task_order.specs.declared.start.Start.{Start}
+use Rattle.task_order.specs.declared.task.Task.{Task}
+use Rattle.task_order.specs.Key.{at_key, child_key, end}
+use Rattle.task_order.specs.TaskList.{IsAscending, put_all}
+use Rattle.cell_store.specs.declared.cell.Cell.{Cell}
+use Rattle.cell_store.specs.Values.{homes, values_of}
+use Rattle.output_log.specs.Entries.{Entry, IsInKeyOrder, IsNewEntry, entries_before, joined_texts, with_entry}
+use Rattle.app_laws.specs.declared.serial_run.Finals.{Finals}
+use Rattle.app_laws.specs.Applications.{Application, AreFitStarts}
+use Rattle.app_laws.specs.Execution.{Execution, first_from}
+use Rattle.app_laws.specs.Order.{is_prefix}
+use Rattle.app_laws.specs.Serial.{IsRun}
+use Rattle.commuting.specs.Clear.{IsClear}
+use Rattle.commuting.specs.Rounds.{TakesRounds}
+use Rattle.commuting.specs.Standing.{ComeBefore, IsEndWith, StandsFor}
+use Rattle.commuting.specs.States.{State, after_task, execution_from, run_from, state_of}
+use Rattle.crew.specs.declared.answers.OverCause.{OverCause}
+use Rattle.crew.specs.declared.answers.OverCause.TheVariants as cause
+use Rattle.list_rounds.specs.declared.parts.RunParts.{RunParts}
+use Rattle.list_rounds.specs.Acting.{HasActed, IsTooMany}
+use Rattle.list_rounds.specs.Basis.{Basis}
+use Rattle.list_rounds.specs.Course.{HasCome, IsDrained, IsOnCourse, drainable, state_in, undrainable}
+use Rattle.list_rounds.specs.Rounds.{IsOverLimit, IsRunFault, most_tasks, start_state}
+use Rattle.list_rounds.proofs.Family.{all_after}
+use Rattle.list_rounds.proofs.Lists.{AreEarlier, all_at, back-append, before_is_earlier, before_later, both_before, earlier_than_later, new_where_unlogged, none_before, order_of_back, put_behind}
+
+length-first : (number : ℕ) (starts : List Start) → length (first_from number starts) ≡ length starts
+length-first number [] = refl
+length-first number (start ∷ starts) = ap suc (length-first (suc number) starts)
+
+module _ {V : Type 0} {app : Application V} (basis : Basis app) where
+  -- ---- the start
+
+  starts_stand : (cells : List V) (first : List Start) → app.is_fit_cells cells → AreFitStarts app first → StandsFor app (start_state cells first) [] (start_state cells first)
+  starts_stand cells first fit fit_first = basis.starts (start_state cells first) (basis.starts_ready cells first fit fit_first)
+
+  pub values_are : (store : List (Cell V)) (values : List V) → store ≡ homes values → values_of store ≡ values
+  values_are store values is = ap values_of is ∙ basis.values.values_of_homes values
+
+  pub start_is : (cells : List V) (first : List Start) (store : List (Cell V)) (pending : List Task) → store ≡ homes cells → pending ≡ put_all (first_from 0 first) [] → state_of (values_of store) pending ≡ start_state cells first
+  start_is cells first store pending home puts = ap (λ values. state_of values pending) (values_are store cells home) ∙ ap (state_of cells) puts
+
+  pub starts_have_come : (cells : List V) (first : List Start) (limit : ℕ) (parts : RunParts V) → app.is_fit_cells cells → AreFitStarts app first → parts.store ≡ homes cells → parts.pending ≡ put_all (first_from 0 first) []
+      → parts.log.entries ≡ [] → parts.text ≡ [] → parts.ended ≡ 0 → length first ≤ limit → limit ≤ most_tasks → HasCome app (start_state cells first) limit 0 parts
+  starts_have_come cells first limit parts fit fit_first home puts log text ended within limited =
+      let start = start_state cells first in
+      let is = start_is cells first parts.store parts.pending home puts in
+      record {
+        course = record {
+          drained = [];
+          home = home ∙ ap homes (sym (values_are parts.store cells home));
+          stands = subst (λ (entries : List Entry). StandsFor app start entries (state_in parts)) (sym log)
+              (subst (StandsFor app start []) (sym is) (starts_stand cells first fit fit_first));
+          earlier = none_before parts.pending;
+          text_is = text;
+          ended_is = ended ∙ ap length (sym log);
+        };
+        goes_on = λ more takes.
+            let all : more ≡ 0 + more = omega arith in
+            subst (λ n. TakesRounds app n start) all (subst (TakesRounds app more) is takes);
+        some_each = omega arith;
+        within = let all = basis.put_all_adds (first_from 0 first) [] in let each = length-first 0 first in omega (arith, ended, within, ap length puts, all, each);
+        limited = limited;
+      }
+
+  -- too many first tasks
+  pub too_many_at_start : (cells : List V) (first : List Start) (limit created : ℕ) → app.is_fit_cells cells → AreFitStarts app first → created ≡ length first → limit < created → IsOverLimit app (start_state cells first) limit created limit
+  too_many_at_start cells first limit created fit fit_first many above =
+      let start = start_state cells first in
+      let all = basis.put_all_adds (first_from 0 first) [] in
+      let each = length-first 0 first in
+      record {
+        too_long = basis.too_many start start [] (starts_stand cells first fit fit_first) limit (omega arith) (omega (arith, all, each, many, above));
+        limit_is = refl;
+        above = above;
+      }
+
+  module _ {start : State V} {old : RunParts V} (course : IsOnCourse app start old) where
+    -- a pending task's key is new in the log
+    pub new_entry : (task : Task) → Contains old.pending task → IsNewEntry task.key old.log.entries
+    new_entry task there =
+        new_where_unlogged task.key old.log.entries
+        (back-append (λ (entry : Entry). is_prefix task.key.path entry.0.path ≡ false) course.drained old.log.entries
+        (all_at (λ (other : Task). AllByRecursion (λ (entry : Entry). is_prefix other.key.path entry.0.path ≡ false) (course.drained ++ old.log.entries)) old.pending task course.stands.unlogged there))
+
+    -- ---- a clear task acts
+
+    module _ (task : Task) (clear : IsClear app (state_in old) task) where
+      abbrev entries_after : List Entry
+      entries_after = with_entry task.key (app.act task (values_of old.store)).text (course.drained ++ old.log.entries)
+
+      stands_after : StandsFor app start entries_after (after_task app.act task (state_in old))
+      stands_after = basis.acts start (state_in old) (course.drained ++ old.log.entries) task course.stands clear
+
+      one_more : length entries_after ≡ old.ended + 1
+      one_more =
+          let longer = basis.joins_add_lengths (course.drained ++ old.log.entries) ((task.key, (app.act task (values_of old.store)).text) ∷ []) in
+          omega (arith, longer, course.ended_is)
+
+      earlier_after : ComeBefore course.drained (after_task app.act task (state_in old)).pending
+      earlier_after =
+          all_after basis course.stands.ready clear.pending (λ (key : Key). AreEarlier key course.drained)
+          (λ parent number prio later. earlier_than_later basis.transitive course.drained parent (child_key parent number prio) (basis.children_later parent number prio later)) course.earlier
+
+      some_pending : 0 < length old.pending
+      some_pending = let there = clear.pending.1 in omega (arith, there)
+
+      pub never_ends : (limit : ℕ) (fault : OverCause) → old.ended + length old.pending ≤ limit → IsTooMany app old task limit fault → IsRunFault app start limit fault
+      never_ends limit (cause.Budget created most) within many = record {
+        too_long =
+            basis.too_many start (after_task app.act task (state_in old)) entries_after stands_after limit
+            (let some = some_pending in omega (arith, one_more, within, some))
+            (omega (arith, one_more, many.0, many.2));
+        limit_is = many.1;
+        above = many.2;
+      }
+      never_ends limit cause.NoRoom within many = tt
+
+      module _ (now : RunParts V) (acted : HasActed app old task now) where
+        cells_are : values_of now.store ≡ (app.act task (values_of old.store)).cells
+        cells_are = values_are now.store (app.act task (values_of old.store)).cells acted.store
+
+        pub state_after : state_in now ≡ after_task app.act task (state_in old)
+        state_after = ap (λ values. state_of values now.pending) cells_are ∙ ap (state_of (app.act task (values_of old.store)).cells) acted.pending
+
+        log_after : entries_after ≡ course.drained ++ now.log.entries
+        log_after =
+            put_behind task.key (app.act task (values_of old.store)).text course.drained old.log.entries
+            (all_at (λ (other : Task). AreEarlier other.key course.drained) old.pending task course.earlier clear.pending)
+            ∙ ap (λ log. course.drained ++ log) (sym acted.log)
+
+        pub acts_keep_course : IsOnCourse app start now
+        acts_keep_course = record {
+          drained = course.drained;
+          home = acted.store ∙ ap homes (sym cells_are);
+          stands = subst (λ (entries : List Entry). StandsFor app start entries (state_in now)) log_after (subst (StandsFor app start entries_after) (sym state_after) stands_after);
+          earlier = subst (ComeBefore course.drained) (sym acted.pending) earlier_after;
+          text_is = acted.text ∙ course.text_is;
+          ended_is = acted.ended ∙ sym one_more ∙ ap length log_after;
+        }
+
+    -- ---- a drain
+
+    drained_parts : (pending : List Task) (log : List Entry) → IsInKeyOrder log → log ≡ drainable pending log ++ undrainable pending log
+    drained_parts [] log ordered = sym (append-nil log)
+    drained_parts (first ∷ tasks) log ordered = basis.earlier_first (at_key first.key) log ordered
+
+    drainable_before : (pending : List Task) (log : List Entry) → IsAscending pending → ComeBefore (drainable pending log) pending
+    drainable_before [] log ascending = tt
+    drainable_before (first ∷ tasks) log ascending =
+        let all = before_is_earlier first.key log in
+        (all, before_later basis.transitive (entries_before (at_key first.key) log) first.key tasks ascending.0 all)
+
+    module _ (now : RunParts V) (drain : IsDrained old now) where
+      pub same_state : state_in now ≡ state_in old
+      same_state = ap (λ store. state_of (values_of store) now.pending) drain.store ∙ ap (state_of (values_of old.store)) drain.pending
+
+      pub drains_keep_course : IsOnCourse app start now
+      drains_keep_course =
+          let more = drainable old.pending old.log.entries in
+          let rest = undrainable old.pending old.log.entries in
+          let whole : course.drained ++ old.log.entries ≡ (course.drained ++ more) ++ now.log.entries =
+          ap (λ log. course.drained ++ log) (drained_parts old.pending old.log.entries (order_of_back course.drained old.log.entries course.stands.ordered))
+          ∙ sym (append_assoc course.drained more rest) ∙ ap (λ log. (course.drained ++ more) ++ log) (sym drain.log) in
+          record {
+            drained = course.drained ++ more;
+            home = drain.store ∙ course.home ∙ ap (λ store. homes (values_of store)) (sym drain.store);
+            stands = subst (λ (entries : List Entry). StandsFor app start entries (state_in now)) whole (subst (StandsFor app start (course.drained ++ old.log.entries)) (sym same_state) course.stands);
+            earlier = subst (ComeBefore (course.drained ++ more)) (sym drain.pending)
+                (both_before course.drained more old.pending course.earlier (drainable_before old.pending old.log.entries course.stands.ready.ascending));
+            text_is = drain.text ∙ ap (λ text. text ++ joined_texts more) course.text_is ∙ sym (basis.texts_follow course.drained more);
+            ended_is = drain.ended ∙ course.ended_is ∙ ap length whole;
+          }
+
+    -- ---- the end
+
+    ends_with : (limit : ℕ) (finals : Finals V) (run : Option (Execution V)) → run_from app.act limit end start ≡ run → IsSomeAnd run (IsEndWith (course.drained ++ old.log.entries) (values_of old.store))
+        → finals.store ≡ old.store → finals.text ≡ old.text ++ joined_texts old.log.entries → finals.count ≡ old.ended → IsRun app.act limit (execution_from start) finals
+    ends_with limit finals None is ended store text count = absurd ended
+    ends_with limit finals (Some last) is ended store text count = record {
+      end = last;
+      ends = is;
+      store = store ∙ course.home ∙ ap homes (sym ended.cells-are);
+      text = text ∙ ap (λ first. first ++ joined_texts old.log.entries) course.text_is ∙ sym (basis.texts_follow course.drained old.log.entries) ∙ ap joined_texts (sym ended.log-is);
+      count = count ∙ course.ended_is ∙ ap length (sym ended.log-is);
+    }
+
+    pub nothing_left_is_the_end : (limit : ℕ) (finals : Finals V) → old.ended + length old.pending ≤ limit → old.pending ≡ [] → finals.store ≡ old.store → finals.text ≡ old.text ++ joined_texts old.log.entries
+        → finals.count ≡ old.ended → IsRun app.act limit (execution_from start) finals
+    nothing_left_is_the_end limit finals within none store text count =
+        ends_with limit finals (run_from app.act limit end start) refl
+        (basis.end start (state_in old) (course.drained ++ old.log.entries) course.stands none limit (let ended = course.ended_is in omega (arith, ended, within)))
+        store text count

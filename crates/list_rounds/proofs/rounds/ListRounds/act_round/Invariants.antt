@@ -1,0 +1,14 @@
+use Rattle.std.proofs.Common.{◌≡◌, ◌+◌, length}
+use Rattle.commuting.specs.Rounds.{after_round}
+use Rattle.list_rounds.specs.Course.{IsActing}
+use Rattle.list_rounds.proofs.rounds.ListRounds.act_round.Given as goal
+
+abbrev pub invariant-loop-task : goal.invariant-loop-task
+invariant-loop-task g l = record {
+  acting : IsActing (g.A.App.meaning l.app) l.fn.self.start l.limit (after_round (g.A.App.meaning l.app) l.fn.self.state) l.parts l.clear.items;
+  told : g.A.App.tells l.app l.horizon l.parts.pending;
+  ended : l.parts.ended + length l.clear.items ≡ l.fn.self.ended + length l.fn.clear.items;
+}
+
+abbrev pub decreases-loop-task : goal.decreases-loop-task
+decreases-loop-task g l = length l.clear.items

@@ -1,0 +1,4 @@
+pub mod Acting
+pub mod Basis
+pub mod Course
+pub mod Rounds
