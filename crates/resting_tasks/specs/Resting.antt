@@ -1,5 +1,5 @@
 -- Applications whose tasks can rest.
-use Rattle.std.specs.Prelude.{◌≡◌, ℕ, Bool, true, false, List, [], IsSome, IsTrue}
+use Rattle.std.specs.Prelude.{◌≡◌, ℕ, true, false, List, [], IsSome, IsTrue}
 use Rattle.task_order.specs.declared.task.Task.{Task}
 use Rattle.rw_sets.specs.Accesses.{access_at, writes}
 use Rattle.app_laws.specs.Applications.{Application, IsFitTask, AreFitTasks, set_in}
