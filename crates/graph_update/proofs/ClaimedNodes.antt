@@ -1,16 +1,12 @@
 -- The ids of nodes without that of one.
-use Rattle.std.proofs.Common.{◌≡◌, ◌≢◌, ℕ, zero, suc, not, ◌%◌, Bool, true, false, cond, List, [], ◌∷◌, Some, None, length, slice_get, refl, sym, ap, subst, ◌∙◌, eq-eqb, eqb-true}
+use Rattle.std.proofs.Common.{◌≡◌, ◌≢◌, ℕ, zero, suc, not, Bool, true, false, cond, List, [], ◌∷◌, Some, None, slice_get, refl, sym, ap, subst, ◌∙◌, eq-eqb, eqb-true}
 use Rattle.std.specs.Prelude.{remove}
 use Rattle.std.specs.List.{AllByRecursion, filter}
-use lib.ListN.{length-map}
 use Rattle.kdg_graph.specs.declared.node_id.NodeId.{NodeId}
 use Rattle.kdg_graph.specs.Node.{Node}
-use Rattle.kdg_graph.specs.Nodes.{HaveOwnIds, IsGraph, ids_of, is_at}
+use Rattle.kdg_graph.specs.Nodes.{HaveOwnIds, ids_of, is_at}
 use Rattle.kdg_graph.specs.Rewrite.{without}
-use Rattle.app_laws.specs.Applications.{Application}
-use Rattle.run_laws.specs.Events.{clear_nodes, is_clear}
 use Rattle.run_laws.specs.Lists.{all-filter, all_at, found_is_there}
-use Rattle.graph_update.proofs.Picked.{IsPicked}
 
 pub Some-injective : {X : Type 0} (a b : X) → Some a ≡ Some b → a ≡ b
 Some-injective a b same = cc
@@ -18,7 +14,7 @@ Some-injective a b same = cc
 none_is_not_some : {X : Type 0} (x : X) → None ≡ Some x → ⊥
 none_is_not_some x same = cc
 
-own-filter : (test : Node → Bool) (nodes : List Node) → HaveOwnIds nodes → HaveOwnIds (filter test nodes)
+pub own-filter : (test : Node → Bool) (nodes : List Node) → HaveOwnIds nodes → HaveOwnIds (filter test nodes)
 own-filter test [] own = tt
 own-filter test (node ∷ nodes) own = elim (test node) as (λ b. HaveOwnIds (cond b (node ∷ filter test nodes) (filter test nodes))) [
   | true ↦ (all-filter (λ (other : Node). other.id ≢ node.id) test nodes own.0, own-filter test nodes own.1)
@@ -39,7 +35,7 @@ none_taken id (node ∷ nodes) others =
     ap (λ test. cond (not test) (node ∷ without id nodes) (without id nodes)) (other_at id node others.0) ∙ ap (λ left. node ∷ left) (none_taken id nodes others.1)
 
 -- without a node its id is gone from its place
-id_taken : (nodes : List Node) (place : ℕ) (node : Node) → HaveOwnIds nodes → slice_get nodes place ≡ Some node → ids_of (without node.id nodes) ≡ remove (ids_of nodes) place
+pub id_taken : (nodes : List Node) (place : ℕ) (node : Node) → HaveOwnIds nodes → slice_get nodes place ≡ Some node → ids_of (without node.id nodes) ≡ remove (ids_of nodes) place
 id_taken [] place node own is = absurd (none_is_not_some node is)
 id_taken (first ∷ nodes) zero node own is =
     let same : first ≡ node = Some-injective first node is in
@@ -49,14 +45,3 @@ id_taken (first ∷ nodes) (suc place) node own is =
     let differs : node.id ≢ first.id = all_at (λ (other : Node). other.id ≢ first.id) nodes node own.0 (found_is_there nodes place node is) in
     ap (λ test. ids_of (cond (not test) (first ∷ without node.id nodes) (without node.id nodes))) (other_at node.id first (λ same. differs (sym same)))
     ∙ ap (λ ids. first.id ∷ ids) (id_taken nodes place node own.1 is)
-
--- without the picked one, the ids of the clear nodes are those of the others
-pub picked_taken : {V : Type 0} (app : Application V) → (nodes : List Node) → IsGraph nodes → (pick : ℕ) (id : NodeId) → IsPicked app nodes pick id
-    → (ids left : List NodeId) → ids ≡ ids_of (clear_nodes app nodes) → left ≡ remove ids (pick % length ids) → left ≡ ids_of (without id (clear_nodes app nodes))
-picked_taken app nodes graph pick id picked ids left are left_is =
-    let clear = clear_nodes app nodes in
-    let many : length (ids_of clear) ≡ length clear = length-map clear (λ (n : Node). n.id) in
-    let own = own-filter (is_clear app nodes) nodes graph.own_ids in
-    left_is ∙ ap (λ (held : List NodeId). remove held (pick % length held)) are ∙ ap (λ m. remove (ids_of clear) (pick % m)) many
-    ∙ sym (id_taken clear (pick % length clear) picked.node own picked.chosen)
-    ∙ ap (λ one. ids_of (without one clear)) picked.id_is

@@ -1,12 +1,11 @@
 -- A clear node that is named by its id is claimed, and its task is performed and ended.
-use Rattle.std.proofs.Common.{◌≡◌, ℕ, ◌+◌, ◌%◌, ◌<◌, ◌≤◌, true, false, cond, List, [], ◌∷◌, Option, Some, None, length, slice_get, refl, sym, ap, subst, ◌∙◌, arith, eq-eqb, inr}
+use Rattle.std.proofs.Common.{◌≡◌, ℕ, ◌+◌, ◌<◌, ◌≤◌, true, false, cond, List, [], ◌∷◌, Option, Some, None, length, refl, sym, ap, subst, ◌∙◌, arith, eq-eqb, inl, inr}
 use Rattle.std.specs.Prelude.{Contains, IsSome}
 use Rattle.std.specs.List.{filter}
 use Rattle.std.specs.Option.{option_map, option_or}
 use lib.ListN.{length-map}
 use Rattle.std.specs.Ordering.{is_lt}
-use Rattle.std.proofs.Math.Nat.{mod-eq_of_lt}
-use Rattle.std.proofs.lemmas.Option.{same_Some, slice_get_read}
+use Rattle.std.proofs.lemmas.Option.{same_Some}
 use Rattle.task_order.specs.declared.key.Key.{Key}
 use Rattle.task_order.specs.declared.task.Task.{Task}
 use Rattle.task_order.specs.Key.{key_cmp}
@@ -27,14 +26,17 @@ use Rattle.run_laws.specs.Acting.{HasActed, IsActFault, IsPlayed, IsStarted}
 use Rattle.graph_update.specs.AtHome.{IsBackHome, IsEndFault, done_of}
 use Rattle.graph_update.specs.Basis.{Basis}
 use Rattle.run_laws.specs.Laws.{IsDone}
-use Rattle.graph_update.specs.Engine.{IsKept, EngineState}
+use Rattle.graph_update.specs.declared.ready.Ready.{Ready}
+use Rattle.graph_update.specs.Engine.{AreReady, IsKept, EngineState}
+use Rattle.graph_update.specs.Ready.{IsLeftBy}
 use Rattle.run_laws.specs.Events.{IsOfClear, IsFinished, IsOverLimit, clear_nodes, is_clear}
 use Rattle.run_laws.specs.Lists.{found_is_there, from_filter}
 use Rattle.crew.specs.Jobs.{MayRun, IsPerformed}
 use Rattle.run_laws.specs.Progress.{Progress}
 use Rattle.run_laws.specs.Sound.{IsSound}
-use Rattle.graph_update.proofs.ClearClaims.{claimed, has_node, may_run, picked_home, sound_after}
-use Rattle.graph_update.proofs.Picked.{IsPicked, pick_is}
+use Rattle.graph_update.proofs.ClearClaims.{claimed, clear_after, has_node, may_run, picked_home, sound_after}
+use Rattle.graph_update.proofs.Picked.{IsPicked, picked_at}
+use Rattle.graph_update.proofs.ReadyIds.{left_are_ready, some_are_ready}
 
 abbrev start : NodeId → Node → Node
 start id node = cond (is_at id node) (record node { running = true }) node
@@ -96,12 +98,8 @@ module _ {V : Type 0} (app : Application V) where
 -- ---- the claim
 
 module _ {V : Type 0} {app : Application V} (basis : Basis app) (old : Progress V) (kept : IsKept app old) (id : NodeId) (clear : IsOfClear app old.nodes id) where
-  -- the place of its id among those of the clear nodes is a pick that takes it
   picked : IsPicked app old.nodes clear.0 id
-  picked =
-      let ids = ids_of (clear_nodes app old.nodes) in
-      let small : clear.0 % length ids ≡ clear.0 = mod-eq_of_lt clear.1 in
-      pick_is app old.nodes clear.0 ids (Some id) refl (sym (slice_get_read ids (length ids) clear.0 id refl clear.1 (sym clear.2)) ∙ ap (slice_get ids) (sym small))
+  picked = picked_at app old.nodes id clear
 
   pub is_node : HasNode old.nodes id
   is_node = has_node basis old kept.jobs kept.values kept.sound clear.0 id picked
@@ -122,6 +120,9 @@ module _ {V : Type 0} {app : Application V} (basis : Basis app) (old : Progress 
       abbrev midway : Progress V
       midway = midway_of old set nodes
 
+      graph : IsGraph old.nodes
+      graph = kept.sound.keys_and_counts.graph
+
       same_count : old.ended + length nodes ≡ old.created
       same_count = ap (λ count. old.ended + count) (ap length nodes_are ∙ length-map old.nodes (start id)) ∙ sym kept.sound.keys_and_counts.created
 
@@ -131,6 +132,13 @@ module _ {V : Type 0} {app : Application V} (basis : Basis app) (old : Progress 
         claimed = claimed basis old kept clear.0 id picked task task set (part_of old.cells set) (cells_taken old.cells set) nodes task_is refl set_is refl refl nodes_are;
         node = refl;
       }
+
+      -- the clear nodes that are known after it
+      pub ready_midway : (ready left : Ready) → AreReady app old.nodes ready → IsLeftBy id ready left → AreReady app nodes left
+      ready_midway ready left are (inl known) = left_are_ready app old.nodes nodes id 0 ready left graph
+          (clear_after basis old kept clear.0 id picked task task set (part_of old.cells set) (cells_taken old.cells set) nodes task_is refl set_is refl refl nodes_are)
+          are known.0 known.1 known.2
+      ready_midway ready left are (inr none) = some_are_ready app nodes left [] none.0 none.1 tt tt
 
       sound_midway : IsSound app midway (job ∷ kept.jobs) kept.values
       sound_midway = sound_after basis old kept clear.0 id picked task task set (part_of old.cells set) (cells_taken old.cells set) nodes task_is refl set_is refl refl nodes_are kept.jobs kept.values kept.sound
@@ -146,9 +154,6 @@ module _ {V : Type 0} {app : Application V} (basis : Basis app) (old : Progress 
 
       there : Contains old.nodes node
       there = (from_filter (is_clear app old.nodes) old.nodes node (found_is_there (clear_nodes app old.nodes) _ node picked.chosen)).0
-
-      graph : IsGraph old.nodes
-      graph = kept.sound.keys_and_counts.graph
 
       before : node_at old.nodes id ≡ Some node
       before = ap (node_at old.nodes) (sym picked.id_is) ∙ basis.lower.have_ids old.nodes node graph there

@@ -1,6 +1,6 @@
 -- A claim takes a clear node.
-use Rattle.std.proofs.Common.{◌≡◌, ◌≢◌, ℕ, ◌+◌, ◌%◌, cond, ◌||◌, Bool, true, false, List, [], ◌∷◌, Option, Some, length, is_some, refl, sym, ap, subst, ◌∙◌}
-use Rattle.std.specs.Prelude.{Contains, IsSome, remove}
+use Rattle.std.proofs.Common.{◌≡◌, ◌≢◌, ℕ, ◌+◌, cond, ◌||◌, Bool, true, false, List, [], ◌∷◌, Option, Some, length, is_some, refl, sym, ap, subst, ◌∙◌}
+use Rattle.std.specs.Prelude.{Contains, IsSome}
 use lib.ListN.{length-map}
 use Rattle.std.specs.List.{list_any}
 use Rattle.std.specs.Option.{option_map}
@@ -12,7 +12,7 @@ use Rattle.cell_store.specs.Cells.{AreHome, cells_taken, part_of}
 use Rattle.cell_store.specs.Part.{Part}
 use Rattle.kdg_graph.specs.declared.node_id.NodeId.{NodeId}
 use Rattle.kdg_graph.specs.Node.{Node}
-use Rattle.kdg_graph.specs.Nodes.{HasNode, ids_of, is_at, least_of, node_at, set_at, started, task_at}
+use Rattle.kdg_graph.specs.Nodes.{HasNode, is_at, least_of, node_at, set_at, started, task_at}
 use Rattle.kdg_graph.specs.Rewrite.{without}
 use Rattle.app_laws.specs.Applications.{Application}
 use Rattle.graph_update.specs.Basis.{Basis}
@@ -23,7 +23,6 @@ use Rattle.run_laws.specs.Events.{IsClaimed, clear_nodes, is_clear}
 use Rattle.run_laws.specs.Lists.{all_from, found_is_there, from_filter, here, none_passes, there as from_there}
 use Rattle.run_laws.specs.Progress.{Progress}
 use Rattle.run_laws.specs.Sound.{IsSound}
-use Rattle.graph_update.proofs.ClaimedNodes.{picked_taken}
 use Rattle.graph_update.proofs.Picked.{IsPicked}
 
 Some-injective : {X : Type 0} (a b : X) → Some a ≡ Some b → a ≡ b
@@ -97,12 +96,10 @@ module _ {V : Type 0} {app : Application V} (basis : Basis app) where
     pub kept_after : IsKept app now
     kept_after = record { jobs = job ∷ kept.jobs; values = kept.values; sound = sound_after kept.jobs kept.values kept.sound; limited = kept.limited }
 
-    -- the ids of the clear nodes after it
-    pub ids_after : (ids left : List NodeId) → ids ≡ ids_of (clear_nodes app old.nodes) → left ≡ remove ids (pick % length ids) → left ≡ ids_of (clear_nodes app nodes)
+    -- the clear nodes after it
+    pub clear_after : clear_nodes app nodes ≡ without id (clear_nodes app old.nodes)
     unfolding claimed
-    ids_after ids left are left_is =
-        picked_taken app old.nodes kept.sound.keys_and_counts.graph pick id picked ids left are left_is
-        ∙ ap (λ one. ids_of (without one (clear_nodes app old.nodes))) (sym picked.id_is) ∙ ap ids_of (sym (basis.one_clear old now pick job claimed))
+    clear_after = basis.one_clear old now pick job claimed ∙ ap (λ one. without one (clear_nodes app old.nodes)) picked.id_is
 
     pub may_run : MayRun app job
     may_run = basis.jobs_run now (job ∷ kept.jobs) kept.values job (sound_after kept.jobs kept.values kept.sound) (here job kept.jobs)

@@ -1,12 +1,13 @@
 -- What is picked is a clear node.
 use Rattle.std.proofs.Common.{◌≡◌, ℕ, zero, suc, ◌<◌, ◌%◌, List, [], ◌∷◌, Option, Some, None, length, slice_get, refl, sym, ap, ◌∙◌, arith}
-use Rattle.std.proofs.lemmas.Option.{slice_get-get_or}
+use Rattle.std.proofs.lemmas.Option.{slice_get-get_or, slice_get_read}
+use Rattle.std.proofs.Math.Nat.{mod-eq_of_lt}
 use lib.ListN.{length-map}
 use Rattle.kdg_graph.specs.declared.node_id.NodeId.{NodeId}
 use Rattle.kdg_graph.specs.Node.{Node}
 use Rattle.kdg_graph.specs.Nodes.{ids_of}
 use Rattle.app_laws.specs.Applications.{Application}
-use Rattle.run_laws.specs.Events.{clear_nodes}
+use Rattle.run_laws.specs.Events.{IsOfClear, clear_nodes}
 
 Some-injective : {X : Type 0} (a b : X) → Some a ≡ Some b → a ≡ b
 Some-injective a b same = cc
@@ -15,7 +16,7 @@ none_is_not_some : {X : Type 0} (x : X) → None ≡ Some x → ⊥
 none_is_not_some x same = cc
 
 -- the node whose id stands at a place
-id_at : (nodes : List Node) (i : ℕ) (id : NodeId) → Some id ≡ slice_get (ids_of nodes) i → (node : Node) × (slice_get nodes i ≡ Some node) × (node.id ≡ id)
+pub id_at : (nodes : List Node) (i : ℕ) (id : NodeId) → Some id ≡ slice_get (ids_of nodes) i → (node : Node) × (slice_get nodes i ≡ Some node) × (node.id ≡ id)
 id_at [] i id is = absurd (none_is_not_some id (sym is))
 id_at (node ∷ nodes) zero id is = (node, refl, sym (Some-injective id node.id is))
 id_at (node ∷ nodes) (suc i) id is = id_at nodes i id is
@@ -52,3 +53,10 @@ module _ {V : Type 0} (app : Application V) where
           let many : length (ids_of clear) ≡ length clear = length-map clear (λ (n : Node). n.id) in
           let at = id_at clear (pick % length clear) id (some ∙ ap (λ m. slice_get (ids_of clear) (pick % m)) many) in
           record { node = at.0; chosen = at.1; id_is = at.2 }
+
+  -- the place of a clear node's id among theirs is a pick of it
+  pub picked_at : (nodes : List Node) (id : NodeId) (clear : IsOfClear app nodes id) → IsPicked nodes clear.0 id
+  picked_at nodes id clear =
+      let ids = ids_of (clear_nodes app nodes) in
+      let small : clear.0 % length ids ≡ clear.0 = mod-eq_of_lt clear.1 in
+      pick_is nodes clear.0 ids (Some id) refl (sym (slice_get_read ids (length ids) clear.0 id refl clear.1 (sym clear.2)) ∙ ap (slice_get ids) (sym small))

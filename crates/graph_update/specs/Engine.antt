@@ -1,5 +1,5 @@
 -- What is kept of every engine, and what its calls find.
-use Rattle.std.specs.Prelude.{◌≡◌, ◌+◌, ◌<◌, ◌≤◌, ℕ, Bool, true, List, Contains, length, Some}
+use Rattle.std.specs.Prelude.{◌≡◌, ◌≢◌, ◌+◌, ◌<◌, ◌≤◌, ℕ, Bool, true, List, Contains, length, Some}
 use Rattle.std.specs.List.{AllByRecursion}
 use Rattle.task_order.specs.declared.key.Key.{Key}
 use Rattle.task_order.specs.declared.start.Start.{Start}
@@ -11,6 +11,7 @@ use Rattle.kdg_graph.specs.Edges.{laters_of}
 use Rattle.kdg_graph.specs.Nodes.{ids_of, node_with_key, tasks_of}
 use Rattle.app_laws.specs.declared.app.SetAnswer.TheVariants as answer
 use Rattle.app_laws.specs.Applications.{Application, AreFitTasks, FixedSetsAreKnown, set_in}
+use Rattle.app_laws.specs.Order.{Pairwise}
 use Rattle.crew.specs.declared.answers.Claim.TheVariants as claim
 use Rattle.crew.specs.Jobs.{IsPerformed, MayRun}
 use Rattle.run_laws.specs.Answers.{jobs_after}
@@ -69,9 +70,10 @@ SomeRunsWhereNotYet nodes claim.NotYet = SomeRuns nodes
 SomeRunsWhereNotYet nodes answer = Unit {0}
 
 module _ {V : Type 0} (app : Application V) where
-  -- The ready nodes are clear. Where no task has ended since the last look, they are just the clear ones, in key order.
+  -- The ready nodes are clear, each named once. Where no task has ended since the last look, they are just the clear ones, in key order.
   pub record AreReady (nodes : List Node) (ready : Ready) : Type 0 where
     pub clear : AllByRecursion (IsOfClear app nodes) ready.ids.items
+    pub once : Pairwise (λ id other. id ≢ other) ready.ids.items
     pub all : ready.is_current ≡ true → ready.ids.items ≡ ids_of (clear_nodes app nodes)
 
   -- where the sets are fixed, each recorded set is the one that a walk finds, whatever the cells hold

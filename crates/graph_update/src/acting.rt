@@ -1,16 +1,18 @@
 //! How clear tasks act one after the other, each claimed, performed and ended at once.
 
-ghost use Rattle.std.specs.Prelude.{◌≡◌, ◌+◌, ◌≤◌, length, None, Some, IfErr, OnOk, OnErr};
+ghost use Rattle.std.specs.Prelude.{◌≡◌, ◌+◌, ◌≤◌, length, None, Some, IfErr, IfOk, IfSome, OnOk, OnErr};
 ghost use Rattle.kdg_graph.specs.Edges.{laters_of};
 ghost use Rattle.kdg_graph.specs.Node.{Node};
 ghost use Rattle.kdg_graph.specs.Nodes.{ids_of, node_at, tasks_of};
 ghost use Rattle.run_laws.specs.Acting.{ActStaysSound, HasActed, IsActFault, RefusedActStaysSound};
+ghost use Rattle.graph_update.specs.Answers.{IsUpcoming};
 ghost use Rattle.graph_update.specs.Engine.{AreCovered, AsksForNoFixedSet, HaveFixedSets};
 ghost use Rattle.run_laws.specs.Events.{IsOfClear, clear_nodes};
 
 use crate::laws::{basis, end_basis};
 use crate::pending::Pending;
-use crate::{Engine, OverCause};
+use crate::ready::Among;
+use crate::{Engine, OverCause, Upcoming};
 use app_laws::{App, act_at_home};
 use kdg_graph::laws::{node_laws, source_laws};
 use kdg_graph::{Graph, NodeId};
@@ -27,6 +29,53 @@ impl<'a, A: App> Engine<'a, A> {
     {
         self.settle();
         list_clear(self.app, &self.agenda.graph, &mut self.agenda.horizon, ids)
+    }
+
+    /// What a claim would find, without one: a clear node, of those that are known where some are. It looks
+    /// for clear nodes only where none is known. After `NoRoom` all is as it was.
+    #[inline(always)]
+    pub fn next_clear(&mut self) -> Result<Upcoming, NoRoom>
+        ensures same { self.new ≡ self.old }
+        ensures next { IfOk result (IsUpcoming (A.meaning self.old.app) self.old.progress) }
+    {
+        if let Some(cause) = self.over() {
+            return Ok(Upcoming::Over(cause));
+        }
+        match self.known_clear() {
+            Some(node) => Ok(Upcoming::Clear(node)),
+            None => self.look_for_clear(),
+        }
+    }
+
+    /// A clear node, where one is known.
+    #[inline(always)]
+    fn known_clear(&self) -> Option<NodeId>
+        ensures { IfSome result (IsOfClear (A.meaning self.now.app) self.now.progress.nodes) }
+    {
+        self.agenda.ready.first()
+    }
+
+    /// The first one of all clear nodes, where no mark stands.
+    fn look_for_clear(&mut self) -> Result<Upcoming, NoRoom>
+        requires not_over { self.old.progress.over ≡ None }
+        ensures same { self.new ≡ self.old }
+        ensures next { IfOk result (IsUpcoming (A.meaning self.old.app) self.old.progress) }
+    {
+        basis::<A>();
+        self.settle();
+        if self.agenda.graph.least().is_none() {
+            return Ok(Upcoming::Ended);
+        }
+        self.agenda.ready.look(
+            &Among::All,
+            self.app,
+            &self.agenda.graph,
+            &mut self.agenda.horizon,
+        )?;
+        match self.agenda.ready.first() {
+            Some(node) => Ok(Upcoming::Clear(node)),
+            None => Ok(Upcoming::NotYet),
+        }
     }
 
     /// Claims a clear task, performs it and ends it, with nothing between. Neither the task nor its cells
@@ -55,7 +104,7 @@ impl<'a, A: App> Engine<'a, A> {
             return Err(OverCause::NoRoom);
         };
         self.agenda.graph.mark_running(node);
-        self.agenda.ready.forget();
+        self.agenda.ready.spend(node);
         let ended = self.agenda.end_within(
             self.app,
             &self.store,

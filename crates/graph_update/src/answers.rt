@@ -1,3 +1,5 @@
+use crew::OverCause;
+use kdg_graph::NodeId;
 use kdg_text::NoRoom;
 
 /// How far an execution has come.
@@ -36,4 +38,17 @@ impl From<NoRoom> for BeginFault {
     fn from(_: NoRoom) -> BeginFault {
         BeginFault::NoRoom
     }
+}
+
+/// What comes next in an execution.
+#[derive(Clone, Copy, Debug, PartialEq, Eq)]
+pub enum Upcoming {
+    /// An over mark stands.
+    Over(OverCause),
+    /// No task is pending.
+    Ended,
+    /// No pending task may run now.
+    NotYet,
+    /// The task of this node may run.
+    Clear(NodeId),
 }

@@ -1,11 +1,13 @@
 //! How a task is claimed: one of the clear nodes is picked, marked running, and its cells are
 //! taken.
 
-ghost use Rattle.std.specs.Prelude.{◌≡◌, ◌≢◌, [], None, IfOk, OnErr};
+ghost use Rattle.std.specs.Prelude.{◌≡◌, ◌≢◌, ℕ, [], None, IfOk, OnErr};
 ghost use Rattle.run_laws.specs.Answers.{IsClaimAnswer};
 ghost use Rattle.graph_update.specs.Engine.{ClaimStaysSound, IsToRun, SomeRunsWhereNotYet};
+ghost use Rattle.graph_update.specs.Ready.{MayPick};
 
 use crate::laws::basis;
+use crate::ready::Among;
 use crate::{Claim, Engine, Job};
 use app_laws::App;
 use kdg_text::NoRoom;
@@ -28,6 +30,39 @@ impl<'a, A: App> Engine<'a, A> {
         ensures not_over { OnErr result (self.old.progress.over ≡ None) }
         ensures not_ended { OnErr result (self.old.progress.nodes ≢ []) }
     {
+        self.claim_among(&Among::All, pick)
+    }
+
+    /// Claims a task that may run now, as `claim` does with some pick: of the clear nodes that it knows,
+    /// in key order, the one at the remainder of the pick. Only where it knows none it looks for more,
+    /// so that many claims, each after the end of a task, pass over the sources no more often than
+    /// rounds do.
+    #[inline(always)]
+    pub fn claim_known(&mut self, pick: u64) -> Result<Claim<A::Val>, NoRoom>
+        ensures app { self.new.app ≡ self.old.app }
+        ensures answer { IfOk result (λ answer. (other : ℕ) × IsClaimAnswer (A.meaning self.old.app) self.old.progress other self.new.progress answer) }
+        ensures sound { IfOk result (ClaimStaysSound (A.meaning self.old.app) self.old.progress self.new.progress) }
+        ensures may_run { IfOk result (IsToRun (A.meaning self.old.app)) }
+        ensures some_runs { IfOk result (SomeRunsWhereNotYet self.old.progress.nodes) }
+        ensures unchanged { OnErr result (self.new ≡ self.old) }
+        ensures not_over { OnErr result (self.old.progress.over ≡ None) }
+        ensures not_ended { OnErr result (self.old.progress.nodes ≢ []) }
+    {
+        self.claim_among(&Among::Known, pick)
+    }
+
+    /// Claims a task that may run now, of all clear nodes or of those that it knows.
+    #[inline(always)]
+    fn claim_among(&mut self, among: &Among, pick: u64) -> Result<Claim<A::Val>, NoRoom>
+        ensures app { self.new.app ≡ self.old.app }
+        ensures answer { IfOk result (λ answer. (other : ℕ) × MayPick among.now pick other × IsClaimAnswer (A.meaning self.old.app) self.old.progress other self.new.progress answer) }
+        ensures sound { IfOk result (ClaimStaysSound (A.meaning self.old.app) self.old.progress self.new.progress) }
+        ensures may_run { IfOk result (IsToRun (A.meaning self.old.app)) }
+        ensures some_runs { IfOk result (SomeRunsWhereNotYet self.old.progress.nodes) }
+        ensures unchanged { OnErr result (self.new ≡ self.old) }
+        ensures not_over { OnErr result (self.old.progress.over ≡ None) }
+        ensures not_ended { OnErr result (self.old.progress.nodes ≢ []) }
+    {
         basis::<A>();
         self.settle();
         if let Some(cause) = self.tally.over {
@@ -36,9 +71,12 @@ impl<'a, A: App> Engine<'a, A> {
         if self.agenda.graph.least().is_none() {
             return Ok(Claim::Ended);
         }
-        self.agenda
-            .ready
-            .look(self.app, &self.agenda.graph, &mut self.agenda.horizon)?;
+        self.agenda.ready.look(
+            among,
+            self.app,
+            &self.agenda.graph,
+            &mut self.agenda.horizon,
+        )?;
         let Some((node, place)) = self.agenda.ready.picked(pick) else {
             return Ok(Claim::NotYet);
         };

@@ -139,6 +139,14 @@ impl<'a, A: App> Engine<'a, A> {
         }
     }
 
+    /// Why nothing more is to be claimed, where a mark stands.
+    #[inline(always)]
+    pub fn over(&self) -> Option<OverCause>
+        ensures { result ≡ self.now.progress.over }
+    {
+        self.tally.over
+    }
+
     /// How many tasks have ended.
     pub fn ended(&self) -> u64
         ensures { result ≡ self.now.progress.ended }

@@ -17,7 +17,7 @@ mod sends;
 mod touching;
 mod uncounted;
 
-pub use answers::{BeginFault, Counts};
+pub use answers::{BeginFault, Counts, Upcoming};
 pub use crew::{OverCause, perform};
 pub use engine::Engine;
 use kdg_graph::NodeId;

@@ -1,10 +1,12 @@
 //! The clear nodes that wait to be claimed.
 
-ghost use Rattle.std.specs.Prelude.{◌≡◌, ◌%◌, ◌^◌, ◌<◌, ◌++◌, [], ◌∷◌, length, slice_get, true, false, IfOk, IfSome, OnOk, OnErr};
+ghost use Rattle.std.specs.Prelude.{◌≡◌, ◌%◌, ◌^◌, ◌<◌, ◌++◌, [], ◌∷◌, length, slice_get, true, false, IsTrue, IfOk, IfSome, OnOk, OnErr};
 ghost use Rattle.std.specs.List.{AllByRecursion, remove};
 ghost use Rattle.std.specs.Option.{option_map};
 ghost use Rattle.kdg_graph.specs.Nodes.{ids_of, tasks_of};
+ghost use Rattle.kdg_graph.specs.Nodes.{IsGraph};
 ghost use Rattle.graph_update.specs.Engine.{AreCovered, AreReady, HaveFixedSets};
+ghost use Rattle.graph_update.specs.Ready.{AreEnough, IsLeftBy};
 ghost use Rattle.run_laws.specs.Events.{IsOfClear, clear_nodes};
 
 use crate::pending::Pending;
@@ -14,6 +16,14 @@ use kdg_graph::{Graph, NodeId};
 use kdg_text::NoRoom;
 use std::alloc::Global;
 use tiered_list::TieredList;
+
+/// Among which clear nodes one is picked.
+pub(crate) enum Among {
+    /// All that there are.
+    All,
+    /// Those that are known, or all where none is.
+    Known,
+}
 
 /// The clear nodes that wait to be claimed, as far as they are known. One that was found stays until
 /// it is claimed, since it stays clear.
@@ -59,28 +69,42 @@ impl Ready {
         }
     }
 
-    /// Looks at the sources, unless all clear nodes are known. After `NoRoom` all is as it was.
+    /// Looks at the sources, unless all clear nodes are known, or some where it is among these that one
+    /// is picked. After `NoRoom` all is as it was.
     #[inline(always)]
     pub(crate) fn look<A: App>(
         &mut self,
+        among: &Among,
         app: &A,
         graph: &Graph,
         horizon: &mut A::Horizon,
     ) -> Result<(), NoRoom>
+        requires graph { IsGraph graph.now }
         requires covered { AreCovered (A.meaning app.now) graph.now }
         requires fixed { HaveFixedSets (A.meaning app.now) graph.now }
         requires told { A.tells app.now horizon.old (tasks_of graph.now) }
         requires ready { AreReady (A.meaning app.now) graph.now self.old }
         ensures told { A.tells app.now horizon.new (tasks_of graph.now) }
-        ensures all { OnOk result (self.new.ids.items ≡ ids_of (clear_nodes (A.meaning app.now) graph.now)) }
+        ensures enough { OnOk result (AreEnough among.now self.new) }
         ensures ready { AreReady (A.meaning app.now) graph.now self.new }
         ensures unchanged { OnErr result (self.new ≡ self.old) }
     {
-        if !self.is_current {
+        if !self.is_enough(among) {
             self.ids = clear_ids(self.alloc, &self.ids, app, graph, horizon)?;
             self.is_current = true;
         }
         Ok(())
+    }
+
+    /// Whether one may be picked without a look.
+    #[inline(always)]
+    fn is_enough(&self, among: &Among) -> bool
+        ensures { IsTrue result → AreEnough among.now self.now }
+    {
+        match among {
+            Among::All => self.is_current,
+            Among::Known => self.is_current || self.ids.len() > 0,
+        }
     }
 
     /// The id at the remainder of a pick, where there is one, and its place.
@@ -93,6 +117,26 @@ impl Ready {
         let place = pick.checked_rem(self.ids.len() as u64)? as usize;
         let id = *self.ids.get(place)?;
         Some((id, place))
+    }
+
+    /// The first id, where one is known.
+    #[inline(always)]
+    pub(crate) fn first(&self) -> Option<NodeId>
+        ensures { result ≡ slice_get self.now.ids.items 0 }
+    {
+        self.ids.get(0).copied()
+    }
+
+    /// The node of the id is claimed. Where it isn't the first one that is known, all are forgotten.
+    #[inline(always)]
+    pub(crate) fn spend(&mut self, id: NodeId)
+        ensures { IsLeftBy id self.old self.new }
+    {
+        if is_at(&self.ids, 0, id) {
+            self.ids.remove(0);
+        } else {
+            self.forget();
+        }
     }
 
     /// The id at a place is no more.

@@ -86,7 +86,8 @@ returns-in-Ok-end_node-clause-known g c =
     c.fresh_tasks.new.fresh.items c.end_node.new.graph c.in-Ok-end_node.ensures.ok in
     record {
       clear = some_are_ready (g.A.App.meaning app) c.end_node.new.graph c.expect_more.new.self c.args.self.now.ready.ids.items (ap (λ (ids : Tiered NodeId). ids.items) c.expect_more.ensures.ids) c.expect_more.ensures.current
-          (stays_ready basis _ _ is within _ finished (c.stay_clear_laws.ensures.stay app) c.args.self.now.ready.ids.items c.requires.known.clear.clear);
+          (stays_ready basis _ _ is within _ finished (c.stay_clear_laws.ensures.stay app) c.args.self.now.ready.ids.items c.requires.known.clear.clear)
+          c.requires.known.clear.once;
       fixed = stays_fixed basis _ _ is within _ finished c.requires.known.fixed;
       told = subst (g.A.App.tells app c.touch_end.new.horizon) (sym (after ∙ ap (λ (fresh : List Fresh). put_all (fresh_tasks fresh) (without c.in-Ok-end_node.task.key (tasks_of c.args.self.now.graph))) c.in-Ok-fresh_tasks.ensures))
           (told_of_others basis c.args.self.now.graph graph c.args.node c.in-Ok-end_node.task at (g.A.App.tells app c.args.self.now.horizon)

@@ -1,12 +1,11 @@
-use Rattle.std.proofs.Common.{◌≡◌, ◌+◌, ◌≤◌, Some, List, [], length, refl, sym, ap, subst, ◌∙◌}
+use Rattle.std.proofs.Common.{◌≡◌, ◌+◌, ◌≤◌, Some, List, length, refl, sym, ap, subst, ◌∙◌}
 use Rattle.kdg_graph.specs.Edges.{laters_of}
 use Rattle.kdg_graph.specs.Node.{Node}
 use Rattle.kdg_graph.specs.Nodes.{HasNode, node_at, set_at}
 use Rattle.graph_update.specs.Engine.{IsKept, EngineState}
 use Rattle.run_laws.specs.Progress.{Progress}
-use Rattle.graph_update.proofs.ClearActs.{back_of, engine_acted, engine_fault, inside_clear, is_home, is_midway, is_node, may_act}
+use Rattle.graph_update.proofs.ClearActs.{back_of, engine_acted, engine_fault, inside_clear, is_home, is_midway, is_node, may_act, ready_midway}
 use Rattle.graph_update.proofs.FixedSets.{fixed_started}
-use Rattle.graph_update.proofs.ReadyIds.{some_are_ready}
 use Rattle.graph_update.proofs.TaskEnds.{dropped, not_over, stays_kept, with_cells, written_home}
 use Rattle.graph_update.proofs.Touched.{told_started}
 use Rattle.graph_update.proofs.engine.Engine.act.Goals as goal
@@ -39,9 +38,11 @@ end_within-ended-requires-clause-home g c κs within =
 
 pub end_within-ended-requires-clause-known : goal.end_within-ended-requires-clause-known
 end_within-ended-requires-clause-known g c κs within =
+    let clear = inside_clear g.A.App.meaning _ _ c.self.view_is c.args.node c.requires.clear in
     let nodes = c.self.inside.agenda.graph in
     record {
-      clear = some_are_ready (g.A.App.meaning c.self.inside.app.now) c.mark_running.new.self c.forget.new.self [] c.forget.ensures.ids c.forget.ensures.current tt;
+      clear = ready_midway (c.basis.ensures c.self.inside.app.now) _ c.self.invariant.0 c.args.node clear c.task-task.result.now c.task-task.ensures c.set-set.result.now c.set-set.ensures
+          c.mark_running.new.self c.mark_running.ensures.marked c.self.inside.agenda.ready c.spend.new.self c.self.invariant.1.clear c.spend.ensures;
       fixed = fixed_started (g.A.App.meaning c.self.inside.app.now) c.args.node nodes c.mark_running.new.self c.mark_running.ensures.marked c.self.invariant.1.fixed;
       told = told_started (g.A.App.tells c.self.inside.app.now c.self.inside.agenda.horizon) (c.basis.ensures c.self.inside.app.now).lower.starts_keep_tasks c.args.node nodes
           c.mark_running.new.self c.mark_running.ensures.marked c.self.invariant.1.told;

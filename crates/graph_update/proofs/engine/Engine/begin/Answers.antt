@@ -24,7 +24,7 @@ invariant_of-result g c =
       begun_kept app c.args.cells.items _ c.args.first _ c.args.budget _ _ _ values first c.in_ok-store.ensures c.in_ok-graph.ensures.nodes c.new-3.ensures (c.basis.ensures c.args.app.now).as_many
           (c.begin_laws.ensures.sound c.args.app.now) c.requires.fit_cells c.requires.fit_first few c.requires.budget,
       record {
-        clear = some_are_ready app _ c.new.result [] c.new.ensures.ids c.new.ensures.current tt;
+        clear = some_are_ready app _ c.new.result [] c.new.ensures.ids c.new.ensures.current tt tt;
         fixed = begun_fixed app c.args.cells.items _ c.args.first _ c.args.budget _ _ _ values first c.in_ok-store.ensures c.in_ok-graph.ensures.nodes c.new-3.ensures (c.basis.ensures c.args.app.now).as_many
             (c.begin_laws.ensures.sound c.args.app.now) c.requires.fit_cells c.requires.fit_first few;
         told = c.in_ok-horizon.ensures _;

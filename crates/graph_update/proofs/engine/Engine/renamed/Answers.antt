@@ -52,7 +52,7 @@ invariant_of-result g c =
           c.in_ok-tasks.ensures.tasks c.in_ok-first.ensures c.deref.ensures.value c.in_ok-graph.graph c.new.result.entries c.in_ok-graph.ensures.nodes c.new.ensures
           (c.renaming_laws.ensures.sound c.self.inside.app.now),
       record {
-        clear = some_are_ready app c.in_ok-graph.graph c.forget.new.self [] c.forget.ensures.ids c.forget.ensures.current tt;
+        clear = some_are_ready app c.in_ok-graph.graph c.forget.new.self [] c.forget.ensures.ids c.forget.ensures.current tt tt;
         fixed = stays_fixed (c.basis.ensures c.self.inside.app.now) _ c.self.invariant.0 idle c.in_ok-tasks.tasks.items c.in_ok-first.first.items c.deref.result.now
             c.in_ok-tasks.ensures.tasks c.in_ok-first.ensures c.deref.ensures.value c.in_ok-graph.graph c.new.result.entries c.in_ok-graph.ensures.nodes c.new.ensures
             (c.renaming_laws.ensures.sound c.self.inside.app.now);
