@@ -5,6 +5,7 @@ mod entry;
 mod hall;
 mod laws;
 mod lending;
+mod pausing;
 mod sends;
 mod slot;
 mod steps;

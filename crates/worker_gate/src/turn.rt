@@ -54,7 +54,8 @@ impl<'a, A: App> HallOf<Engine<'a, A>, A::Val, Kept> {
         })
     }
 
-    /// Tries until it has the turn, which it may wait for.
+    /// Tries until it has the turn, which it may wait for. After a refusal it looks for a while before it
+    /// tries again.
     pub fn enter<'h, R: Wait>(&'h self, rt: &R, mut seat: Seat<'a, A>) -> Turn<'h, 'a, A>
         requires here { seat.hall ≡ self.now.id }
         ensures { HasWaited A.meaning seat.entry result }
@@ -67,6 +68,7 @@ impl<'a, A: App> HallOf<Engine<'a, A>, A::Val, Kept> {
                     holder: _,
                 } => seat = back,
             }
+            self.wait_a_while();
         }
         unreachable!()
     }
