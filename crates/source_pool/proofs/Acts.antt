@@ -5,6 +5,7 @@ use Rattle.std.specs.List.{AllByRecursion, filter}
 use Rattle.std.specs.Option.{is_some, option_or}
 use Rattle.std.specs.declared.cmp.Ordering.TheVariants.{Less}
 use Rattle.std.proofs.lemmas.Bool.{true≢false, and_from}
+use Rattle.std.proofs.lemmas.List.{length-map}
 use Rattle.std.proofs.lemmas.Option.{same_Some}
 use Rattle.task_order.specs.declared.task.Task.{Task}
 use Rattle.task_order.specs.Key.{key_cmp}
@@ -28,6 +29,7 @@ use Rattle.run_laws.specs.Rest.{IsClearNode}
 use Rattle.run_laws.specs.Sound.{HasJob, IsSound}
 use Rattle.source_pool.specs.Basis.{Basis}
 use Rattle.source_pool.specs.Course.{IsActing, IsAtRest}
+use Rattle.source_pool.specs.KeptLaws.{ActsAreTheRound}
 use Rattle.source_pool.specs.Laws.{ActsBegin, ActsComeToRest, ActsGoOn, FirstMayAct, RoundsHaveActs, TooManyActsNeverEnd}
 use Rattle.source_pool.proofs.Drawing.{drawings_begin, unblocked}
 use Rattle.source_pool.proofs.Lists.{same_tasks}
@@ -56,7 +58,7 @@ no_nodes (node ∷ nodes) is = cc
 
 module _ {V : Type 0} (app : Application V) where
   -- the first of the nodes that are left, and the others
-  record FirstLeft (now : Progress V) (state target : State V) (id : NodeId) (ids : List NodeId) : Type 0 where
+  pub record FirstLeft (now : Progress V) (state target : State V) (id : NodeId) (ids : List NodeId) : Type 0 where
     pub node : Node
     pub others : List Node
     pub id_is : id ≡ node.id
@@ -128,6 +130,10 @@ module _ {V : Type 0} {app : Application V} (basis : Basis app) where
     leads = ap (λ tasks. after_tasks app.act tasks state) (they_are_the_clear start now cells state text rest);
   }
 
+  pub acts_are_the_round : ActsAreTheRound app
+  acts_are_the_round start now cells state text rest =
+      sym (length-map (clear_nodes app now.nodes) (λ node. node.task)) ∙ ap length (they_are_the_clear start now cells state text rest)
+
   pub rounds_have_acts : RoundsHaveActs app
   rounds_have_acts start now cells state text rest some empty = basis.some_clear now rest.values rest.course.come.sound some (no_nodes (clear_nodes app now.nodes) (sym empty))
 
@@ -160,7 +166,7 @@ module _ {V : Type 0} {app : Application V} (basis : Basis app) where
   -- ---- one act
 
   module _ (start now : Progress V) (cells : List V) (target : State V) (text : List ℕ) (id : NodeId) (ids : List NodeId) (acting : IsActing app start cells target text now (id ∷ ids)) where
-    first : FirstLeft app now acting.state target id ids
+    pub first : FirstLeft app now acting.state target id ids
     first = first_left now acting.state target id ids acting.nodes acting.ids_are acting.clear acting.in_order acting.leads
 
     found : node_at now.nodes first.node.id ≡ Some first.node
@@ -174,7 +180,7 @@ module _ {V : Type 0} {app : Application V} (basis : Basis app) where
     has_node : IsSome (node_at now.nodes id)
     has_node = subst (λ (i : NodeId). IsSome (node_at now.nodes i)) (sym first.id_is) (ap is_some found)
 
-    at_id : node_at now.nodes id ≡ Some first.node
+    pub at_id : node_at now.nodes id ≡ Some first.node
     at_id = ap (node_at now.nodes) first.id_is ∙ found
 
     -- the others have other ids, since their keys are later

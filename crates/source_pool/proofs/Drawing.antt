@@ -6,6 +6,7 @@ use Rattle.std.specs.declared.cmp.Ordering.{Ordering}
 use Rattle.std.specs.declared.cmp.Ordering.TheVariants.{Less, Equal, Greater}
 use Rattle.std.specs.Ordering.{is_eq, is_lt}
 use Rattle.std.proofs.lemmas.Bool.{true≢false, and_from}
+use Rattle.std.proofs.lemmas.List.{length-map}
 use Rattle.std.proofs.lemmas.List.Elements.{Contains-get_or}
 use Rattle.std.proofs.lemmas.List.Folds.{Any-from_list_any, list_any_none}
 use Rattle.std.proofs.lemmas.List.Sorted.{IsPermutation-sym, IsPermutation-to_front}
@@ -29,6 +30,7 @@ use Rattle.run_laws.specs.Progress.{Progress, whole_state}
 use Rattle.run_laws.specs.Sound.{HasJob, IsSound, is_unblocked}
 use Rattle.source_pool.specs.Basis.{Basis}
 use Rattle.source_pool.specs.Course.{AreAllDone, IsJobDone, IsDrawing, IsEnding, done_tasks}
+use Rattle.source_pool.specs.KeptLaws.{EndsAreTheRound}
 use Rattle.source_pool.specs.Laws.{ClaimsGoOn, ClaimsLeaveFewer, DrawingsBegin, DrawnJobsAreTheRound, DrawnJobsDiffer, RoundsHaveJobs, StartsAreAtRest}
 use Rattle.source_pool.proofs.Jobs.{job_is_clear, node_of}
 use Rattle.source_pool.proofs.Lists.{same_tasks}
@@ -200,6 +202,10 @@ module _ {V : Type 0} {app : Application V} (basis : Basis app) where
   drawn_jobs_are_the_round = round_ends
 
   -- ---- the number of jobs
+
+  pub ends_are_the_round : EndsAreTheRound app
+  ends_are_the_round first now cells state text jobs dones drawing all_drawn all in_order =
+      sym (length-map dones (λ done. done.task)) ∙ ap length (they_are_the_clear first now cells state text jobs dones drawing all_drawn all in_order)
 
   pub rounds_have_jobs : RoundsHaveJobs app
   rounds_have_jobs first now cells state text jobs drawing all_drawn pending empty =

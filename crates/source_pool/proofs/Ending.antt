@@ -17,7 +17,7 @@ use Rattle.source_pool.specs.Laws.{EndsComeToRest, EndsGoOn, FirstMayEnd, TooMan
 use Rattle.source_pool.proofs.Jobs.{FirstIsPerformed, first_is_performed, no_job_left}
 
 module _ {V : Type 0} {app : Application V} (basis : Basis app) where
-  first : (start now : Progress V) (cells : List V) (target : State V) (text : List ℕ) (done : Done V) (dones : List (Done V)) → (ending : IsEnding app start cells target text now (done ∷ dones))
+  pub first : (start now : Progress V) (cells : List V) (target : State V) (text : List ℕ) (done : Done V) (dones : List (Done V)) → (ending : IsEnding app start cells target text now (done ∷ dones))
       → FirstIsPerformed app ending.jobs done dones
   first start now cells target text done dones ending = first_is_performed ending.jobs done dones ending.course.come.sound.outs_match.own others_differ ending.all_done
     where

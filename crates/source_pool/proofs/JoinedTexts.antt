@@ -16,10 +16,10 @@ use Rattle.source_pool.specs.Basis.{Basis}
 -- ---- entries behind earlier ones
 
 -- the entries are earlier than the key
-abbrev AreBefore : Key → List Entry → Type 0
+abbrev pub AreBefore : Key → List Entry → Type 0
 AreBefore key entries = AllByRecursion (λ (entry : Entry). key_cmp entry.0 key ≡ Less) entries
 
-all_before : (key : Key) (entries : List Entry) → AreBefore key entries → entries_before (at_key key) entries ≡ entries
+pub all_before : (key : Key) (entries : List Entry) → AreBefore key entries → entries_before (at_key key) entries ≡ entries
 all_before key [] all = refl
 all_before key (entry ∷ entries) all =
     ap (λ order. cond (is_lt order) (entry ∷ entries_before (at_key key) entries) (entries_before (at_key key) entries)) all.0

@@ -4,12 +4,13 @@ use Rattle.std.specs.Prelude.{IfSome}
 use Rattle.std.proofs.lemmas.List.{length-map}
 use Rattle.task_order.specs.declared.task.Task.{Task}
 use Rattle.task_order.specs.Key.{end}
+use Rattle.task_order.specs.TaskList.{put_all}
 use Rattle.cell_store.specs.Values.{homes, values_of}
 use Rattle.kdg_graph.specs.Nodes.{tasks_of}
 use Rattle.output_log.specs.Entries.{Entry, ShareNoKey, joined_by_key, joined_texts, with_texts}
 use Rattle.app_laws.specs.Applications.{Application, PathsAreIgnored}
 use Rattle.app_laws.specs.declared.serial_run.Finals.{Finals}
-use Rattle.app_laws.specs.Execution.{Execution}
+use Rattle.app_laws.specs.Execution.{Execution, first_from}
 use Rattle.commuting.specs.Clear.{IsReady}
 use Rattle.commuting.specs.Commuting.{BothEnd}
 use Rattle.commuting.specs.Renaming.{ComesToSame, HasSameTexts}
@@ -22,25 +23,17 @@ use Rattle.run_laws.specs.Renaming.{IsRenamed}
 use Rattle.run_laws.specs.Sound.{IsSound}
 use Rattle.source_pool.specs.Basis.{Basis}
 use Rattle.source_pool.specs.Course.{IsAtRest, LeadsByRounds}
+use Rattle.source_pool.specs.KeptLaws.{RenamingsKeepTexts}
 use Rattle.source_pool.specs.Legs.{IsEndBehind, LegsBegin, LegsGoOn, RenamingsGoOn}
 use Rattle.source_pool.specs.Runs.{IsRoundsEnd, rest_of_run, state_at_rest}
 use Rattle.source_pool.proofs.JoinedTexts.{same_texts, texts_of_rest}
+use Rattle.source_pool.proofs.KeptLegs.{keeps_behind}
 use Rattle.source_pool.proofs.RoundNumbers.{rounds_take_more, whole_is_home}
+use Rattle.source_pool.proofs.RunsBeside.{end_beside, given_up}
 
 none_before : (tasks : List Task) → ComeBefore [] tasks
 none_before [] = tt
 none_before (task ∷ tasks) = (tt, none_before tasks)
-
--- ---- two runs beside one another
-
-given_up : {V : Type 0} (R : Execution V → Execution V → Type 0) (first second : Option (Execution V)) → BothEnd R first second → second ≡ None → first ≡ None
-given_up R None second both none = refl
-given_up R (Some e) second both none = absurd (subst (BothEnd R (Some e)) none both)
-
-end_beside : {V : Type 0} (R : Execution V → Execution V → Type 0) (first second : Option (Execution V)) (last : Execution V) → BothEnd R first second → second ≡ Some last
-    → (e : Execution V) × (first ≡ Some e) × R e last
-end_beside R None second last both is = absurd (subst (BothEnd R None) is both)
-end_beside R (Some e) second last both is = (e, refl, subst (BothEnd R (Some e)) is both)
 
 module _ {V : Type 0} (app : Application V) where
   -- ---- legs
@@ -92,9 +85,12 @@ module _ {V : Type 0} {app : Application V} (basis : Basis app) where
     next_at_rest : whole_state next rest.values ≡ state_at_rest next
     next_at_rest = ap (whole_state next) (whole_is_home basis next rest.values next_sound).1
 
+    next_is : state_of rest.values (put_all (first_from 0 renamed.first) []) ≡ state_at_rest next
+    next_is = ap (state_of rest.values) (sym renamed.nodes.tasks) ∙ next_at_rest
+
     comes : ComesToSame app here (state_at_rest next)
     comes =
-        subst (ComesToSame app here) (ap (state_of rest.values) (sym renamed.nodes.tasks) ∙ next_at_rest)
+        subst (ComesToSame app here) next_is
         (basis.come_to_same ignored here rest.course.come.stands.ready renamed.first renamed.listed)
 
     same_ended : next.ended ≡ now.ended
@@ -178,3 +174,9 @@ module _ {V : Type 0} {app : Application V} (basis : Basis app) where
     too_long = too_long start now next state text ignored rest renamed;
     limit = same_limit start now next state text ignored rest renamed;
   }
+
+  pub renamings_keep_texts : RenamingsKeepTexts app
+  renamings_keep_texts start now next state last text kept rounds more ignored begins rest leads count silent renamed =
+      keeps_behind basis start now next state text rounds ignored begins rest leads count silent renamed.first renamed.listed (next_is start now next state text ignored rest renamed)
+      (same_ended start now next state text ignored rest renamed) (same_limit start now next state text ignored rest renamed) (ap (λ (p : Progress V). p.log) renamed.after)
+      more last kept

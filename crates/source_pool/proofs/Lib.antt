@@ -11,8 +11,14 @@ pub mod Faults
 pub mod HandsPlayed
 pub mod Jobs
 pub mod JoinedTexts
+pub mod Kept
+pub mod KeptLater
+pub mod KeptLegs
+pub mod KeptNames
 pub mod LegRounds
 pub mod Legs
 pub mod Lists
+pub mod Passing
 pub mod PerformedInOrder
 pub mod RoundNumbers
+pub mod RunsBeside

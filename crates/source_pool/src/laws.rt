@@ -1,24 +1,34 @@
 ghost use Rattle.source_pool.specs.Basis.{Basis};
+ghost use Rattle.source_pool.specs.KeptLaws.{ActsAreTheRound, ActsPassWithTheRound, DrainedTextsAreKept, EndsAreTheRound, EndsPassWithTheRound, RenamingsKeepTexts};
 ghost use Rattle.source_pool.specs.Legs.{LegsBegin, LegsGoOn, RenamingsGoOn};
 ghost use Rattle.source_pool.specs.Laws.{ActsBegin, ActsComeToRest, ActsGoOn, ClaimsGoOn, ClaimsLeaveFewer, DrainsKeepRest, DrawingsBegin, DrawnJobsAreTheRound, DrawnJobsDiffer, EndsComeToRest, EndsGoOn, FirstMayAct, FirstMayEnd, RestWithoutNodesIsTheEnd, RoundsAdd, RoundsAreTaken, RoundsHaveActs, RoundsHaveJobs, StartsAreAtRest, TooManyActsNeverEnd, TooManyNeverEnd, WholeIsHome};
 
-use app_laws::App;
+use app_laws::{App, execution_laws, lawful, naming_laws};
 use cell_store::value_laws;
-use commuting::{listed_tasks_come_to_same, round_laws as clear_round_laws, standing_laws};
+use commuting::{
+    clear_tasks_all_commute, listed_tasks_come_to_same, round_laws as clear_round_laws,
+    standing_laws,
+};
 use kdg_graph::laws::{node_laws, put_laws};
 use output_log::{join_laws, part_laws};
 use run_laws::{
     act_laws, clear_claim_laws, clear_laws, course_act_laws, course_claim_laws, course_drain_laws,
     course_end_laws, course_mark_laws, course_run_laws, course_start_laws, finish_state_laws,
-    renaming_laws, rest_laws, stay_clear_laws,
+    performed_laws, renaming_laws, rest_laws, stay_clear_laws,
 };
 use rw_sets::conflict_laws;
-use task_order::{earlier_laws, key_order};
+use task_order::{
+    ascending_laws, earlier_laws, key_order, put_all_laws, put_in_laws, without_laws,
+};
 
 /// What the crates below promise, as one.
 fn basis<A: App>()
     ensures { (app : A) → Basis (A.meaning app) }
 {
+    lawful::<A>();
+    execution_laws::<A::Val>();
+    naming_laws();
+    clear_tasks_all_commute::<A>();
     clear_round_laws::<A>();
     listed_tasks_come_to_same::<A>();
     standing_laws::<A>();
@@ -30,6 +40,7 @@ fn basis<A: App>()
     course_drain_laws::<A>();
     course_run_laws::<A>();
     finish_state_laws::<A>();
+    performed_laws::<A>();
     renaming_laws::<A>();
     act_laws::<A>();
     clear_claim_laws::<A>();
@@ -40,6 +51,10 @@ fn basis<A: App>()
     put_laws();
     key_order();
     earlier_laws();
+    ascending_laws();
+    put_in_laws();
+    put_all_laws();
+    without_laws();
     conflict_laws();
     part_laws();
     join_laws();
@@ -107,6 +122,20 @@ pub fn leg_laws<A: App>()
     ensures begins { (app : A) → LegsBegin (A.meaning app) }
     ensures goes_on { (app : A) → LegsGoOn (A.meaning app) }
     ensures renamed { (app : A) → RenamingsGoOn (A.meaning app) }
+{
+    basis::<A>();
+}
+
+/// What is kept of a run in rounds while it goes on: where nothing more is to be drained, what was drained
+/// are the texts of the ended tasks that come before every pending one. A round acts on as many tasks as
+/// are clear, and where one of them passes the limit, the whole round does.
+pub fn kept_laws<A: App>()
+    ensures drained { (app : A) → DrainedTextsAreKept (A.meaning app) }
+    ensures acts { (app : A) → ActsAreTheRound (A.meaning app) }
+    ensures ends { (app : A) → EndsAreTheRound (A.meaning app) }
+    ensures acts_pass { (app : A) → ActsPassWithTheRound (A.meaning app) }
+    ensures ends_pass { (app : A) → EndsPassWithTheRound (A.meaning app) }
+    ensures renamed { (app : A) → RenamingsKeepTexts (A.meaning app) }
 {
     basis::<A>();
 }
