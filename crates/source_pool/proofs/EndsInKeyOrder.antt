@@ -8,12 +8,13 @@ use Rattle.task_order.specs.Key.{key_cmp}
 use Rattle.task_order.specs.Laws.{DistinctInAnyOrder, EarlierIsConnected}
 use Rattle.task_order.specs.TaskList.{HasDistinctKeys}
 use Rattle.app_laws.specs.Applications.{Application}
-use Rattle.commuting.specs.Rounds.{after_round}
+use Rattle.commuting.specs.Rounds.{after_round, clear_tasks}
 use Rattle.commuting.specs.States.{State}
 use Rattle.run_laws.specs.Jobs.{Done, Job}
 use Rattle.run_laws.specs.Events.{clear_nodes}
 use Rattle.run_laws.specs.Progress.{Progress}
 use Rattle.source_pool.specs.Course.{AreAllDone, HaveOwnKeys, IsAtRest, IsDrawing, IsEnding, IsJobDone, done_tasks}
+use Rattle.source_pool.specs.KeptLaws.{EndsAreTheRound}
 use Rattle.source_pool.specs.Laws.{DrawnJobsAreTheRound, DrawnJobsDiffer, RoundsHaveJobs}
 use Rattle.source_pool.specs.Performing.{AreDoneInSomeTurn}
 use Rattle.source_pool.proofs.EarliestFirst.{ascends, own_tasks}
@@ -58,6 +59,14 @@ module _ {V : Type 0} (app : Application V) where
     ends_in_key_order round differ any_order connected drawing none_clear performed same in_order =
         let own = differ start now cells state text jobs drawing in
         round start now cells state text jobs sorted drawing none_clear (all_are_done jobs dones sorted performed same)
+        (ascends connected sorted in_order (keys_differ jobs dones sorted performed same any_order own))
+
+    -- as many as tasks were clear
+    pub as_many_end : EndsAreTheRound app → DrawnJobsDiffer app → DistinctInAnyOrder → EarlierIsConnected → IsDrawing app start cells state text now jobs → clear_nodes app now.nodes ≡ []
+        → AreDoneInSomeTurn app jobs dones → IsPermutation dones sorted → IsSortedByKey (λ (done : Done V). done.task.key) key_cmp sorted → length sorted ≡ length (clear_tasks app state)
+    as_many_end as_many differ any_order connected drawing none_clear performed same in_order =
+        let own = differ start now cells state text jobs drawing in
+        as_many start now cells state text jobs sorted drawing none_clear (all_are_done jobs dones sorted performed same)
         (ascends connected sorted in_order (keys_differ jobs dones sorted performed same any_order own))
 
     -- where a node was left when the round began, something was done

@@ -1,5 +1,5 @@
 -- Where a task doesn't act, or the end of a job is refused, the run is at fault.
-use Rattle.std.proofs.Common.{◌∙◌, ℕ, List, ◌∷◌, arith}
+use Rattle.std.proofs.Common.{◌≡◌, ◌+◌, ◌∙◌, ℕ, List, ◌∷◌, length, arith, subst}
 use Rattle.cell_store.specs.Values.{values_of}
 use Rattle.kdg_graph.specs.declared.node_id.NodeId.{NodeId}
 use Rattle.app_laws.specs.Applications.{Application}
@@ -13,6 +13,8 @@ use Rattle.run_laws.specs.Answers.{IsFinishRefusal}
 use Rattle.crew.specs.Faults.{cause_of}
 use Rattle.run_laws.specs.Progress.{Progress}
 use Rattle.source_pool.specs.Course.{IsActing, IsEnding}
+use Rattle.source_pool.specs.Kept.{PassesWith}
+use Rattle.source_pool.specs.KeptLaws.{ActsPassWithTheRound, EndsPassWithTheRound}
 use Rattle.source_pool.specs.Laws.{TooManyActsNeverEnd, TooManyNeverEnd}
 use Rattle.source_pool.specs.Runs.{IsRunFault}
 
@@ -32,3 +34,21 @@ module _ {V : Type 0} (app : Application V) where
     above = omega (arith, is.1, is.2, is.3);
   }
   refused never start now next target text done dones ending (refusal.NoRoom back) is = tt
+
+  pub acts_pass : ActsPassWithTheRound app → (start now next : Progress V) (target : State V) (text : List ℕ) (id : NodeId) (ids : List NodeId)
+      → IsActing app start (values_of start.cells) target text now (id ∷ ids) → (why : OverCause) → IsActFault app now id next why
+      → PassesWith start.limit (now.ended + length (id ∷ ids)) target why
+  acts_pass passes start now next target text id ids acting (cause.Budget created limit) many =
+      omega (arith, passes start now next (values_of start.cells) target text id ids created limit acting many)
+  acts_pass passes start now next target text id ids acting cause.NoRoom is = tt
+
+  pub ends_pass : EndsPassWithTheRound app → (start now next : Progress V) (target : State V) (text : List ℕ) (done : Done V) (dones : List (Done V))
+      → IsEnding app start (values_of start.cells) target text now (done ∷ dones) → (fault : FinishFault V) → IsFinishRefusal app now done next fault
+      → PassesWith start.limit (now.ended + length (done ∷ dones)) target (cause_of fault)
+  ends_pass passes start now next target text done dones ending (refusal.Budget back created limit) is =
+      omega (arith, passes start now (values_of start.cells) target text done dones ending is.1)
+  ends_pass passes start now next target text done dones ending (refusal.NoRoom back) is = tt
+
+-- the number of ended tasks that comes to the same
+pub passes_at : {V : Type 0} (most ended other : ℕ) (state : State V) (why : OverCause) → ended ≡ other → PassesWith most ended state why → PassesWith most other state why
+passes_at most ended other state why same passes = subst (λ n. PassesWith most n state why) same passes

@@ -7,6 +7,8 @@ use Rattle.app_laws.specs.Applications.{Application}
 use Rattle.commuting.specs.Commuting.{entries_of}
 use Rattle.commuting.specs.Rounds.{after_round, clear_tasks}
 use Rattle.commuting.specs.States.{State}
+use Rattle.crew.specs.declared.answers.OverCause.{OverCause}
+use Rattle.crew.specs.declared.answers.OverCause.TheVariants as cause
 use Rattle.run_laws.specs.Progress.{Progress}
 use Rattle.source_pool.specs.Course.{LeadsByRounds}
 use Rattle.source_pool.specs.Runs.{state_at_rest}
@@ -55,3 +57,8 @@ module _ {V : Type 0} (app : Application V) where
     pub there : State V
     pub keeps : KeepsAfter start (rounds + more) there (text ++ kept)
     pub last : IsLastAfter now more state → IsLastAfter start (rounds + more) there
+
+-- where the limit was passed, as many tasks as have ended then, and those of this state, are more than the limit
+abbrev pub PassesWith : {V : Type 0} → ℕ → ℕ → State V → OverCause → Type 0
+PassesWith most ended state (cause.Budget created limit) = most < ended + length state.pending
+PassesWith most ended state cause.NoRoom = Unit {0}

@@ -2,13 +2,14 @@
 
 ghost use Rattle.std.specs.Prelude.{◌≡◌, ◌≢◌, ◌+◌, ◌<◌, [], length, IfErr, OnOk};
 ghost use Rattle.cell_store.specs.Values.{values_of};
-ghost use Rattle.commuting.specs.Rounds.{after_round};
+ghost use Rattle.commuting.specs.Rounds.{after_round, clear_tasks};
 ghost use Rattle.kdg_graph.specs.Nodes.{HasNode};
 ghost use Rattle.source_pool.specs.Course.{IsActing, IsAtRest, RunPoint};
+ghost use Rattle.source_pool.specs.Kept.{PassesWith};
 ghost use Rattle.source_pool.specs.Runs.{IsRunFault};
 
 use crate::RunFault;
-use crate::laws::acting_laws;
+use crate::laws::{acting_laws, kept_laws};
 use crate::round_lists::RoundLists;
 use app_laws::App;
 use graph_update::Engine;
@@ -29,9 +30,12 @@ pub(crate) fn act_round<A: App, L: Ledger>(
     ensures app { engine.new.app ≡ engine.old.app }
     ensures rest { OnOk result (IsAtRest (A.meaning engine.old.app) from.start (values_of from.start.cells) (after_round (A.meaning engine.old.app) from.state) from.text engine.new.progress) }
     ensures ended { OnOk result (engine.old.progress.ended < engine.new.progress.ended) }
+    ensures counted { OnOk result (engine.new.progress.ended ≡ engine.old.progress.ended + length (clear_tasks (A.meaning engine.old.app) from.state)) }
     ensures fault { IfErr result (IsRunFault (A.meaning engine.old.app) from.start) }
+    ensures passed { IfErr result (PassesWith from.start.limit (engine.old.progress.ended + length (clear_tasks (A.meaning engine.old.app) from.state)) (after_round (A.meaning engine.old.app) from.state)) }
 {
     acting_laws::<A>();
+    kept_laws::<A>();
     engine.find_clear(&mut lists.ids)?;
     let cells = act_in_turn(engine, &lists.ids, lists.work.goes_by_cells(), steps)?;
     lists.work.note_round(lists.ids.len(), cells);
@@ -52,8 +56,10 @@ fn act_in_turn<A: App, L: Ledger>(
     ensures rest { OnOk result (IsAtRest (A.meaning engine.old.app) to.start (values_of to.start.cells) to.state to.text engine.new.progress) }
     ensures ended { OnOk result (engine.new.progress.ended ≡ engine.old.progress.ended + length ids.now) }
     ensures fault { IfErr result (IsRunFault (A.meaning engine.old.app) to.start) }
+    ensures passed { IfErr result (PassesWith to.start.limit (engine.old.progress.ended + length ids.now) to.state) }
 {
     acting_laws::<A>();
+    kept_laws::<A>();
     let mut cells = 0usize;
     for id in ids {
         if counts {

@@ -4,10 +4,11 @@ ghost use Rattle.std.specs.Prelude.{◌≡◌, ◌+◌, length, IfErr, IsPermuta
 ghost use Rattle.task_order.specs.Key.{key_cmp};
 ghost use Rattle.cell_store.specs.Values.{values_of};
 ghost use Rattle.source_pool.specs.Course.{IsAtRest, RunPoint, IsEnding};
+ghost use Rattle.source_pool.specs.Kept.{PassesWith};
 ghost use Rattle.source_pool.specs.Runs.{IsRunFault};
 
 use crate::RunFault;
-use crate::laws::ending_laws;
+use crate::laws::{ending_laws, kept_laws};
 use app_laws::App;
 use cell_store::Held;
 use graph_update::{Done, Engine};
@@ -37,8 +38,10 @@ pub(crate) fn end_all<A: App, L: Ledger>(
     ensures rest { OnOk result (IsAtRest (A.meaning engine.old.app) to.start (values_of to.start.cells) to.state to.text engine.new.progress) }
     ensures ended { OnOk result (engine.new.progress.ended ≡ engine.old.progress.ended + length dones.old.items) }
     ensures fault { IfErr result (IsRunFault (A.meaning engine.old.app) to.start) }
+    ensures passed { IfErr result (PassesWith to.start.limit (engine.old.progress.ended + length dones.old.items) to.state) }
 {
     ending_laws::<A>();
+    kept_laws::<A>();
     while let Some(done) = dones.pop_front() {
         engine.finish(done, steps)?;
     }

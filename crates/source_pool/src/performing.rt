@@ -3,7 +3,7 @@
 ghost use Rattle.std.specs.Prelude.{◌≡◌, ◌≢◌, ◌+◌, ◌-◌, ◌<◌, ◌≤◌, ◌^◌, [], min, length, sum_by, OnOk};
 ghost use Rattle.std.specs.List.{AllByRecursion, AllZip};
 ghost use Rattle.cell_store.specs.Values.{values_of};
-ghost use Rattle.commuting.specs.Rounds.{after_round};
+ghost use Rattle.commuting.specs.Rounds.{after_round, clear_tasks};
 ghost use Rattle.crew.specs.Jobs.{MayRun};
 ghost use Rattle.source_pool.specs.Course.{IsAtRest, IsEnding, IsJobDone, RunPoint};
 ghost use Rattle.source_pool.specs.Performing.{AreDoneInSomeTurn};
@@ -11,7 +11,7 @@ ghost use Rattle.source_pool.specs.Performing.{AreDoneInSomeTurn};
 use crate::claiming::{Picks, draw};
 use crate::finishing::order_ends;
 use crate::hands::perform_together;
-use crate::laws::drawing_laws;
+use crate::laws::{drawing_laws, kept_laws};
 use crate::round_lists::RoundLists;
 use app_laws::App;
 use cell_store::Held;
@@ -40,9 +40,11 @@ pub(crate) fn perform_round<R: Threads + Sync, A: App + Sync, G: Gate + Sync>(
     ensures app { engine.new.app ≡ engine.old.app }
     ensures ending { OnOk result (IsEnding (A.meaning engine.old.app) from.start (values_of from.start.cells) (after_round (A.meaning engine.old.app) from.state) from.text engine.new.progress lists.new.dones.items) }
     ensures some { OnOk result (0 < length lists.new.dones.items) }
+    ensures as_many { OnOk result (length lists.new.dones.items ≡ length (clear_tasks (A.meaning engine.old.app) from.state)) }
     ensures ended { OnOk result (engine.new.progress.ended ≡ engine.old.progress.ended) }
 {
     drawing_laws::<A>();
+    kept_laws::<A>();
     ascending_laws();
     earlier_laws();
     draw(engine, picks, &mut lists.jobs)?;

@@ -1,11 +1,12 @@
-ghost use Rattle.std.specs.Prelude.{◌≡◌, ◌≢◌, ◌+◌, ◌<◌, ◌≤◌, ◌^◌, [], ◌++◌, None, IsTrue, IfOk, IfErr, OnOk};
+ghost use Rattle.std.specs.Prelude.{◌≡◌, ◌≢◌, ◌+◌, ◌<◌, ◌≤◌, ◌^◌, [], ◌++◌, None, length, IsTrue, IfOk, IfErr, OnOk};
 ghost use Rattle.cell_store.specs.Values.{values_of};
 ghost use Rattle.app_laws.specs.Applications.{PathsAreIgnored};
-ghost use Rattle.commuting.specs.Rounds.{after_round};
+ghost use Rattle.commuting.specs.Rounds.{after_round, clear_tasks};
 ghost use Rattle.run_laws.specs.Progress.{Progress};
 ghost use Rattle.run_laws.specs.Rest.{NoneRuns};
 ghost use Rattle.output_log.specs.Entries.{with_texts};
 ghost use Rattle.source_pool.specs.Course.{IsAtRest, LeadsByRounds, RunPoint};
+ghost use Rattle.source_pool.specs.Kept.{PassesWith};
 ghost use Rattle.source_pool.specs.Legs.{BeginsAtRest};
 ghost use Rattle.source_pool.specs.Runs.{IsRoundsEnd, IsRunFault, state_at_rest};
 
@@ -209,7 +210,9 @@ fn play_round<R: Threads + Sync, A: App + Sync, G: Gate + Sync, L: Ledger>(
     ensures app { engine.new.app ≡ engine.old.app }
     ensures rest { OnOk result (IsAtRest (A.meaning engine.old.app) from.start (values_of from.start.cells) (after_round (A.meaning engine.old.app) from.state) text.new engine.new.progress) }
     ensures ended { OnOk result (engine.old.progress.ended < engine.new.progress.ended) }
+    ensures counted { OnOk result (engine.new.progress.ended ≡ engine.old.progress.ended + length (clear_tasks (A.meaning engine.old.app) from.state)) }
     ensures fault { IfErr result (IsRunFault (A.meaning engine.old.app) from.start) }
+    ensures passed { IfErr result (PassesWith from.start.limit (engine.old.progress.ended + length (clear_tasks (A.meaning engine.old.app) from.state)) (after_round (A.meaning engine.old.app) from.state)) }
 {
     if picks.gate().is_open() && lists.work.stays_alone(workers) {
         act_round(engine, lists, steps)?;

@@ -1,11 +1,16 @@
 use mir.Syntax.{of_param}
-use Rattle.std.proofs.Common.{◌≡◌, length, sym, ap, subst, ◌∙◌, arith}
+use Rattle.std.proofs.Common.{◌≡◌, ◌+◌, length, sym, ap, subst, ◌∙◌, arith}
+use Rattle.std.proofs.lemmas.List.{length-map}
+use Rattle.std.proofs.lemmas.Result.{err_from_is_err_and}
 use Rattle.cell_store.specs.Values.{values_of}
 use Rattle.kdg_graph.specs.Nodes.{ids_of}
-use Rattle.commuting.specs.Rounds.{after_round}
+use Rattle.commuting.specs.Rounds.{after_round, clear_tasks}
+use Rattle.kdg_graph.specs.Node.{Node}
 use Rattle.run_laws.specs.Events.{clear_nodes}
 use Rattle.graph_update.specs.Engine.{EngineState}
 use Rattle.source_pool.specs.Course.{IsActing}
+use Rattle.source_pool.specs.Kept.{PassesWith}
+use Rattle.source_pool.proofs.Faults.{passes_at}
 use Rattle.source_pool.proofs.Lists.{some_in}
 use Rattle.source_pool.proofs.acting.act_round.Goals as goal
 
@@ -45,3 +50,32 @@ returns-clause-ended g c =
     let some = some_in (ids_of (clear_nodes app now.nodes))
     (c.acting_laws.ensures.some c.args.engine.now.app g.from.start now (values_of g.from.start.cells) g.from.state g.from.text c.requires.1.1.1.1.1.1.0 c.requires.1.1.1.1.1.1.1) in
     omega (arith, c.in_ok-cells.ensures.ended, ap (λ (state : EngineState g.row.A.Denot g.row.A-Val.Denot). state.progress.ended) c.find_clear.ensures.same, ap length same, some)
+
+pub returns-clause-counted : goal.returns-clause-counted
+returns-clause-counted g c =
+    let app = g.A.App.meaning c.args.engine.now.app in
+    let now = c.args.engine.now.progress in
+    let same : c.deref.result.now ≡ ids_of (clear_nodes app now.nodes) = c.deref.ensures.value ∙ c.in_ok-find_clear.ensures.ids in
+    let many = c.kept_laws.ensures.acts c.args.engine.now.app g.from.start now (values_of g.from.start.cells) g.from.state g.from.text c.requires.1.1.1.1.1.1.0 in
+    omega (
+      arith,
+      c.in_ok-cells.ensures.ended,
+      ap (λ (state : EngineState g.row.A.Denot g.row.A-Val.Denot). state.progress.ended) c.find_clear.ensures.same,
+      ap length same,
+      length-map (clear_nodes app now.nodes) (λ (node : Node). node.id),
+      many,
+    )
+
+pub returns-in_err-cells-clause-passed : goal.returns-in_err-cells-clause-passed
+returns-in_err-cells-clause-passed g c =
+    let app = g.A.App.meaning c.args.engine.now.app in
+    let now = c.args.engine.now.progress in
+    let ids = c.deref.result.now in
+    let why = c.in_err-cells.field-0.0 in
+    let acted = now.ended + length (clear_tasks app g.from.state) in
+    let same : ids ≡ ids_of (clear_nodes app now.nodes) = c.deref.ensures.value ∙ c.in_ok-find_clear.ensures.ids in
+    let many = c.kept_laws.ensures.acts c.args.engine.now.app g.from.start now (values_of g.from.start.cells) g.from.state g.from.text c.requires.1.1.1.1.1.1.0 in
+    let all : now.ended + length ids ≡ acted = omega (arith, ap length same, length-map (clear_nodes app now.nodes) (λ (node : Node). node.id), many) in
+    let passes = subst (λ (state : EngineState g.row.A.Denot g.row.A-Val.Denot). PassesWith g.from.start.limit (state.progress.ended + length ids) (after_round (g.A.App.meaning state.app) g.from.state) why) c.find_clear.ensures.same c.in_err-cells.ensures.passed in
+    let e = err_from_is_err_and c.from_residual-in_err-cells.result c.from_residual-in_err-cells.ensures.1 in
+    rw (e.1, e.2) (passes_at g.from.start.limit (now.ended + length ids) acted (after_round app g.from.state) why all passes)

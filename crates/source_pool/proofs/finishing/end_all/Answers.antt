@@ -1,12 +1,13 @@
-use Rattle.std.proofs.Common.{◌≡◌, ◌∷◌, length, sym, ap, subst, ◌∙◌, arith}
+use Rattle.std.proofs.Common.{◌≡◌, ◌+◌, ◌∷◌, length, sym, ap, subst, ◌∙◌, arith}
 use Rattle.std.proofs.lemmas.Result.{err_from_is_err_and}
 use Rattle.cell_store.specs.Values.{values_of}
+use Rattle.crew.specs.Faults.{cause_of}
 use Rattle.run_laws.specs.Answers.{IsFinishRefusal}
 use Rattle.run_laws.specs.Laws.{IsDone}
 use Rattle.run_laws.specs.Events.{IsFinished, IsOverLimit}
 use Rattle.run_laws.specs.Progress.{Progress}
 use Rattle.source_pool.specs.Course.{IsEnding}
-use Rattle.source_pool.proofs.Faults.{refused}
+use Rattle.source_pool.proofs.Faults.{ends_pass, passes_at, refused}
 use Rattle.source_pool.proofs.Lists.{nothing_left}
 use Rattle.source_pool.proofs.finishing.end_all.Goals as goal
 
@@ -45,6 +46,21 @@ returns-in_err-finish-clause-fault g c =
     let e = err_from_is_err_and c.from_residual.result c.from_residual.ensures.1 in
     rw (e.1, e.2)
     (refused app (c.ending_laws.ensures.too_many c.args.engine.now.app) g.to.start at.engine.progress c.finish.new.self.progress g.to.state g.to.text c.in-Some.done rest ending c.in_err-finish.field-0.0 refusal)
+
+pub returns-in_err-finish-clause-passed : goal.returns-in_err-finish-clause-passed
+returns-in_err-finish-clause-passed g c =
+    let app = g.A.App.meaning c.args.engine.now.app in
+    let at = c.loop-done in
+    let done = c.in-Some.done in
+    let rest = c.pop_front.new.self.items in
+    let taken : at.dones.items ≡ done ∷ rest = c.in-Some.ensures.items in
+    let ending = subst (IsEnding app g.to.start (values_of g.to.start.cells) g.to.state g.to.text at.engine.progress) taken at.invariant.ending in
+    let refusal = subst (λ (app : g.row.A.Denot). IsFinishRefusal (g.A.App.meaning app) at.engine.progress done c.finish.new.self.progress c.in_err-finish.field-0.0) at.invariant.app c.in_err-finish.ensures.refused in
+    let e = err_from_is_err_and c.from_residual.result c.from_residual.ensures.1 in
+    let same : at.engine.progress.ended + length (done ∷ rest) ≡ c.args.engine.now.progress.ended + length c.args.dones.now.items = omega (arith, at.invariant.ended, ap length taken) in
+    rw (e.1, e.2)
+    (passes_at g.to.start.limit (at.engine.progress.ended + length (done ∷ rest)) (c.args.engine.now.progress.ended + length c.args.dones.now.items) g.to.state (cause_of c.in_err-finish.field-0.0) same
+    (ends_pass app (c.kept_laws.ensures.ends_pass c.args.engine.now.app) g.to.start at.engine.progress c.finish.new.self.progress g.to.state g.to.text done rest ending c.in_err-finish.field-0.0 refusal))
 
 pub returns-clause-rest : goal.returns-clause-rest
 returns-clause-rest g c =

@@ -1,12 +1,14 @@
 use mir.Syntax.{of_param}
-use Rattle.std.proofs.Common.{ℕ, List, sym, ap, subst, arith}
+use Rattle.std.proofs.Common.{◌≡◌, ◌+◌, ℕ, List, length, sym, ap, subst, arith}
 use Rattle.std.proofs.lemmas.Result.{err_from_is_err_and}
 use Rattle.cell_store.specs.Values.{values_of}
-use Rattle.commuting.specs.Rounds.{after_round}
+use Rattle.commuting.specs.Rounds.{after_round, clear_tasks}
 use Rattle.graph_update.specs.Engine.{EngineState}
 use Rattle.run_laws.specs.Progress.{Progress}
 use Rattle.source_pool.specs.Course.{IsAtRest, IsEnding}
 use Rattle.source_pool.specs.Runs.{IsRunFault}
+use Rattle.source_pool.specs.Kept.{PassesWith}
+use Rattle.source_pool.proofs.Faults.{passes_at}
 use Rattle.source_pool.proofs.rounds.play_round.Goals as goal
 use Rattle.source_pool.proofs.rounds.play_round.Goals.{then-is_open+then-stays_alone+in_ok-act_round, else-is_open+in_ok-perform_round+in_ok-end_all}
 
@@ -135,3 +137,32 @@ returns-in_err-end_all-clause-fault g c =
     let fault = subst (λ (app : g.row.A.Denot). IsRunFault (g.A.App.meaning app) g.from.start c.in_err-end_all.field-0.0) c.perform_round.ensures.app c.in_err-end_all.ensures.fault in
     let e = err_from_is_err_and c.from_residual-in_err-end_all.result c.from_residual-in_err-end_all.ensures.1 in
     rw (e.1, e.2) fault
+
+pub returns-clause-counted : goal.returns-clause-counted
+returns-clause-counted g c =
+    let drained = ap (λ (p : Progress g.row.A-Val.Denot). p.ended) c.in_ok-drain.ensures.drained in
+    elim c.if-is_open.branch [
+      | then-is_open+then-stays_alone+in_ok-act_round w ↦ omega (arith, ap (λ (e : EngineState g.row.A.Denot g.row.A-Val.Denot). e.progress.ended) w.engine-is, w.in_ok-act_round.ensures.counted, drained)
+      | else-is_open+in_ok-perform_round+in_ok-end_all w ↦
+          omega (
+            arith,
+            ap (λ (e : EngineState g.row.A.Denot g.row.A-Val.Denot). e.progress.ended) w.engine-is,
+            w.in_ok-perform_round.ensures.ended,
+            w.in_ok-end_all.ensures.ended,
+            drained,
+            w.in_ok-perform_round.ensures.as_many,
+          )
+    ]
+
+pub returns-in_err-end_all-clause-passed : goal.returns-in_err-end_all-clause-passed
+returns-in_err-end_all-clause-passed g c =
+    let app = g.A.App.meaning c.args.engine.now.app in
+    let start = g.from.start in
+    let old = c.args.engine.now.progress.ended in
+    let dones = c.perform_round.new.lists.dones.items in
+    let acted = old + length (clear_tasks app g.from.state) in
+    let why = c.in_err-end_all.field-0.0 in
+    let same : c.perform_round.new.engine.progress.ended + length dones ≡ acted = omega (arith, c.in_ok-perform_round.ensures.ended, c.in_ok-perform_round.ensures.as_many) in
+    let e = err_from_is_err_and c.from_residual-in_err-end_all.result c.from_residual-in_err-end_all.ensures.1 in
+    let passes = subst (λ (other : g.row.A.Denot). PassesWith start.limit (c.perform_round.new.engine.progress.ended + length dones) (after_round (g.A.App.meaning other) g.from.state) why) c.perform_round.ensures.app c.in_err-end_all.ensures.passed in
+    rw (e.1, e.2) (passes_at start.limit (c.perform_round.new.engine.progress.ended + length dones) acted (after_round app g.from.state) why same passes)
