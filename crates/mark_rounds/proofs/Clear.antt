@@ -82,7 +82,7 @@ module _ (decided : ConflictsAreDecided) (set_of : Task → Accesses) (set : Acc
 -- ---- the law
 
 module _ {V : Type 0} (app : Application V) (lawful : IsLawful app) where
-  sets_ascend : (cells : List V) (tasks : List Task) → app.is_fit_cells cells → AreFitTasks app tasks → AllByRecursion IsSet (map (set_in app cells) tasks)
+  pub sets_ascend : (cells : List V) (tasks : List Task) → app.is_fit_cells cells → AreFitTasks app tasks → AllByRecursion IsSet (map (set_in app cells) tasks)
   sets_ascend cells [] fit all = tt
   sets_ascend cells (task ∷ tasks) fit all = ((lawful.sets_are_in_range task cells fit all.0).ascending, sets_ascend cells tasks fit all.1)
 

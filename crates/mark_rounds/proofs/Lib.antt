@@ -1,3 +1,7 @@
+pub mod AllMarked
+pub mod Chosen
 pub mod Clear
 pub mod Found
-pub mod Ranked
+pub mod Places
+pub mod Safe
+pub mod Tested

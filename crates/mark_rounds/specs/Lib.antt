@@ -1,1 +1,5 @@
+pub mod Basis
+pub mod Board
 pub mod Marked
+pub mod Pending
+pub mod Runs

@@ -1,8 +1,10 @@
 //! What marks tell of pending tasks.
 
+ghost use Rattle.mark_rounds.specs.Basis.{Basis};
 ghost use Rattle.mark_rounds.specs.Marked.{FreeAndSafeIsClear};
 
 use app_laws::{App, lawful};
+use cell_store::value_laws;
 use mark_board::free_laws;
 use rw_sets::conflict_laws;
 use task_order::earlier_laws;
@@ -16,4 +18,15 @@ pub fn marked_laws<A: App>()
     earlier_laws();
     conflict_laws();
     free_laws();
+}
+
+/// What the crates below promise, and what marks tell, as one.
+pub(crate) fn basis<A: App>()
+    ensures { (app : A) → Basis (A.meaning app) }
+{
+    lawful::<A>();
+    marked_laws::<A>();
+    earlier_laws();
+    free_laws();
+    value_laws::<A::Val>();
 }

@@ -1,8 +1,12 @@
 //! Rounds whose clear tasks are found by marks on a board, without a graph.
 #![tactic(auto)]
 
+mod finding;
 mod laws;
 mod marking;
+mod pending;
+mod running;
 
 pub use laws::marked_laws;
-pub use marking::mark_pending;
+pub use list_rounds::RunFault;
+pub use running::run_marks;

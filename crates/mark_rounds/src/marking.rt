@@ -1,41 +1,47 @@
 //! How pending tasks mark their sets.
 
-ghost use Rattle.std.specs.Prelude.{◌≡◌, ◌<◌, ◌≤◌, ◌^◌, ◌++◌, length, map, IfOk, OnOk};
+ghost use Rattle.std.specs.Prelude.{◌≡◌, ◌<◌, ◌≤◌, ◌^◌, ◌++◌, length, IfOk, OnOk};
+ghost use Rattle.std.specs.List.{AllByRecursion};
+ghost use Rattle.rw_sets.specs.Accesses.{IsInRange};
 ghost use Rattle.cell_store.specs.Values.{homes, values_of};
 ghost use Rattle.app_laws.specs.Applications.{AreFitTasks, IsFitTask, set_in};
 ghost use Rattle.mark_board.specs.Ranks.{marks_from};
+ghost use Rattle.mark_rounds.specs.Pending.{sets_in, tasks_in};
 
 use app_laws::{App, SetAnswer, lawful};
 use cell_store::{Store, value_laws};
 use kdg_text::{NoRoom, Steps};
 use mark_board::{Board, Marker};
 use rw_sets::RwSet;
+use std::alloc::Global;
 use std::sync::ledger::Ledger;
 use task_order::{Task, TaskList};
 
-/// Marks the declared set of each pending task with the task's place in their order, from 0. All cells
-/// are home. After `NoRoom` some are marked.
-pub fn mark_pending<A: App, L: Ledger>(
+/// The tasks of a list, in order.
+pub(crate) fn in_order<'p>(alloc: Global, pending: &'p TaskList) -> Result<Vec<&'p Task>, NoRoom>
+    ensures { IfOk result (λ tasks. tasks_in tasks.items ≡ pending.now) }
+{
+    let tasks = pending.iter().collect(alloc)?;
+    Ok(tasks)
+}
+
+/// The declared sets of tasks, in their order, where all cells are home. What was in the list is dropped.
+pub(crate) fn find_sets<A: App, L: Ledger>(
     app: &A,
-    pending: &TaskList,
+    tasks: &[&Task],
     store: &Store<A::Val>,
-    board: &Board,
-    marker: &mut Marker,
+    sets: &mut Vec<RwSet>,
     steps: &mut Steps<L>,
 ) -> Result<(), NoRoom>
-    requires fit { AreFitTasks (A.meaning app.now) pending.now }
-    requires few { length pending.now ≤ 2 ^ 32 }
+    requires fit { AreFitTasks (A.meaning app.now) (tasks_in tasks.now) }
     requires home { store.now ≡ homes (values_of store.now) }
     requires cells { (A.meaning app.now).is_fit_cells (values_of store.now) }
-    requires here { marker.old.board ≡ board.now.id }
-    requires wide { (A.meaning app.now).count ≤ board.now.cells }
-    ensures marked { OnOk result (marker.new.marks ≡ marker.old.marks ++ marks_from 0 (map (set_in (A.meaning app.now) (values_of store.now)) pending.now)) }
-    ensures same { marker.new ≡ record marker.old { marks = marker.new.marks } }
+    ensures { OnOk result (sets.new.items ≡ sets_in (A.meaning app.now) (values_of store.now) tasks.now) }
 {
-    lawful::<A>();
-    for rank in 0..pending.len() {
-        let set = declared_set(app, pending.at(rank), store, steps)?;
-        board.mark(marker, rank as u32, &set);
+    sets.clear();
+    for rank in 0..tasks.len() {
+        let set = declared_set(app, tasks[rank], store, steps)?;
+        sets.push(set)?;
     }
     Ok(())
 }
@@ -57,5 +63,17 @@ fn declared_set<A: App, L: Ledger>(
     match app.sets(&task.body, store, steps)? {
         SetAnswer::Known(set) => Ok(set),
         SetAnswer::Out(_) => unreachable!(),
+    }
+}
+
+/// Marks each set with its place, from 0.
+pub(crate) fn mark_sets(board: &Board, marker: &mut Marker, sets: &[RwSet])
+    requires here { marker.old.board ≡ board.now.id }
+    requires few { length sets.now ≤ 2 ^ 32 }
+    requires wide { AllByRecursion (λ set. IsInRange set board.now.cells) sets.now }
+    ensures { marker.new ≡ record marker.old { marks = marker.old.marks ++ marks_from 0 sets.now } }
+{
+    for (rank, set) in sets.iter().enumerate() {
+        board.mark(marker, rank as u32, set);
     }
 }

@@ -1,0 +1,14 @@
+-- What this crate's proofs stand on.
+use Rattle.task_order.specs.Laws.{EarlierIsTurned, EqualIsReflexive}
+use Rattle.cell_store.specs.Laws.{HomesAreValues}
+use Rattle.app_laws.specs.Applications.{Application, IsLawful}
+use Rattle.mark_board.specs.Ranks.{FreeRanksAreUnbarred}
+use Rattle.mark_rounds.specs.Marked.{FreeAndSafeIsClear}
+
+pub record Basis {V : Type 0} (app : Application V) : Type 0 where
+  pub lawful : IsLawful app
+  pub marked : FreeAndSafeIsClear app
+  pub turned : EarlierIsTurned
+  pub equal : EqualIsReflexive
+  pub unbarred : FreeRanksAreUnbarred
+  pub values : HomesAreValues V
