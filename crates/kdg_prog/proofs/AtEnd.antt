@@ -55,6 +55,13 @@ started_on options app setting cells tasks progress is-cells is-tasks begun fit_
   fit_tasks = subst (AreFitStarts app) is-tasks fit_tasks;
 }
 
+-- an execution that ends has taken as many rounds as the definition counts
+pub rounds_to_end : {V : Type 0} (options : Options) (problem : Problem V) (last : Execution V) (rounds : ℕ) → end_of options problem ≡ Some last → TakesRounds problem.app rounds (first_state problem) →
+    RoundsToTheEndAreCounted problem.app → RoundsAreOneNumber problem.app → IsReady problem.app (first_state problem) → rounds_of options problem ≡ rounds
+rounds_to_end {V} options problem last rounds ends takes counted one_number ready =
+    let taken = subst (λ (found : Option (Execution V)). IfSome found (λ _. TakesRounds problem.app (rounds_of options problem) (first_state problem))) ends (counted (first_state problem) ready options.budget) in
+    one_number (first_state problem) (rounds_of options problem) rounds taken takes
+
 module _ {V : Type 0} (options : Options) (problem : Problem V) (progress : Progress V) (values : HomesAreValues V) (begun : IsBegun problem.app problem.cells problem.tasks options.budget progress) where
   -- it begins where the sequential run does
   begins : state_at_rest progress ≡ first_state problem
@@ -99,6 +106,4 @@ module _ {V : Type 0} (options : Options) (problem : Problem V) (progress : Prog
   -- it has taken as many rounds as the definition counts
   pub rounds_in_rounds : (finals : Finals V) (rounds : ℕ) → IsRoundsEnd problem.app progress finals rounds → RoundsToTheEndAreCounted problem.app → RoundsAreOneNumber problem.app → IsReady problem.app (first_state problem) → rounds_of options problem ≡ rounds
   rounds_in_rounds finals rounds ended counted one_number ready =
-      let ends : end_of options problem ≡ Some ended.last = sym rest_is_whole ∙ ended.is_end in
-      let taken = subst (λ (found : Option (Execution V)). IfSome found (λ _. TakesRounds problem.app (rounds_of options problem) (first_state problem))) ends (counted (first_state problem) ready options.budget) in
-      one_number (first_state problem) (rounds_of options problem) rounds taken (subst (λ state. TakesRounds problem.app rounds state) begins ended.rounds_are)
+      rounds_to_end options problem ended.last rounds (sym rest_is_whole ∙ ended.is_end) (subst (λ state. TakesRounds problem.app rounds state) begins ended.rounds_are) counted one_number ready

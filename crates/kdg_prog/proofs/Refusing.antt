@@ -9,14 +9,17 @@ use Rattle.app_laws.specs.Serial.{IsFault, IsOverBudget, IsRun}
 use Rattle.app_laws.specs.declared.serial_run.Finals.{Finals}
 use Rattle.app_laws.specs.declared.serial_run.SerialFault.{SerialFault}
 use Rattle.app_laws.specs.declared.serial_run.SerialFault.TheVariants.{Budget, NoRoom}
+use Rattle.crew.specs.declared.answers.OverCause.{OverCause}
+use Rattle.crew.specs.declared.answers.OverCause.TheVariants as cause
+use Rattle.list_rounds.specs.Rounds.{IsRunFault, start_state}
 use Rattle.kdg_text.specs.declared.fault.Fault.{Fault}
 use Rattle.task_order.specs.declared.start.Start.{Start}
 use Rattle.kdg_prog.specs.declared.status.Status.{Status}
 use Rattle.kdg_prog.specs.declared.status.Status.TheVariants as status
-use Rattle.kdg_prog.specs.declared.words.Mode.TheVariants.{Serial, Rounds}
+use Rattle.kdg_prog.specs.declared.words.Mode.TheVariants.{Serial}
 use Rattle.kdg_prog.specs.declared.words.Options.{Options}
 use Rattle.kdg_prog.specs.Problem.{Problem, whole_print, start_for, print_of, print_of_finals, answer_by, answer_by_end, answer_read, end_of, is_in_rounds, rounds_of, rounds_text, rounds_told, FirstPassesRead, text_shown}
-use Rattle.kdg_prog.specs.Refusals.{AnswersSerial, IsRefusalBy, IsRunRefusal}
+use Rattle.kdg_prog.specs.Refusals.{AnswersRounds, AnswersSerial, IsRefusalBy, IsRunRefusal}
 
 -- cells of a run that has ended are home
 pub run_is_home : {V : Type 0} (act : Operator V) (budget : ℕ) (start : Execution V) (finals : Finals V) → HomesAreValues V → IsRun act budget start finals → AreAllHome finals.store
@@ -56,7 +59,7 @@ module _ {V : Type 0} (options : Options) (problem : Problem V) where
       is-bytes ∙ (λ i. text_shown options (run.text i) (problem.finals (cells i)) (run.count i) ++ rounds_text told) in
       (λ i. answer_by_end problem options (tells i) (run.ends i)) ∙ ap whole_print (sym printed)
 
-  -- where it isn't mode rounds, no rounds are told
+  -- where it isn't a mode of rounds, no rounds are told
   pub none_told : is_in_rounds options.mode ≡ false → rounds_told options problem ≡ None
   none_told elsewhere = ap (λ rounds. cond (options.stats && rounds) (Some (rounds_of options problem)) None) elsewhere ∙ neither options.stats
     where
@@ -64,10 +67,10 @@ module _ {V : Type 0} (options : Options) (problem : Problem V) where
       neither true = refl
       neither false = refl
 
-  -- in mode rounds their number is told, where figures are asked for
-  pub rounds_told_in_rounds : options.mode ≡ Rounds → (rounds : ℕ) → rounds_of options problem ≡ rounds → rounds_told options problem ≡ then_some options.stats rounds
+  -- in a mode of rounds their number is told, where figures are asked for
+  pub rounds_told_in_rounds : is_in_rounds options.mode ≡ true → (rounds : ℕ) → rounds_of options problem ≡ rounds → rounds_told options problem ≡ then_some options.stats rounds
   rounds_told_in_rounds in_rounds rounds counted =
-      (λ i. cond (options.stats && is_in_rounds (in_rounds i)) (Some (counted i)) None) ∙ asked options.stats
+      (λ i. cond (options.stats && in_rounds i) (Some (counted i)) None) ∙ asked options.stats
     where
       asked : (stats : Bool) → cond (stats && true) (Some rounds) None ≡ then_some stats rounds
       asked true = refl
@@ -84,6 +87,10 @@ module _ {V : Type 0} (options : Options) (problem : Problem V) where
         first = λ serial. absurd (not_serial serial);
       }))
 
+  refusal_at_start : options.mode ≢ Serial → (fault : OverCause) (answer : Status) → IsRunFault problem.app (start_state problem.cells problem.tasks) options.budget fault → AnswersRounds fault answer → IsRunRefusal options problem answer
+  refusal_at_start not_serial (cause.Budget created limit) answer over told = refusal_when_endless not_serial created limit over.too_long over.limit_is (omega (arith, over.above, over.limit_is)) answer told
+  refusal_at_start not_serial cause.NoRoom answer over told = inr (inr told)
+
   module _ (cells : List V) (tasks : List Start) (is-cells : cells ≡ problem.cells) (is-tasks : tasks ≡ problem.tasks) where
     -- the refusal of a serial run
     pub refusal_from_serial : (fault : SerialFault) (result : Result (List ℕ) Status) → IsFault problem.app.act options.budget (start_of cells tasks) fault → IsErrAnd result (AnswersSerial fault) → IfErr result (IsRunRefusal options problem)
@@ -91,6 +98,10 @@ module _ {V : Type 0} (options : Options) (problem : Problem V) where
         refused_with result (AnswersSerial fault) (IsRunRefusal options problem)
         (λ answer told. refusal_from_fault fault answer (rw (← is-cells, ← is-tasks) over) told)
         told
+
+    -- the refusal of a run in rounds over a list
+    pub refusal_from_list : options.mode ≢ Serial → (fault : OverCause) (answer : Status) → IsRunFault problem.app (start_state cells tasks) options.budget fault → AnswersRounds fault answer → IsRunRefusal options problem answer
+    refusal_from_list not_serial fault answer over told = refusal_at_start not_serial fault answer (rw (← is-cells, ← is-tasks) over) told
 
     -- the print of a serial run
     pub print_from_serial : (finals : Finals V) (bytes : List ℕ) → HomesAreValues V → rounds_told options problem ≡ None → IsRun problem.app.act options.budget (start_of cells tasks) finals → bytes ≡ print_of_finals problem options None finals → answer_by options problem ≡ whole_print bytes

@@ -12,7 +12,7 @@ use Rattle.app_laws.specs.Execution.{Execution, first_from, run_to_end, start_of
 use Rattle.app_laws.specs.Serial.{FirstPasses}
 use Rattle.commuting.specs.States.{State, state_of}
 use Rattle.kdg_prog.specs.declared.words.Mode.{Mode}
-use Rattle.kdg_prog.specs.declared.words.Mode.TheVariants.{Rounds}
+use Rattle.kdg_prog.specs.declared.words.Mode.TheVariants.{Rounds, Marks}
 use Rattle.kdg_prog.specs.declared.words.Options.{Options}
 use Rattle.kdg_prog.specs.RoundCount.{rounds_within}
 use Rattle.kdg_prog.specs.Words.{word_of}
@@ -80,6 +80,7 @@ text_shown options log finals count =
 
 abbrev pub is_in_rounds : Mode → Bool
 is_in_rounds Rounds = true
+is_in_rounds Marks = true
 is_in_rounds mode = false
 
 module _ {V : Type 0} (problem : Problem V) where
@@ -113,7 +114,7 @@ module _ {V : Type 0} (options : Options) (problem : Problem V) where
   abbrev pub rounds_of : ℕ
   rounds_of = rounds_within problem.app options.budget (first_state problem)
 
-  -- their number is told in mode rounds, where figures are asked for
+  -- their number is told in modes rounds and marks, where figures are asked for
   abbrev pub rounds_told : Option ℕ
   rounds_told = if options.stats && is_in_rounds options.mode then Some rounds_of else None
 

@@ -12,7 +12,7 @@ use Rattle.kdg_prog.specs.declared.words.Command.{Command}
 use Rattle.kdg_prog.specs.declared.words.Command.TheVariants.{Sim, Rank, Mesh, Levels}
 use Rattle.kdg_prog.specs.declared.words.Heading.{Heading}
 use Rattle.kdg_prog.specs.declared.words.Mode.{Mode}
-use Rattle.kdg_prog.specs.declared.words.Mode.TheVariants.{Serial, Rounds, Free}
+use Rattle.kdg_prog.specs.declared.words.Mode.TheVariants.{Serial, Rounds, Free, Marks}
 use Rattle.kdg_prog.specs.declared.words.OptionName.{OptionName}
 use Rattle.kdg_prog.specs.declared.words.OptionName.TheVariants as name
 use Rattle.kdg_prog.specs.declared.words.Options.{Options}
@@ -100,6 +100,7 @@ mode_value word =
     if bytes_eq word (codes "serial") then Some Serial
     else if bytes_eq word (codes "rounds") then Some Rounds
     else if bytes_eq word (codes "free") then Some Free
+    else if bytes_eq word (codes "marks") then Some Marks
     else None
 
 abbrev pub seed_value : Word → Option ℕ

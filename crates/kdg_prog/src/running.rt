@@ -14,6 +14,7 @@ use commuting::{round_laws, standing_laws};
 use free_pool::run_free;
 use graph_update::Engine;
 use kdg_text::{NoRoom, Text, push_u64};
+use mark_rounds::run_marks;
 use outer_edge::Gate;
 use output_log::join_laws;
 use source_pool::run_rounds;
@@ -22,7 +23,7 @@ use std::sync::Wait;
 use std::thread::Threads;
 use task_order::put_in_laws;
 
-/// Runs an application in mode serial or rounds, and gives the print, or why there is none.
+/// Runs an application in mode serial, rounds or marks, and gives the print, or why there is none.
 pub(crate) fn print_of_run<R: Threads + Sync, A: Runnable, G: Gate + Sync>(
     rt: &R,
     alloc: Global,
@@ -39,6 +40,7 @@ pub(crate) fn print_of_run<R: Threads + Sync, A: Runnable, G: Gate + Sync>(
     match options.mode {
         Mode::Serial => serial_print(alloc, options, app),
         Mode::Rounds => rounds_print(rt, alloc, options, app, gate),
+        Mode::Marks => marks_print(alloc, options, app, gate),
         Mode::Free => unreachable!(),
     }
 }
@@ -110,6 +112,30 @@ fn rounds_print<R: Threads + Sync, A: Runnable, G: Gate + Sync>(
     let engine = start_run(alloc, options, app)?;
     let (finals, rounds) = run_rounds(rt, alloc, engine, gate, options.seed, options.workers)?;
     let rounds = options.stats.then_some(rounds);
+    Ok(finals_print(alloc, options, app, finals, rounds)?)
+}
+
+/// The print of a run in rounds that are found by marks.
+fn marks_print<A: Runnable, G: Gate>(
+    alloc: Global,
+    options: &Options,
+    app: &A,
+    gate: &G,
+) -> Result<Text, Status>
+    requires allowed { IsAllowed options.now }
+    requires mode { options.now.mode ≡ Mode.Marks }
+    ensures print { IfOk result (λ bytes. answer_by options.now (problem_of (A.meaning app.now) (A.setting app.now)) ≡ whole_print bytes) }
+    ensures refusal { IfErr result (IsRunRefusal options.now (problem_of (A.meaning app.now) (A.setting app.now))) }
+{
+    value_laws::<A::Val>();
+    round_laws::<A>();
+    standing_laws::<A>();
+    round_count_laws::<A>();
+    let cells = app.start_cells()?;
+    let tasks = app.start_tasks()?;
+    let budget = options.budget;
+    let (finals, taken) = run_marks(alloc, app, cells, tasks, budget, gate, options.workers)?;
+    let rounds = options.stats.then_some(taken);
     Ok(finals_print(alloc, options, app, finals, rounds)?)
 }
 

@@ -24,7 +24,7 @@ use std::sync::Wait;
 use std::thread::Threads;
 use task_order::Task;
 
-/// The print for a graph in mode serial or rounds, or why there is none.
+/// The print for a graph in mode serial, rounds or marks, or why there is none.
 pub(crate) fn levels_print<R: Threads + Sync, G: Gate + Sync>(
     rt: &R,
     alloc: Global,

@@ -20,13 +20,13 @@ use std::thread::Threads;
 
 /// Reads the words and then the whole input, runs the circuit, the elimination, the mesh or the search
 /// that it describes, and writes the print: the log, the finals, the number of tasks, and, where figures
-/// are asked for in mode rounds, that of rounds. Where the words say so, the input is made from a
+/// are asked for in modes rounds and marks, that of rounds. Where the words say so, the input is made from a
 /// number in place of being read, and the print has but figures of the log and the finals.
 ///
 /// In mode serial always the earliest pending task runs. In mode rounds the gate chooses among the
 /// tasks that are clear, and workers perform them. In mode free each worker claims the next one as
-/// soon as it has performed and ended one, and may wait while none is clear. What is printed is the
-/// same.
+/// soon as it has performed and ended one, and may wait while none is clear. In mode marks the tasks of
+/// each round are found by marks on a board. What is printed is the same.
 ///
 /// What is wrong is told in this order: the words; a failed read, or more bytes than the bound,
 /// whichever comes first; the input; the budget; a failed write. `NoMemory` may come in place of
@@ -86,7 +86,9 @@ fn run_asked<R: Threads + Wait + Sync, S: Source, K: Sink, G: Gate + Sync>(
     ensures same_room { K.room sink.new ≡ K.room sink.old }
 {
     match options.mode {
-        Mode::Serial | Mode::Rounds => run_plain(rt, alloc, options, source, sink, gate),
+        Mode::Serial | Mode::Rounds | Mode::Marks => run_plain(
+            rt, alloc, options, source, sink, gate,
+        ),
         Mode::Free => match read_input(alloc, options.big, source) {
             Ok(input) => write_print(sink, free_print_of(rt, alloc, options, input, gate)),
             Err(fault) => Status::from(fault),
@@ -94,7 +96,7 @@ fn run_asked<R: Threads + Wait + Sync, S: Source, K: Sink, G: Gate + Sync>(
     }
 }
 
-/// Does what `run` does behind its words, in mode serial or rounds. It waits for nobody but the
+/// Does what `run` does behind its words, in mode serial, rounds or marks. It waits for nobody but the
 /// workers that it starts, which wait for nobody.
 pub fn run_plain<R: Threads + Sync, S: Source, K: Sink, G: Gate + Sync>(
     rt: &R,
@@ -153,7 +155,7 @@ pub fn run_in_memory<R: Threads + Sync, G: Gate + Sync>(
     run_plain(rt, alloc, options, source, sink, gate)
 }
 
-/// The print for an input in mode serial or rounds, or why there is none.
+/// The print for an input in mode serial, rounds or marks, or why there is none.
 fn print_of<R: Threads + Sync, G: Gate + Sync>(
     rt: &R,
     alloc: Global,

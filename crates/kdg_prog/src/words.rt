@@ -41,6 +41,8 @@ pub enum Mode {
     Rounds,
     /// By workers of which none waits for the others to end their tasks.
     Free,
+    /// In rounds whose tasks are found by marks on a board.
+    Marks,
 }
 
 /// What the words of a command line ask for.
@@ -76,7 +78,7 @@ pub struct Options {
 /// | option | value | default |
 /// |---|---|---|
 /// | `--workers` | 1 to 64 | 4 |
-/// | `--mode` | `serial`, `rounds` or `free` | `rounds` |
+/// | `--mode` | `serial`, `rounds`, `free` or `marks` | `rounds` |
 /// | `--seed` | 0 to 2^64 - 1 | 0 |
 /// | `--until`, only of `sim` | 0 to 1,000,000,000 | 1000 |
 /// | `--clock`, only of `sim` | 1 to 1,000,000,000 | 10 |
@@ -284,6 +286,7 @@ fn read_mode(word: &str) -> Option<Mode>
         "serial" => Some(Mode::Serial),
         "rounds" => Some(Mode::Rounds),
         "free" => Some(Mode::Free),
+        "marks" => Some(Mode::Marks),
         _ => None,
     }
 }

@@ -10,7 +10,7 @@ use std::sync::Wait;
 use std::thread::Threads;
 
 /// The ways to run.
-pub const MODES: [&str; 3] = ["serial", "rounds", "free"];
+pub const MODES: [&str; 4] = ["serial", "rounds", "free", "marks"];
 
 /// The words of a line.
 pub fn words_of(alloc: Global, line: &str) -> Result<Vec<String>, AllocError> {

@@ -2,8 +2,8 @@
 
 use crate::answering::{MODES, answer, answer_in, tells_more_than};
 use crate::decks::{
-    C17, C17_PRINT, C17_ROUNDS_PRINT, C17_SHORT_STIMULUS, C17_STIMULUS,
-    C17_STIMULUS_PRINT, C17_WITH_HEADER, FEEDBACK, RING,
+    C17, C17_PRINT, C17_ROUNDS_PRINT, C17_SHORT_STIMULUS, C17_STIMULUS, C17_STIMULUS_PRINT,
+    C17_WITH_HEADER, FEEDBACK, RING,
 };
 use crate::matrices::DIAGONAL;
 use crate::meshes::SPRING;
@@ -79,6 +79,11 @@ fn runs_are_in_rounds_unless_another_mode_is_named(rt: HostRuntime) -> Result<()
         ("sim --mode rounds --stats on", C17, C17_ROUNDS_PRINT),
         ("sim --mode serial --stats on", C17, C17_PRINT),
         ("sim --mode free --stats on", C17, C17_PRINT),
+        (
+            "sim --mode marks --stats on --workers 3",
+            C17,
+            C17_ROUNDS_PRINT,
+        ),
         ("sim --stats on", "", "tasks 0\nrounds 0\n"),
         (
             "sim --stats on",
@@ -149,9 +154,11 @@ fn more_tasks_than_the_budget_are_told(rt: HostRuntime) -> Result<(), Fail> {
         let (told, sink) = answer_in(&rt, rt.alloc(), "serial", words, input, 3)?;
         assert_eq!(rt; told, Status::Budget { created, limit }, "{words} {input}");
         assert_eq!(rt; sink.held(), b"".as_slice(), "{words} {input}");
-        let (told, sink) = answer_in(&rt, rt.alloc(), "rounds", words, input, 3)?;
-        assert!(rt; tells_more_than(&told, limit), "{words} {input}");
-        assert_eq!(rt; sink.held(), b"".as_slice(), "{words} {input}");
+        for mode in ["rounds", "marks"] {
+            let (told, sink) = answer_in(&rt, rt.alloc(), mode, words, input, 3)?;
+            assert!(rt; tells_more_than(&told, limit), "{words} {mode} {input}");
+            assert_eq!(rt; sink.held(), b"".as_slice(), "{words} {mode} {input}");
+        }
     }
     Ok(())
 }

@@ -59,7 +59,10 @@ fn a_failed_write_leaves_a_front_of_the_print(rt: HostRuntime) -> Result<(), Fai
             };
             assert_eq!(rt; status, want, "{mode} {failed}");
             assert_eq!(rt; sink.held().len() as u64, failed - 1, "{mode}");
-            assert!(rt; C17_PRINT.as_bytes().starts_with(sink.held()), "{mode} {failed}");
+            assert!(rt;
+                C17_PRINT.as_bytes().starts_with(sink.held()),
+                "{mode} {failed}"
+            );
         }
     }
     Ok(())

@@ -66,6 +66,13 @@ fn reads_words(rt: HostRuntime) -> Result<(), Fail> {
                 ..sim
             },
         ),
+        (
+            &["sim", "--mode", "marks"],
+            Options {
+                mode: Mode::Marks,
+                ..sim
+            },
+        ),
         (&["sim", "--workers", "64"], Options { workers: 64, ..sim }),
         (&["sim", "--workers", "007"], Options { workers: 7, ..sim }),
         (&["sim", "--mode", "serial"], serial),
