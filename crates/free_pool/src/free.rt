@@ -33,9 +33,9 @@ struct Place<'a, A: App> {
 /// each ends the task that it has performed and claims the next one, in one turn.
 ///
 /// The caller is worker 0; for each other worker a thread is started, and where one can't be, its work
-/// is done here. The gate chooses for each worker at each of its claims, counted from 0, and each task
-/// is performed once the gate lets its worker pass. It may wait. What was handed in is dropped after a
-/// fault.
+/// is done here. The gate chooses for each worker at each of its claims, counted from 0: a closed one
+/// among all clear tasks, an open one among those that are known, or all where none is. Each task is
+/// performed once the gate lets its worker pass. It may wait. What was handed in is dropped after a fault.
 pub fn run_free<'a, R: Threads + Wait + Sync, A: App + Sync, G: Gate + Sync>(
     rt: &R,
     alloc: Global,

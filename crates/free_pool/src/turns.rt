@@ -1,7 +1,8 @@
 //! What a worker does in a turn.
 
-ghost use Rattle.std.specs.Prelude.{◌≡◌, ◌≢◌, List, [], Some, None, IfSome, IsTrue, IsFalse};
-ghost use Rattle.graph_update.specs.Engine.{EngineState};
+ghost use Rattle.std.specs.Prelude.{◌≡◌, ◌≢◌, ℕ, List, [], Some, None, IfOk, IfSome, IsTrue, IsFalse, OnErr};
+ghost use Rattle.graph_update.specs.Engine.{EngineState, IsToRun};
+ghost use Rattle.run_laws.specs.Answers.{IsClaimAnswer};
 ghost use Rattle.run_laws.specs.Jobs.{Job};
 ghost use Rattle.run_laws.specs.Laws.{IsDone};
 ghost use Rattle.run_laws.specs.Moves.{Moved};
@@ -13,7 +14,7 @@ ghost use Rattle.free_pool.specs.Turns.{HasDone, IsNext, IsNextToRun, IsSeated, 
 use app_laws::App;
 use cell_store::Held;
 use graph_update::{Claim, Done, Engine, Job};
-use kdg_text::Steps;
+use kdg_text::{NoRoom, Steps};
 use output_log::join_laws;
 use run_laws::move_laws;
 use std::marker::Brand;
@@ -34,13 +35,33 @@ pub enum Next<V: Held> {
     Keep,
 }
 
+/// Which of the clear tasks a worker claims: in key order the one at the remainder of the gate's number.
+#[derive(Clone, Copy)]
+pub(crate) enum Pick {
+    /// Of all.
+    Exact(u64),
+    /// Of those that are known.
+    Known(u64),
+}
+
+impl Pick {
+    /// At an open gate nobody sees which task comes next, so those that are known will do.
+    pub(crate) fn at(is_open: bool, number: u64) -> Pick {
+        if is_open {
+            Pick::Known(number)
+        } else {
+            Pick::Exact(number)
+        }
+    }
+}
+
 /// Takes the turn, ends in it the task that was performed, if there is one, and claims another one.
 pub(crate) fn take_turn<'h, 'a, R: Wait, A: App, L: Ledger>(
     rt: &R,
     hall: &'h Hall<'a, A>,
     seat: Seat<'a, A>,
     done: Option<Done<A::Val>>,
-    pick: u64,
+    pick: Pick,
     steps: &mut Steps<L>,
 ) -> (Seat<'a, A>, Next<A::Val>)
     requires seated { IsSeated hall.now seat }
@@ -79,7 +100,7 @@ pub(crate) fn give_up<'h, 'a, R: Wait, A: App>(
 fn work_in_turn<A: App, L: Ledger>(
     engine: &mut Engine<'_, A>,
     done: Option<Done<A::Val>>,
-    pick: u64,
+    pick: Pick,
     steps: &mut Steps<L>,
 ) -> Next<A::Val>
     requires done { IfSome done (IsDone (A.meaning engine.old.app) engine.old.progress) }
@@ -123,7 +144,7 @@ fn end_task<A: App, L: Ledger>(
 }
 
 /// Claims a task. Where memory runs out, a mark stands afterwards.
-fn claim_next<A: App>(engine: &mut Engine<'_, A>, pick: u64) -> Next<A::Val>
+fn claim_next<A: App>(engine: &mut Engine<'_, A>, pick: Pick) -> Next<A::Val>
     ensures app { engine.new.app ≡ engine.old.app }
     ensures moved { Moved (A.meaning engine.old.app) engine.old.progress [] engine.new.progress (jobs_left [] result) [] }
     ensures drained { drained_count engine.new.progress ≡ drained_count engine.old.progress }
@@ -132,7 +153,7 @@ fn claim_next<A: App>(engine: &mut Engine<'_, A>, pick: u64) -> Next<A::Val>
     ensures ended { NotKept result }
 {
     move_laws::<A>();
-    match engine.claim(pick) {
+    match claim_by(engine, pick) {
         Ok(Claim::Job(job)) => Next::Perform(job),
         Ok(Claim::NotYet) => Next::Wait,
         Ok(Claim::Over(_) | Claim::Ended) => Next::Stop,
@@ -140,6 +161,19 @@ fn claim_next<A: App>(engine: &mut Engine<'_, A>, pick: u64) -> Next<A::Val>
             engine.give_up();
             Next::Stop
         }
+    }
+}
+
+/// Claims a task, with some pick.
+fn claim_by<A: App>(engine: &mut Engine<'_, A>, pick: Pick) -> Result<Claim<A::Val>, NoRoom>
+    ensures app { engine.new.app ≡ engine.old.app }
+    ensures answer { IfOk result (λ answer. (other : ℕ) × IsClaimAnswer (A.meaning engine.old.app) engine.old.progress other engine.new.progress answer) }
+    ensures may_run { IfOk result (IsToRun (A.meaning engine.old.app)) }
+    ensures unchanged { OnErr result (engine.new ≡ engine.old) }
+{
+    match pick {
+        Pick::Exact(number) => engine.claim(number),
+        Pick::Known(number) => engine.claim_known(number),
     }
 }
 

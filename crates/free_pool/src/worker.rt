@@ -5,7 +5,7 @@ ghost use Rattle.free_pool.specs.Team.{HasWorked, MayWork};
 ghost use Rattle.free_pool.specs.Turns.{IsSeated};
 
 use crate::bell::Bell;
-use crate::turns::{Next, give_up, take_turn};
+use crate::turns::{Next, Pick, give_up, take_turn};
 use app_laws::App;
 use graph_update::perform;
 use kdg_text::Steps;
@@ -75,11 +75,12 @@ fn work_counted<'h, 'a, R: Wait, A: App, G: Gate, L: Ledger>(
     } = post;
     let mut steps = Steps::<L>::new(blank);
     let mut done = None;
+    let is_open = gate.is_open();
     let mut claims = 0u64;
     for _ in rt.forever() {
         // Read before the claim: an end after it is heard.
         let rung = bell.rung();
-        let pick = gate.choose(seed, worker, claims);
+        let pick = Pick::at(is_open, gate.choose(seed, worker, claims));
         claims = claims.saturating_add(1);
         let ends = done.is_some();
         let (back, next) = take_turn(rt, hall, seat, done, pick, &mut steps);
