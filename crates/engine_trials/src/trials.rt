@@ -3,9 +3,7 @@
 ghost use Rattle.std.specs.Prelude.{[]};
 ghost use Rattle.engine_trials.specs.InHand.{AreInHand};
 
-use super::driving::{
-    Answer, answer_of, claim, finish_all, give_first_tasks, gives, perform_next,
-};
+use super::driving::{Answer, answer_of, claim, finish_all, give_first_tasks, gives, perform_next};
 use app_laws::App;
 use graph_update::{Counts, Engine, FinishFault};
 use kdg_text::NoRoom;
