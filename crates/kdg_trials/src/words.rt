@@ -34,7 +34,7 @@ fn reads_words(rt: HostRuntime) -> Result<(), Fail> {
         mode: Mode::Serial,
         ..sim
     };
-    let rows: [(&[&str], Options); 28] = [
+    let rows: [(&[&str], Options); 29] = [
         (&["sim"], sim),
         (
             &["mesh"],
