@@ -8,7 +8,11 @@ use crate::decks::{
 use crate::matrices::DIAGONAL;
 use crate::meshes::SPRING;
 use kdg_prog::{Status, fault_line};
+use std::alloc::Global;
+use std::process::Abort;
+use std::sync::Wait;
 use std::test::Fail;
+use std::thread::Threads;
 
 #[test]
 fn answers_and_prints(rt: HostRuntime) -> Result<(), Fail> {
@@ -60,12 +64,24 @@ fn answers_and_prints(rt: HostRuntime) -> Result<(), Fail> {
             "3 x 1\n8 x 0\nfinal x 0\ntasks 5\n",
         ),
     ] {
-        for mode in MODES {
-            for step in [1usize, 3, 4096] {
-                let (answered, sink) = answer_in(&rt, rt.alloc(), mode, words, input, step)?;
-                assert_eq!(rt; answered, Status::Ok, "{words} {mode} {input}");
-                assert_eq!(rt; sink.held(), print.as_bytes(), "{words} {mode} {input}");
-            }
+        expect_print(&rt, rt.alloc(), words, input, print)?;
+    }
+    Ok(())
+}
+
+/// Asks that an input is answered by this print in every mode, by small and large reads and writes.
+fn expect_print<R: Threads + Wait + Abort + Sync>(
+    rt: &R,
+    alloc: Global,
+    words: &str,
+    input: &str,
+    print: &str,
+) -> Result<(), Fail> {
+    for mode in MODES {
+        for step in [1usize, 3, 4096] {
+            let (answered, sink) = answer_in(rt, alloc, mode, words, input, step)?;
+            assert_eq!(rt; answered, Status::Ok, "{words} {mode} {input}");
+            assert_eq!(rt; sink.held(), print.as_bytes(), "{words} {mode} {input}");
         }
     }
     Ok(())
