@@ -1,6 +1,6 @@
 -- A claim takes a clear node.
-use Rattle.std.proofs.Common.{◌≡◌, ◌≢◌, ℕ, ◌+◌, cond, ◌||◌, Bool, true, false, List, [], ◌∷◌, Option, Some, length, is_some, refl, sym, ap, subst, ◌∙◌}
-use Rattle.std.specs.Prelude.{Contains, IsSome}
+use Rattle.std.proofs.Common.{◌≡◌, ◌≢◌, ℕ, ◌+◌, cond, ◌||◌, Bool, true, false, List, [], ◌∷◌, Option, Some, length, refl, sym, ap, subst, ◌∙◌}
+use Rattle.std.specs.Prelude.{◌↔◌, Contains, IsSome, IsTrue}
 use lib.ListN.{length-map}
 use Rattle.std.specs.List.{list_any}
 use Rattle.std.specs.Option.{option_map}
@@ -12,7 +12,7 @@ use Rattle.cell_store.specs.Cells.{AreHome, cells_taken, part_of}
 use Rattle.cell_store.specs.Part.{Part}
 use Rattle.kdg_graph.specs.declared.node_id.NodeId.{NodeId}
 use Rattle.kdg_graph.specs.Node.{Node}
-use Rattle.kdg_graph.specs.Nodes.{HasNode, is_at, least_of, node_at, set_at, started, task_at}
+use Rattle.kdg_graph.specs.Nodes.{HasNode, is_at, node_at, set_at, started, task_at}
 use Rattle.kdg_graph.specs.Rewrite.{without}
 use Rattle.app_laws.specs.Applications.{Application}
 use Rattle.graph_update.specs.Basis.{Basis}
@@ -38,9 +38,9 @@ any_one {X} p (x ∷ xs) some = by_test (p x) refl some (any_one p xs)
         let found = rest some in
         (found.0, from_there x found.0 xs found.1, found.2)
 
--- a graph that has a least node has nodes
-pub some_nodes : (nodes : List Node) (least : Option NodeId) → least ≡ least_of nodes → is_some least ≡ true → nodes ≢ []
-some_nodes nodes least is some empty = true≢false (sym some ∙ ap is_some (is ∙ ap least_of empty))
+-- a graph that isn't told to be empty has nodes
+pub some_nodes : (nodes : List Node) (empty : Bool) → (IsTrue empty ↔ (nodes ≡ [])) → empty ≡ false → nodes ≢ []
+some_nodes nodes empty tells is none = true≢false (sym (tells.1 none) ∙ is)
 
 module _ {V : Type 0} {app : Application V} (basis : Basis app) where
   module _ (old : Progress V) (jobs : List (Job V)) (values : List V) (sound : IsSound app old jobs values) (pick : ℕ) (id : NodeId) (picked : IsPicked app old.nodes pick id) where
@@ -116,7 +116,3 @@ module _ {V : Type 0} {app : Application V} (basis : Basis app) where
           let none = all_from (λ (n : Node). n.running ≡ false) progress.nodes (λ node there. none_passes (λ (n : Node). n.running) progress.nodes node is there) in
           let idle = (basis.no_jobs progress jobs values sound).1 none in
           absurd (basis.some_clear progress values (subst (λ left. IsSound app progress left values) idle sound) some none_clear)
-
-  -- the same of a graph that has a least node, where no node is clear
-  pub runs_where_none : (old : Progress V) (least : Option NodeId) → IsKept app old → least ≡ least_of old.nodes → is_some least ≡ true → clear_nodes app old.nodes ≡ [] → SomeRuns old.nodes
-  runs_where_none old least kept is some none_clear = some_runs old kept.jobs kept.values kept.sound (some_nodes old.nodes least is some) none_clear

@@ -63,7 +63,7 @@ impl<'a, A: App> Engine<'a, A> {
     {
         basis::<A>();
         self.settle();
-        if self.agenda.graph.least().is_none() {
+        if self.agenda.graph.is_empty() {
             return Ok(Upcoming::Ended);
         }
         self.agenda.ready.look(

@@ -64,11 +64,11 @@ impl<'a, A: App> Engine<'a, A> {
         ensures not_ended { OnErr result (self.old.progress.nodes ≢ []) }
     {
         basis::<A>();
-        self.settle();
+        self.settle_for(among);
         if let Some(cause) = self.tally.over {
             return Ok(Claim::Over(cause));
         }
-        if self.agenda.graph.least().is_none() {
+        if self.agenda.graph.is_empty() {
             return Ok(Claim::Ended);
         }
         self.agenda.ready.look(
@@ -85,5 +85,16 @@ impl<'a, A: App> Engine<'a, A> {
         self.agenda.graph.mark_running(node);
         self.agenda.ready.take(place);
         Ok(Claim::Job(Job { node, task, bundle }))
+    }
+
+    /// Puts the pending tasks in order where a claim among these looks at them, which changes nothing that
+    /// is seen.
+    #[inline(always)]
+    fn settle_for(&mut self, among: &Among)
+        ensures { self.new ≡ self.old }
+    {
+        if !self.agenda.ready.is_enough(among) {
+            self.settle();
+        }
     }
 }

@@ -98,7 +98,7 @@ impl Ready {
 
     /// Whether one may be picked without a look.
     #[inline(always)]
-    fn is_enough(&self, among: &Among) -> bool
+    pub(crate) fn is_enough(&self, among: &Among) -> bool
         ensures { IsTrue result → AreEnough among.now self.now }
     {
         match among {

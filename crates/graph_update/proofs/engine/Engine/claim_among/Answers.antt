@@ -4,7 +4,7 @@ use Rattle.crew.specs.Jobs.{MayRun}
 use Rattle.graph_update.specs.Engine.{SomeRuns, progress_of, EngineState}
 use Rattle.run_laws.specs.Events.{IsClaimed, clear_nodes}
 use Rattle.run_laws.specs.Sound.{IsSound}
-use Rattle.graph_update.proofs.ClearClaims.{claimed, clear_after, has_node, kept_after, may_run, picked_home, runs_where_none, some_nodes, sound_after}
+use Rattle.graph_update.proofs.ClearClaims.{claimed, clear_after, has_node, kept_after, may_run, picked_home, some_nodes, some_runs, sound_after}
 use Rattle.graph_update.proofs.FixedSets.{fixed_started}
 use Rattle.graph_update.proofs.ReadyIds.{chosen, left_are_ready, same_pick}
 use Rattle.graph_update.proofs.Sources.{kept_covered}
@@ -17,23 +17,23 @@ none_where_not (Some x) never = absurd (never x refl)
 
 pub returns-in-Some-clause-answer : goal.returns-in-Some-clause-answer
 returns-in-Some-clause-answer g c =
-    let same = c.self.view_is ∙ c.settle.ensures in
+    let same = c.self.view_is ∙ c.settle_for.ensures in
     let over = subst (λ (state : EngineState g.row.A.Denot g.row.A-Val.Denot). state.progress.over ≡ Some c.in-Some.cause) same c.in-Some.is in
-    (c.args.pick, same_pick c.args.among.now c.args.pick, (over, ap (λ (state : EngineState g.row.A.Denot g.row.A-Val.Denot). state.progress) c.settle.ensures))
+    (c.args.pick, same_pick c.args.among.now c.args.pick, (over, ap (λ (state : EngineState g.row.A.Denot g.row.A-Val.Denot). state.progress) c.settle_for.ensures))
 
-pub returns-then-is_none-clause-answer : goal.returns-then-is_none-clause-answer
-returns-then-is_none-clause-answer g c =
-    let same = c.self.view_is ∙ c.settle.ensures in
+pub returns-then-is_empty-clause-answer : goal.returns-then-is_empty-clause-answer
+returns-then-is_empty-clause-answer g c =
+    let same = c.self.view_is ∙ c.settle_for.ensures in
     let over = subst (λ (state : EngineState g.row.A.Denot g.row.A-Val.Denot). state.progress.over ≡ None) same (none_where_not c.self.inside.tally.over c.in_default.not-Some) in
     let ended : c.args.self.now.progress.nodes ≡ [] = search rules in
-    (c.args.pick, same_pick c.args.among.now c.args.pick, (over, ended, ap (λ (state : EngineState g.row.A.Denot g.row.A-Val.Denot). state.progress) c.settle.ensures))
+    (c.args.pick, same_pick c.args.among.now c.args.pick, (over, ended, ap (λ (state : EngineState g.row.A.Denot g.row.A-Val.Denot). state.progress) c.settle_for.ensures))
 
 pub returns-in_default-picked-clause-some_runs : goal.returns-in_default-picked-clause-some_runs
 returns-in_default-picked-clause-some_runs g c =
     let app = g.A.App.meaning c.self.inside.app.now in
     let none = chosen app c.self.inside.agenda.graph c.look.new.self c.args.among.now c.args.pick None c.in_ok-look.ensures.ready c.in_ok-look.ensures.enough c.in_default-picked.ensures.id in
-    subst (λ (state : EngineState g.row.A.Denot g.row.A-Val.Denot). SomeRuns state.progress.nodes) (c.self.view_is ∙ c.settle.ensures)
-    (runs_where_none (c.basis.ensures c.self.inside.app.now) _ c.least.result c.self.invariant.0 c.least.ensures.least c.if-is_none.ensures none.2)
+    subst (λ (state : EngineState g.row.A.Denot g.row.A-Val.Denot). SomeRuns state.progress.nodes) (c.self.view_is ∙ c.settle_for.ensures)
+    (some_runs (c.basis.ensures c.self.inside.app.now) _ c.self.invariant.0.jobs c.self.invariant.0.values c.self.invariant.0.sound (some_nodes c.self.inside.agenda.graph c.is_empty.result c.is_empty.ensures c.if-is_empty.false) none.2)
 
 pub returns-in_default-picked-clause-answer : goal.returns-in_default-picked-clause-answer
 returns-in_default-picked-clause-answer g c =
@@ -42,9 +42,9 @@ returns-in_default-picked-clause-answer g c =
     let none = chosen app c.self.inside.agenda.graph c.look.new.self c.args.among.now c.args.pick None c.in_ok-look.ensures.ready c.in_ok-look.ensures.enough c.in_default-picked.ensures.id in (
       none.0,
       none.1,
-      subst (λ (state : EngineState g.row.A.Denot g.row.A-Val.Denot). (state.progress.over ≡ None) × (state.progress.nodes ≢ []) × (clear_nodes (g.A.App.meaning state.app) state.progress.nodes ≡ []) × (inside ≡ state.progress)) (c.self.view_is ∙ c.settle.ensures) (
+      subst (λ (state : EngineState g.row.A.Denot g.row.A-Val.Denot). (state.progress.over ≡ None) × (state.progress.nodes ≢ []) × (clear_nodes (g.A.App.meaning state.app) state.progress.nodes ≡ []) × (inside ≡ state.progress)) (c.self.view_is ∙ c.settle_for.ensures) (
         none_where_not c.self.inside.tally.over c.in_default.not-Some,
-        some_nodes c.self.inside.agenda.graph c.least.result c.least.ensures.least c.if-is_none.ensures,
+        some_nodes c.self.inside.agenda.graph c.is_empty.result c.is_empty.ensures c.if-is_empty.false,
         none.2,
         refl,
       ),
@@ -92,7 +92,7 @@ returns-clause-answer g c =
       one.0,
       one.1,
       subst (λ (state : EngineState g.row.A.Denot g.row.A-Val.Denot). (state.progress.over ≡ None) × IsClaimed (g.A.App.meaning state.app) state.progress one.0
-          (progress_of c.take.new.self c.mark_running.new.self c.self.inside.tally) (record { node = c.in-Some-picked.node; task = c.in_ok-task.task; bundle = c.in_ok-bundle.bundle })) (c.self.view_is ∙ c.settle.ensures) (
+          (progress_of c.take.new.self c.mark_running.new.self c.self.inside.tally) (record { node = c.in-Some-picked.node; task = c.in_ok-task.task; bundle = c.in_ok-bundle.bundle })) (c.self.view_is ∙ c.settle_for.ensures) (
             none_where_not c.self.inside.tally.over c.in_default.not-Some,
             claimed (c.basis.ensures c.self.inside.app.now) _ c.self.invariant.0 one.0 c.in-Some-picked.node one.2
                 c.task.result.now c.in_ok-task.task c.set.result.now c.in_ok-bundle.bundle c.take.new.self c.mark_running.new.self
@@ -104,7 +104,7 @@ pub returns-clause-sound : goal.returns-clause-sound
 returns-clause-sound g c =
     let one = chosen (g.A.App.meaning c.self.inside.app.now) c.self.inside.agenda.graph c.look.new.self c.args.among.now c.args.pick (Some c.in-Some-picked.node) c.in_ok-look.ensures.ready c.in_ok-look.ensures.enough c.in-Some-picked.ensures.id in
     subst (λ (state : EngineState g.row.A.Denot g.row.A-Val.Denot). (jobs : List (Job g.row.A-Val.Denot)) (values : List g.row.A-Val.Denot) → IsSound (g.A.App.meaning state.app) state.progress jobs values
-    → IsSound (g.A.App.meaning state.app) (progress_of c.take.new.self c.mark_running.new.self c.self.inside.tally) ((record { node = c.in-Some-picked.node; task = c.in_ok-task.task; bundle = c.in_ok-bundle.bundle }) ∷ jobs) values) (c.self.view_is ∙ c.settle.ensures)
+    → IsSound (g.A.App.meaning state.app) (progress_of c.take.new.self c.mark_running.new.self c.self.inside.tally) ((record { node = c.in-Some-picked.node; task = c.in_ok-task.task; bundle = c.in_ok-bundle.bundle }) ∷ jobs) values) (c.self.view_is ∙ c.settle_for.ensures)
     (sound_after (c.basis.ensures c.self.inside.app.now) _ c.self.invariant.0 one.0 c.in-Some-picked.node one.2
     c.task.result.now c.in_ok-task.task c.set.result.now c.in_ok-bundle.bundle c.take.new.self c.mark_running.new.self
     c.task.ensures c.in_ok-task.ensures c.set.ensures c.in_ok-bundle.ensures.bundle c.in_ok-bundle.ensures.ok c.mark_running.ensures.marked)
@@ -112,7 +112,7 @@ returns-clause-sound g c =
 pub returns-clause-may_run : goal.returns-clause-may_run
 returns-clause-may_run g c =
     let one = chosen (g.A.App.meaning c.self.inside.app.now) c.self.inside.agenda.graph c.look.new.self c.args.among.now c.args.pick (Some c.in-Some-picked.node) c.in_ok-look.ensures.ready c.in_ok-look.ensures.enough c.in-Some-picked.ensures.id in
-    subst (λ (state : EngineState g.row.A.Denot g.row.A-Val.Denot). MayRun (g.A.App.meaning state.app) (record { node = c.in-Some-picked.node; task = c.in_ok-task.task; bundle = c.in_ok-bundle.bundle })) (c.self.view_is ∙ c.settle.ensures)
+    subst (λ (state : EngineState g.row.A.Denot g.row.A-Val.Denot). MayRun (g.A.App.meaning state.app) (record { node = c.in-Some-picked.node; task = c.in_ok-task.task; bundle = c.in_ok-bundle.bundle })) (c.self.view_is ∙ c.settle_for.ensures)
     (may_run (c.basis.ensures c.self.inside.app.now) _ c.self.invariant.0 one.0 c.in-Some-picked.node one.2
     c.task.result.now c.in_ok-task.task c.set.result.now c.in_ok-bundle.bundle c.take.new.self c.mark_running.new.self
     c.task.ensures c.in_ok-task.ensures c.set.ensures c.in_ok-bundle.ensures.bundle c.in_ok-bundle.ensures.ok c.mark_running.ensures.marked)

@@ -28,7 +28,7 @@ returns-clause-next g c =
           let clear = subst (λ (state : EngineState g.row.A.Denot g.row.A-Val.Denot). IsOfClear (g.A.App.meaning state.app) state.progress.nodes w.in-Some.node) same inside in
           subst (λ answer. IfOk answer (IsUpcoming (g.A.App.meaning now.app) now.progress)) (sym w.result-is) (c.requires.not_over, clear)
       | in-None w ↦
-          let some = subst (λ (state : EngineState g.row.A.Denot g.row.A-Val.Denot). state.progress.nodes ≢ []) same (some_nodes nodes c.least.result c.least.ensures.least c.if-is_none.ensures) in
+          let some = subst (λ (state : EngineState g.row.A.Denot g.row.A-Val.Denot). state.progress.nodes ≢ []) same (some_nodes nodes c.is_empty.result c.is_empty.ensures c.if-is_empty.false) in
           let inside = none_clear app nodes c.look.new.self ready c.in_ok-look.ensures.enough (sym w.in-None.is ∙ c.first.ensures) in
           let none = subst (λ (state : EngineState g.row.A.Denot g.row.A-Val.Denot). clear_nodes (g.A.App.meaning state.app) state.progress.nodes ≡ []) same inside in
           subst (λ answer. IfOk answer (IsUpcoming (g.A.App.meaning now.app) now.progress)) (sym w.result-is) (c.requires.not_over, some, none)
