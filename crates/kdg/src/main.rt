@@ -1,7 +1,7 @@
 //! `kdg WORDS < INPUT`: runs an ordered algorithm on its input and prints what it gives.
 #![tactic(auto)]
 
-use kdg_prog::{Status, fault_line, run};
+use kdg_prog::{Status, run_and_tell, tell};
 use outer_edge::{ReadEdge, Seeded, WriteEdge};
 use std::env::Env;
 use std::io::ErrorKind;
@@ -9,18 +9,21 @@ use std::process::ExitCode;
 use std::{env, io};
 
 fn main(rt: HostRuntime) -> ExitCode {
+    let mut errors = WriteEdge::new(rt.stderr());
     let status = match words_of(&rt) {
-        Ok(words) => run(
+        Ok(words) => run_and_tell(
             &rt,
-            rt.alloc(),
             &words,
             &mut ReadEdge::new(rt.stdin()),
             &mut WriteEdge::new(rt.stdout()),
+            &mut errors,
             &Seeded,
         ),
-        Err(status) => status,
+        Err(status) => {
+            tell(&status, &mut errors);
+            status
+        }
     };
-    tell(&rt, &status);
     ExitCode::from(status.code())
 }
 
@@ -38,14 +41,5 @@ fn refusal_of(error: &io::Error) -> Status {
     match error.kind() {
         ErrorKind::OutOfMemory => Status::NoMemory,
         _ => Status::Usage { word: 1 },
-    }
-}
-
-/// Puts the fault line on standard error. There is nobody left to tell where that fails.
-fn tell(rt: &impl Eprint, status: &Status) {
-    let mut line = [0; 64];
-    let len = fault_line(status, &mut line);
-    if let (1.., Ok(text)) = (len, str::from_utf8(&line[..len])) {
-        let _ = eprintln!(rt; "{text}");
     }
 }

@@ -6,6 +6,7 @@ pub mod FirstBad
 pub mod FirstTasks
 pub mod Given
 pub mod InMemory
+pub mod LineFeeds
 pub mod Promising
 pub mod Reading
 pub mod Refusing

@@ -9,4 +9,5 @@ pub mod RoundCount
 pub mod Searches
 pub mod Starts
 pub mod Status
+pub mod Telling
 pub mod Words

@@ -1,4 +1,4 @@
-ghost use Rattle.std.specs.Prelude.{◌≡◌, ◌+◌, ◌≤◌, ◌++◌, length, take, drop};
+ghost use Rattle.std.specs.Prelude.{◌≡◌, ◌+◌, ◌≤◌, ◌<◌, ◌++◌, length, take, drop};
 ghost use Rattle.std.specs.Fmt.{decimal};
 ghost use Rattle.kdg_prog.specs.Status.{exit_code, fault_text, status_of_fault};
 
@@ -62,7 +62,7 @@ impl Status {
 #[tactic(auto, using(crate::proofs::Digits::length_decimal))]
 pub fn fault_line(status: &Status, line: &mut [u8; 64]) -> usize
     ensures len { result ≡ length (fault_text status.now) }
-    ensures within { result ≤ 64 }
+    ensures within { result < 64 }
     ensures text { line.new ≡ fault_text status.now ++ drop result line.old }
 {
     match *status {

@@ -1,6 +1,7 @@
-use Rattle.std.proofs.Common.{◌++◌, List, ℕ, arith, length-append, codes}
+use Rattle.std.proofs.Common.{◌++◌, ◌≤◌, List, ℕ, arith, length, length-append, codes}
+use Rattle.std.proofs.lemmas.Fmt.{length-decimal-le}
 use Rattle.std.specs.Fmt.{decimal}
-use Rattle.kdg_prog.proofs.Digits.{put_more}
+use Rattle.kdg_prog.proofs.Digits.{length_decimal, put_more}
 use Rattle.kdg_prog.proofs.status.fault_line.Goals as goal
 
 pub returns-in-Budget-clause-text : goal.returns-in-Budget-clause-text
@@ -28,3 +29,8 @@ returns-in-BadInput-clause-text c =
     let with_fault = put_more base (named ++ number) kinded second.new.line third.new.line second.result third.result (omega (arith, length-append named number)) with_number third.ensures.end third.ensures.text in
     let whole = put_more base (named ++ number ++ kinded) (decimal c.into-in-BadInput.result) third.new.line last.new.line third.result last.result (omega (arith, length-append named number, length-append (named ++ number) kinded)) with_fault last.ensures.end last.ensures.text in
     rw (c.in-BadInput.is, ← c.into-in-BadInput.ensures) whole
+
+pub returns-in-BadInput-clause-within : goal.returns-in-BadInput-clause-within
+returns-in-BadInput-clause-within c =
+    let few : length (decimal c.into-in-BadInput.result) ≤ 3 = length-decimal-le 3 c.into-in-BadInput.result (omega arith) (omega (arith, c.into-in-BadInput.ensures)) (omega (arith, c.into-in-BadInput.ensures)) in
+    omega (arith, few, length_decimal c.in-BadInput.number (omega arith), c.put_number-in-BadInput.ensures.end, c.put-end-in-BadInput-2.ensures.end, c.put_number-end.ensures.end, c.put-end-in-BadInput.ensures.end)
