@@ -25,6 +25,8 @@ mod recorded_sets;
 #[cfg(test)]
 mod rounds;
 #[cfg(test)]
+mod tight;
+#[cfg(test)]
 mod trails;
 #[cfg(test)]
 mod trials;

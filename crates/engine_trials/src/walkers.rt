@@ -19,8 +19,8 @@ use task_order::{Body, StartList, Task};
 /// Three places, from each of which an arrow leads to one of them. A walker adds its number to the cell
 /// of its place and goes on along the arrow, five steps in all.
 #[derive(Drop)]
-struct Arrows {
-    to: Vec<u32>,
+pub struct Arrows {
+    pub to: Vec<u32>,
 }
 
 impl Deed for Arrows {
@@ -66,13 +66,15 @@ fn runs_by<R: Threads + Sync, H: Hook<u64> + Sync>(
     runs_of(rt, alloc, &app, &[0, 0, 0], first.items(), 100)
 }
 
-fn sets(alloc: Global) -> Result<Vec<RwSet>, NoRoom>
+/// The set of each place.
+pub fn sets(alloc: Global) -> Result<Vec<RwSet>, NoRoom>
     ensures { IfOk result (λ sets. sets.items ≡ place_sets) }
 {
     Ok(vec![in alloc; own_set(alloc, 0)?, own_set(alloc, 1)?, own_set(alloc, 2)?]?)
 }
 
-fn first_tasks(alloc: Global) -> Result<StartList, NoRoom>
+/// A walker on each place.
+pub fn first_tasks(alloc: Global) -> Result<StartList, NoRoom>
     ensures { IfOk result (λ first. first ≡ first_walkers) }
 {
     let mut first = StartList::new(alloc);
@@ -84,7 +86,7 @@ fn first_tasks(alloc: Global) -> Result<StartList, NoRoom>
 
 impl Arrows {
     /// Does what a walker does.
-    fn walk(
+    pub fn walk(
         &self,
         alloc: Global,
         task: &Task,
