@@ -1,5 +1,7 @@
+pub mod Beside
 pub mod Course
 pub mod Family
 pub mod Lists
+pub mod Names
 pub mod Steps
 pub mod Touched

@@ -1,6 +1,6 @@
 -- Lemmas on lists of tasks and of entries.
-use Rattle.std.proofs.Common.{◌≡◌, ◌≢◌, ◌⊎◌, inl, inr, ℕ, zero, suc, ◌<◌, Option, Some, None, Bool, true, false, not, cond, nat_eq, eq-eqb, List, [], ◌∷◌, ◌++◌, length, append_assoc, refl, sym, ap, subst, ◌∙◌, arith}
-use Rattle.std.specs.Prelude.{Contains, IsSome}
+use Rattle.std.proofs.Common.{◌≡◌, ◌≢◌, ◌⊎◌, inl, inr, ℕ, zero, suc, ◌<◌, Option, Some, None, Bool, true, false, not, cond, nat_eq, eq-eqb, List, [], ◌∷◌, ◌++◌, length, append-nil, append_assoc, refl, sym, ap, subst, ◌∙◌, arith}
+use Rattle.std.specs.Prelude.{Contains, IfNone, IsSome}
 use Rattle.std.specs.List.{AllByRecursion, filter}
 use Rattle.std.specs.Ordering.{is_lt}
 use Rattle.std.specs.List.Sorted.{IsStrictlySortedBy}
@@ -163,3 +163,11 @@ pub nothing_left : {X : Type 0} (taken : Option X) (xs : List X) → (0 < length
 nothing_left taken [] gives never = refl
 nothing_left None (x ∷ xs) gives never = absurd (true≢false (sym (gives (omega arith))))
 nothing_left (Some y) (x ∷ xs) gives never = absurd (never y refl)
+
+pub where_none_taken : {X : Type 0} (taken : Option X) (P : Type 0) → ((x : X) → taken ≡ Some x → ⊥) → IfNone taken P → P
+where_none_taken None P never here = here
+where_none_taken (Some x) P never here = absurd (never x refl)
+
+-- where none is left, all were taken
+pub all_taken : {X : Type 0} (taken left whole : List X) → left ≡ [] → taken ++ left ≡ whole → taken ≡ whole
+all_taken taken left whole none parts = sym (append-nil taken) ∙ ap (λ xs. taken ++ xs) (sym none) ∙ parts

@@ -1,16 +1,15 @@
 -- The steps of a round, from its beginning to the next one.
-use Rattle.std.proofs.Common.{◌≡◌, ◌≢◌, ℕ, suc, ◌+◌, ◌<◌, ◌≤◌, List, [], ◌∷◌, ◌++◌, length, refl, sym, ap, ◌∙◌, subst, arith}
-use Rattle.std.specs.Prelude.{Contains}
+use Rattle.std.proofs.Common.{◌≡◌, ◌≢◌, ℕ, suc, ◌+◌, ◌<◌, ◌≤◌, List, [], ◌∷◌, length, refl, sym, ap, ◌∙◌, subst, arith}
 use Rattle.task_order.specs.declared.task.Task.{Task}
 use Rattle.app_laws.specs.Applications.{Application}
-use Rattle.commuting.specs.Clear.{IsClear, IsReady}
+use Rattle.commuting.specs.Clear.{IsReady}
 use Rattle.commuting.specs.Commuting.{AreClear}
 use Rattle.commuting.specs.Rounds.{TakesRounds, after_round, clear_tasks}
-use Rattle.commuting.specs.States.{State, after_task, after_tasks, state_of}
+use Rattle.commuting.specs.States.{State, after_tasks, state_of}
 use Rattle.list_rounds.specs.declared.parts.RunParts.{RunParts}
 use Rattle.list_rounds.specs.Acting.{HasActed}
 use Rattle.list_rounds.specs.Basis.{Basis}
-use Rattle.list_rounds.specs.Course.{HasCome, IsActing, IsDrained, IsOnCourse, state_in}
+use Rattle.list_rounds.specs.Course.{HasCome, IsActing, IsDrained, state_in}
 use Rattle.list_rounds.specs.Rounds.{IsKept}
 use Rattle.list_rounds.proofs.Course.{acts_keep_course, drains_keep_course, same_state, state_after}
 

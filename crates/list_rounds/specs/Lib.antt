@@ -1,4 +1,5 @@
 pub mod Acting
 pub mod Basis
 pub mod Course
+pub mod Renaming
 pub mod Rounds

@@ -5,6 +5,7 @@
 mod acting;
 mod laws;
 mod parts;
+mod renaming;
 mod rounds;
 
 pub use crew::OverCause as RunFault;

@@ -6,12 +6,14 @@ ghost use Rattle.app_laws.specs.Applications.{AreFitStarts};
 ghost use Rattle.app_laws.specs.Serial.{IsRun};
 ghost use Rattle.commuting.specs.Rounds.{TakesRounds, clear_tasks};
 ghost use Rattle.commuting.specs.States.{execution_from};
+ghost use Rattle.list_rounds.specs.Renaming.{IsSameRun};
 ghost use Rattle.list_rounds.specs.Rounds.{IsKept, IsNext, IsRunFault, begun, most_tasks, start_state};
 
 use crate::RunFault;
 use crate::acting::{act_one, within};
 use crate::laws::basis;
 use crate::parts::{RunParts, drain};
+use crate::renaming::{needs_new_paths, renumbered};
 use app_laws::{App, Finals, first_tasks, store_of};
 use cell_store::Store;
 use kdg_text::{NoRoom, Steps, Text};
@@ -36,6 +38,8 @@ pub struct ListRounds<'a, A: App> {
     parts: RunParts<A::Val>,
     rounds: u64,
     limit: u64,
+    /// How many tasks had ended when the pending ones last got new paths.
+    renamed_at: u64,
     /// The cells and the first tasks that it began with, for clauses alone.
     first_cells: Snapshot<Vec<A::Val>>,
     first: Snapshot<StartList>,
@@ -95,6 +99,7 @@ impl<'a, A: App> ListRounds<'a, A> {
             parts,
             rounds: 0,
             limit: budget,
+            renamed_at: 0,
             first_cells,
             first: begun,
         })
@@ -164,6 +169,7 @@ impl<'a, A: App> ListRounds<'a, A> {
             mut parts,
             rounds,
             limit,
+            renamed_at,
             first_cells,
             first,
         } = self;
@@ -179,6 +185,53 @@ impl<'a, A: App> ListRounds<'a, A> {
             parts,
             rounds: rounds + 1,
             limit,
+            renamed_at,
+            first_cells,
+            first,
+        })
+    }
+
+    /// The same run, whose pending tasks have short paths now where that pays: they are numbered in the
+    /// order of their paths, as first tasks are. So they keep their order, and what is left comes to the
+    /// same. It is done only where nobody sees a path: the application ignores them, and the gate is open.
+    /// What was handed in is dropped where memory runs out.
+    pub fn with_short_paths<G: Gate>(
+        self,
+        alloc: Global,
+        gate: &G,
+    ) -> Result<ListRounds<'a, A>, NoRoom>
+        ensures same { IfOk result (IsSameRun A.meaning self.entry) }
+        ensures told { (horizon : A.Horizon) → A.tells self.entry.app horizon self.entry.state.pending → IfOk result (λ next. A.tells self.entry.app horizon next.state.pending) }
+    {
+        basis::<A>();
+        let ListRounds {
+            app,
+            parts,
+            rounds,
+            limit,
+            renamed_at,
+            first_cells,
+            first,
+        } = self;
+        if !needs_new_paths(app, gate, &parts, renamed_at) {
+            return Ok(ListRounds {
+                app,
+                parts,
+                rounds,
+                limit,
+                renamed_at,
+                first_cells,
+                first,
+            });
+        }
+        let renamed_at = parts.ended;
+        let parts = renumbered(alloc, parts)?;
+        Ok(ListRounds {
+            app,
+            parts,
+            rounds,
+            limit,
+            renamed_at,
             first_cells,
             first,
         })
@@ -197,6 +250,7 @@ impl<'a, A: App> ListRounds<'a, A> {
             parts,
             rounds: _,
             limit: _,
+            renamed_at: _,
             first_cells: _,
             first: _,
         } = self;

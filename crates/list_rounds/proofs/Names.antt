@@ -1,0 +1,181 @@
+-- A run goes on where its pending tasks get other paths.
+use Rattle.std.proofs.Common.{◌≡◌, ◌≢◌, false, ℕ, suc, ◌+◌, List, [], ◌∷◌, ◌++◌, length, map, Some, refl, sym, ap, ◌∙◌, subst, arith, append-nil, append_assoc}
+use Rattle.std.specs.Prelude.{Contains, IfSome}
+use Rattle.std.specs.List.{AllByRecursion, flat_map}
+use Rattle.std.specs.declared.cmp.Ordering.TheVariants.{Less}
+use Rattle.std.proofs.lemmas.List.{length-map}
+use Rattle.std.proofs.lemmas.List.Elements.{All-from_recursion, recursion_from_All}
+use Rattle.std.proofs.lemmas.List.Folds.{flat_map-map}
+use Rattle.std.proofs.lemmas.List.Sorted.{All-permutation}
+use Rattle.task_order.specs.declared.start.Start.{Start}
+use Rattle.task_order.specs.declared.task.Task.{Task}
+use Rattle.task_order.specs.Key.{end, key_cmp}
+use Rattle.task_order.specs.TaskList.{put_all}
+use Rattle.cell_store.specs.Values.{homes, values_of}
+use Rattle.output_log.specs.Entries.{Entry, IsInKeyOrder, IsNewEntry, ShareNoKey, joined_by_key, joined_texts, with_entry, with_texts}
+use Rattle.app_laws.specs.Applications.{Application, AreFitStarts, AreFitTasks, IgnoresNames, IsFitTask, PathsAreIgnored}
+use Rattle.app_laws.specs.Execution.{Execution, first_from}
+use Rattle.app_laws.specs.Names.{AreListed, start_of_task}
+use Rattle.app_laws.specs.Order.{is_prefix}
+use Rattle.app_laws.specs.RenamingLaws.{as_many_listed}
+use Rattle.app_laws.specs.Renumbering.{AreRenumbered}
+use Rattle.commuting.specs.Clear.{IsReady}
+use Rattle.commuting.specs.Commuting.{BothEnd}
+use Rattle.commuting.specs.Renaming.{ComesToSame, HasSameTexts}
+use Rattle.commuting.specs.Standing.{IsLaterLog, IsRestOf, StandsFor}
+use Rattle.commuting.specs.States.{State, run_from, state_of}
+use Rattle.list_rounds.specs.declared.parts.RunParts.{RunParts}
+use Rattle.list_rounds.specs.Basis.{Basis}
+use Rattle.list_rounds.specs.Course.{GoesOnFrom, HasCome, IsEndBehind, IsOnCourse, state_in}
+use Rattle.list_rounds.specs.Renaming.{IsRenumbered}
+use Rattle.list_rounds.proofs.Beside.{both_through}
+use Rattle.list_rounds.proofs.Course.{length-first}
+use Rattle.list_rounds.proofs.Lists.{all_at, back-append, none_before, order_of_back, put_behind}
+
+-- ---- texts where later entries come behind, among some without a text
+
+behind : {X : Type 0} (x y : X) (xs : List X) → Contains xs y → Contains (x ∷ xs) y
+behind x y xs (k, inside, is) = (suc k, omega (arith, inside), is)
+
+all_from : {X : Type 0} (P : X → Type 0) (xs : List X) → ((x : X) → Contains xs x → P x) → AllByRecursion P xs
+all_from P [] each = tt
+all_from P (x ∷ xs) each = (each x (0, omega arith, refl), all_from P xs (λ y has. each y (behind x y xs has)))
+
+share_turned : (entries others : List Entry) → ShareNoKey entries others → ShareNoKey others entries
+share_turned entries others new =
+    all_from (λ (entry : Entry). IsNewEntry entry.0 others) entries
+    (λ entry has. all_from (λ (other : Entry). other.0 ≢ entry.0) others
+    (λ other among same. all_at (λ (first : Entry). first.0 ≢ other.0) entries entry (all_at (λ (last : Entry). IsNewEntry last.0 entries) others other new among) has (sym same)))
+
+joined_behind : (front back others : List Entry) → AllByRecursion (λ other. AllByRecursion (λ entry. key_cmp entry.0 other.0 ≡ Less) front) others
+    → joined_by_key (front ++ back) others ≡ front ++ joined_by_key back others
+joined_behind front back [] later = refl
+joined_behind front back (other ∷ others) later =
+    ap (with_entry other.0 other.1) (joined_behind front back others later.1) ∙ put_behind other.0 other.1 front (joined_by_key back others) later.0
+
+same_texts : (log other : List Entry) → map (λ (entry : Entry). entry.1) log ≡ map (λ (entry : Entry). entry.1) other → joined_texts log ≡ joined_texts other
+same_texts log other same =
+    sym (flat_map-map (λ text. text) (λ (entry : Entry). entry.1) log) ∙ ap (flat_map (λ text. text)) same ∙ flat_map-map (λ text. text) (λ (entry : Entry). entry.1) other
+
+module _ {V : Type 0} {app : Application V} (basis : Basis app) where
+  texts_behind : (drained silent rest : List Entry) → IsInKeyOrder (drained ++ silent) → with_texts silent ≡ [] → IsLaterLog drained rest → ShareNoKey (drained ++ silent) rest → ShareNoKey silent rest
+      → joined_texts (joined_by_key rest (drained ++ silent)) ≡ joined_texts drained ++ joined_texts rest
+  texts_behind drained silent rest ordered none logs new unheard =
+      let turned = share_turned silent rest unheard in
+      let back = order_of_back drained silent ordered in
+      ap joined_texts (sym (basis.joins_commute (drained ++ silent) rest ordered logs.ordered new) ∙ joined_behind drained silent rest logs.later)
+      ∙ basis.texts_follow drained (joined_by_key silent rest)
+      ∙ ap (λ texts. joined_texts drained ++ texts) (ap joined_texts (basis.joins_commute silent rest back logs.ordered unheard) ∙ basis.silent_joins rest silent logs.ordered back turned none)
+
+  -- ---- the tasks that are listed
+
+  starts_fit : (tasks : List Task) → AreFitTasks app tasks → AreFitStarts app (map start_of_task tasks)
+  starts_fit [] fit = tt
+  starts_fit (task ∷ tasks) fit = (fit.0, starts_fit tasks fit.1)
+
+  listed_fit : (pending : List Task) (first : List Start) → AreListed pending first → AreFitTasks app pending → AreFitStarts app first
+  listed_fit pending first listed fit =
+      let all = All-permutation (IsFitTask app) pending listed.tasks listed.same (All-from_recursion (IsFitTask app) pending fit) in
+      subst (AreFitStarts app) (sym listed.starts) (starts_fit listed.tasks (recursion_from_All (IsFitTask app) listed.tasks all))
+
+  -- ---- the run from the new tasks
+
+  module _ {start : State V} {old : RunParts V} (course : IsOnCourse app start old) (now : RunParts V) (ignored : PathsAreIgnored app) (silent : with_texts old.log.entries ≡ []) (names : IsRenumbered old now) where
+    abbrev entries : List Entry
+    entries = course.drained ++ old.log.entries
+
+    next_is : state_of (values_of old.store) (put_all (first_from 0 names.first) []) ≡ state_in now
+    next_is = ap (λ store. state_of (values_of store) (put_all (first_from 0 names.first) [])) (sym names.store) ∙ ap (state_of (values_of now.store)) (sym names.pending)
+
+    comes : ComesToSame app (state_in old) (state_in now)
+    comes = subst (ComesToSame app (state_in old)) next_is (basis.come_to_same ignored (state_in old) course.stands.ready names.first names.listed)
+
+    next_ready : IsReady app (state_in now)
+    next_ready =
+        let ready = course.stands.ready in
+        subst (IsReady app) next_is (basis.starts_ready (values_of old.store) names.first ready.cells (listed_fit old.pending names.first names.listed ready.tasks))
+
+    -- from the start to the state in which the tasks got other paths
+    behind_here : (limit : ℕ) (e middle last : Execution V) → run_from app.act limit end (state_in old) ≡ Some last → IsEndBehind course.ended_before course.text_before e middle
+        → IsRestOf end entries middle last → IsEndBehind old.ended old.text e last
+    behind_here limit e middle last is before rest =
+        let stands = course.stands in
+        let later : IsLaterLog course.drained last.log = subst (λ run. IfSome run (λ f. IsLaterLog course.drained f.log)) is (basis.log_later (state_in old) course.drained stands.ready course.earlier limit end) in
+        let new : ShareNoKey entries last.log = subst (λ run. IfSome run (λ f. ShareNoKey entries f.log)) is (basis.log_new_keys (state_in old) entries stands.ready stands.unlogged limit end) in
+        let unlogged = silent_unlogged old.pending stands.unlogged in
+        let unheard : ShareNoKey old.log.entries last.log = subst (λ run. IfSome run (λ f. ShareNoKey old.log.entries f.log)) is (basis.log_new_keys (state_in old) old.log.entries stands.ready unlogged limit end) in
+        record {
+          cells_are = before.cells_are ∙ rest.cells-are refl;
+          text_is =
+              before.text_is
+              ∙ ap (λ text. course.text_before ++ text) (ap joined_texts rest.log-is ∙ texts_behind course.drained old.log.entries last.log stands.ordered silent later new unheard)
+              ∙ sym (append_assoc course.text_before (joined_texts course.drained) (joined_texts last.log)) ∙ ap (λ text. text ++ joined_texts last.log) (sym course.text_is);
+          count_is = omega (arith, before.count_is, ap length rest.log-is, basis.joins_add_lengths last.log entries, course.ended_is);
+        }
+      where
+        silent_unlogged : (tasks : List Task) → AllByRecursion (λ (task : Task). AllByRecursion (λ (entry : Entry). is_prefix task.key.path entry.0.path ≡ false) entries) tasks
+            → AllByRecursion (λ (task : Task). AllByRecursion (λ (entry : Entry). is_prefix task.key.path entry.0.path ≡ false) old.log.entries) tasks
+        silent_unlogged [] all = tt
+        silent_unlogged (task ∷ tasks) all = (back-append (λ (entry : Entry). is_prefix task.key.path entry.0.path ≡ false) course.drained old.log.entries all.0, silent_unlogged tasks all.1)
+
+    to_here : (limit : ℕ) → BothEnd (IsEndBehind old.ended old.text) (run_from app.act (old.ended + limit) end start) (run_from app.act limit end (state_in old))
+    to_here limit =
+        let all : course.ended_before + (length entries + limit) ≡ old.ended + limit = omega (arith, course.ended_is) in
+        let rest = subst (λ (done : List Entry). BothEnd (IsRestOf end done) (run_from app.act (length done + limit) end course.origin) (run_from app.act limit end (state_in old)))
+        (basis.before_end entries) (course.stands.same_rest end limit) in
+        subst (λ n. BothEnd (IsEndBehind old.ended old.text) (run_from app.act n end start) (run_from app.act limit end (state_in old))) all
+        (both_through (IsEndBehind course.ended_before course.text_before) (IsRestOf end entries) (IsEndBehind old.ended old.text)
+        (run_from app.act (course.ended_before + (length entries + limit)) end start) (run_from app.act (length entries + limit) end course.origin) (run_from app.act limit end (state_in old))
+        (course.from_origin (length entries + limit)) rest (behind_here limit))
+
+    -- and on under these
+    goes_on : GoesOnFrom app start old.ended old.text (state_in now)
+    goes_on limit =
+        let text_of = λ (entry : Entry). entry.1 in
+        both_through (IsEndBehind old.ended old.text) HasSameTexts (IsEndBehind old.ended old.text) (run_from app.act (old.ended + limit) end start)
+        (run_from app.act limit end (state_in old)) (run_from app.act limit end (state_in now)) (to_here limit) (comes.ends limit)
+        (λ e middle last is before same. record {
+          cells_are = before.cells_are ∙ same.cells_are;
+          text_is = before.text_is ∙ ap (λ text. old.text ++ text) (same_texts middle.log last.log same.texts_are);
+          count_is = omega (arith, before.count_is, length-map middle.log text_of, length-map last.log text_of, ap length same.texts_are);
+        })
+
+    pub names_keep_course : IsOnCourse app start now
+    names_keep_course = record {
+      origin = state_in now;
+      ended_before = old.ended;
+      text_before = old.text;
+      from_origin = goes_on;
+      drained = [];
+      home = names.store ∙ course.home ∙ ap (λ store. homes (values_of store)) (sym names.store);
+      stands = subst (λ (log : List Entry). StandsFor app (state_in now) log (state_in now)) (sym names.log) (basis.starts (state_in now) next_ready);
+      earlier = none_before now.pending;
+      text_is = names.text ∙ sym (append-nil old.text);
+      ended_is = omega (arith, names.ended, ap length names.log);
+    }
+
+    as_many : length now.pending ≡ length old.pending
+    as_many =
+        let adds = basis.put_all_adds (first_from 0 names.first) [] in
+        omega (arith, ap length names.pending, adds, length-first 0 names.first, as_many_listed old.pending names.first names.listed)
+
+    pub names_keep_come : (limit rounds : ℕ) → HasCome app start limit rounds old → HasCome app start limit rounds now
+    names_keep_come limit rounds come = record {
+      course = names_keep_course;
+      goes_on = λ more takes. come.goes_on more (comes.rounds more takes);
+      some_each = let each = come.some_each in omega (arith, each, names.ended);
+      within = let bound = come.within in omega (arith, bound, names.ended, as_many);
+      limited = come.limited;
+    }
+
+    pub tasks_renumbered : AreRenumbered old.pending now.pending
+    tasks_renumbered =
+        let ready = course.stands.ready in
+        record { first = names.first; named = basis.named old.pending names.first ready.ascending ready.apart names.listed; are = names.pending }
+
+    -- what is known of the tasks is known of them under other paths
+    pub told_of_names : (IsSo : List Task → Type 0) → IgnoresNames IsSo → IsSo old.pending → IsSo now.pending
+    unfolding tasks_renumbered
+    told_of_names IsSo ignores so =
+        let named = tasks_renumbered.named in
+        subst IsSo (named.are_first ∙ sym names.pending) (ignores old.pending named.name named.has_name named.naming named.have_names so)
