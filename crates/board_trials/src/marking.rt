@@ -153,6 +153,28 @@ pub(crate) fn is_plain_search(least: &Least, sets: &[RwSet]) -> bool
     true
 }
 
+/// On how many new boards four threads find what a plain search finds, of this many boards with sets that
+/// look random.
+pub(crate) fn plain_searches<R: Threads + Sync>(
+    rt: &R,
+    alloc: Global,
+    boards: u32,
+) -> Result<u32, NoRoom>
+    ensures { IfOk result (λ alike. alike ≤ boards) }
+{
+    let mut words = Words { state: 54 };
+    let mut alike = 0;
+    for _ in 0..boards {
+        let cells = 1 + words.below(8);
+        let count = words.below(24);
+        let sets = words.sets(alloc, count, cells)?;
+        if is_plain_search(&marked_by_four(rt, alloc, &sets, cells)?, &sets) {
+            alike += 1;
+        }
+    }
+    Ok(alike)
+}
+
 /// Two markers mark the sets in turn, and are joined.
 pub(crate) fn marked_by_two(alloc: Global, sets: &[RwSet], cells: u32) -> Result<Least, NoRoom>
     requires sets { CanMark sets.now cells }

@@ -1,7 +1,4 @@
-use crate::marking::{
-    Words, free_in_next_round, free_ranks, is_plain_search, marked_by_four, marked_by_two,
-    single_sets,
-};
+use crate::marking::{free_in_next_round, free_ranks, marked_by_two, plain_searches, single_sets};
 use rw_sets::Access::{Read, Write};
 use std::test::Fail;
 
@@ -39,13 +36,6 @@ fn a_renewed_board_forgets_the_marks_before(rt: HostRuntime) -> Result<(), Fail>
 
 #[test]
 fn four_threads_mark_as_a_plain_search_finds(rt: HostRuntime) -> Result<(), Fail> {
-    let mut words = Words { state: 54 };
-    for cells in 1..9 {
-        for count in [0, 1, 5, 40] {
-            let sets = words.sets(rt.alloc(), count, cells)?;
-            let least = marked_by_four(&rt, rt.alloc(), &sets, cells)?;
-            assert!(rt; is_plain_search(&least, &sets), "{cells} {count}");
-        }
-    }
+    assert_eq!(rt; plain_searches(&rt, rt.alloc(), 10_000)?, 10_000);
     Ok(())
 }
