@@ -4,4 +4,5 @@ pub mod Clear
 pub mod Found
 pub mod Places
 pub mod Safe
+pub mod Sources
 pub mod Tested

@@ -3,3 +3,4 @@ pub mod Board
 pub mod Marked
 pub mod Pending
 pub mod Runs
+pub mod Sources

@@ -2,9 +2,11 @@
 
 ghost use Rattle.mark_rounds.specs.Basis.{Basis};
 ghost use Rattle.mark_rounds.specs.Marked.{FreeAndSafeIsClear};
+ghost use Rattle.mark_rounds.specs.Sources.{FreeNodesAreSources};
 
 use app_laws::{App, lawful};
 use cell_store::value_laws;
+use kdg_graph::laws::{node_laws, source_laws};
 use mark_board::free_laws;
 use rw_sets::conflict_laws;
 use task_order::earlier_laws;
@@ -17,6 +19,17 @@ pub fn marked_laws<A: App>()
     lawful::<A>();
     earlier_laws();
     conflict_laws();
+    free_laws();
+}
+
+/// Where each node of a graph has marked its set with its place in the order, and none is running, the
+/// free places are those of the graph's sources.
+pub fn marked_source_laws()
+    ensures { FreeNodesAreSources }
+{
+    earlier_laws();
+    node_laws();
+    source_laws();
     free_laws();
 }
 

@@ -7,6 +7,6 @@ mod marking;
 mod pending;
 mod running;
 
-pub use laws::marked_laws;
+pub use laws::{marked_laws, marked_source_laws};
 pub use list_rounds::RunFault;
 pub use running::run_marks;

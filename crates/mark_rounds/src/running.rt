@@ -82,6 +82,7 @@ fn counted_marks<'a, A: App, G: Gate, L: Ledger>(
             &mut steps,
         )?;
         run = run.act_round(&mut clear, gate, workers, &mut horizon, &mut steps)?;
+        run = run.with_short_paths(alloc, gate)?;
         let (next, fresh) = next_board(alloc, count, board, marker)?;
         board = next;
         marker = fresh;
