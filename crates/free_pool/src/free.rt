@@ -16,7 +16,7 @@ use kdg_text::NoRoom;
 use outer_edge::Gate;
 use output_log::join_laws;
 use run_laws::course_run_laws;
-use source_pool::RunFault;
+use source_pool::{RunFault, run_rounds};
 use std::alloc::Global;
 use std::sync::Wait;
 use std::thread::Threads;
@@ -36,6 +36,9 @@ struct Place<'a, A: App> {
 /// is done here. The gate chooses for each worker at each of its claims, counted from 0: a closed one
 /// among all clear tasks, an open one among those that are known, or all where none is. Each task is
 /// performed once the gate lets its worker pass. It may wait. What was handed in is dropped after a fault.
+///
+/// At an open gate, where nobody sees when a task is performed, a single worker shares the execution with
+/// nobody, and runs it in rounds.
 pub fn run_free<'a, R: Threads + Wait + Sync, A: App + Sync, G: Gate + Sync>(
     rt: &R,
     alloc: Global,
@@ -51,6 +54,9 @@ pub fn run_free<'a, R: Threads + Wait + Sync, A: App + Sync, G: Gate + Sync>(
     ensures fit { IfOk result (λ finals. (A.meaning engine.entry.app).is_fit_cells (values_of finals.store)) }
     ensures fault { IfErr result (IsRunFault (A.meaning engine.entry.app) engine.entry.progress) }
 {
+    if workers == 1 && gate.is_open() {
+        return run_alone(rt, alloc, engine, gate, seed);
+    }
     // Its contract tells what every engine keeps: the log has no more entries than tasks have ended.
     let _graph = engine.graph();
     let app = engine.app();
@@ -74,6 +80,24 @@ pub fn run_free<'a, R: Threads + Wait + Sync, A: App + Sync, G: Gate + Sync>(
             Err(RunFault::NoRoom)
         }
     }
+}
+
+/// Runs an execution to its end in rounds on this thread.
+fn run_alone<'a, R: Threads + Sync, A: App + Sync, G: Gate + Sync>(
+    rt: &R,
+    alloc: Global,
+    engine: Engine<'a, A>,
+    gate: &G,
+    seed: u64,
+) -> Result<Finals<A::Val>, RunFault>
+    requires at_rest { NoneRuns engine.progress.nodes }
+    requires not_over { engine.progress.over ≡ None }
+    ensures end { IfOk result (IsRunEnd (A.meaning engine.entry.app) engine.entry.progress) }
+    ensures fit { IfOk result (λ finals. (A.meaning engine.entry.app).is_fit_cells (values_of finals.store)) }
+    ensures fault { IfErr result (IsRunFault (A.meaning engine.entry.app) engine.entry.progress) }
+{
+    let (finals, _) = run_rounds(rt, alloc, engine, gate, seed, 1)?;
+    Ok(finals)
 }
 
 /// What a run comes to whose workers have stopped.
