@@ -1,0 +1,168 @@
+//! Two threads that meet at a hall.
+
+ghost use Rattle.std.specs.Prelude.{◌≡◌, [], None, Some};
+ghost use Rattle.run_laws.specs.Rest.{NoneRuns};
+ghost use Rattle.graph_update.specs.Engine.{EngineState};
+ghost use Rattle.worker_gate.specs.Steps.{left_by};
+ghost use Rattle.hall_trials.specs.Seated.{HasWorked, IsSeated, IsSplit};
+
+use crate::worker::Post;
+use app_laws::App;
+use graph_update::{Engine, engine_sends};
+use kdg_text::NoRoom;
+use std::alloc::Global;
+use std::marker::Brand;
+use std::thread::{self, Threads};
+use worker_gate::{EntryOf, Hall, Seat, Turn, leaving_laws};
+
+/// Seat 0 takes the turn. While it has it, seat 1 tries in a second thread, and once it has left, seat 1
+/// tries again. The engine comes back with the holders that the three tries met.
+pub fn meet<'a, R: Threads + Sync, A: App + Sync>(
+    rt: &R,
+    alloc: Global,
+    engine: Engine<'a, A>,
+) -> Result<(Engine<'a, A>, [Option<u32>; 3]), NoRoom>
+    requires idle { NoneRuns engine.progress.nodes }
+    requires unmarked { engine.progress.over ≡ None }
+{
+    let app = engine.app();
+    let Ok((hall, seat)) = Hall::<A>::begin(alloc, engine) else {
+        return Err(NoRoom);
+    };
+    let (seat, holders) = meet_at(rt, app, &hall, seat);
+    Ok((hall.close(seat), holders))
+}
+
+/// They meet at a hall, of which this is the first seat.
+fn meet_at<'h, 'a, R: Threads + Sync, A: App + Sync>(
+    rt: &R,
+    app: &'a A,
+    hall: &'h Hall<'a, A>,
+    seat: Seat<'a, A>,
+) -> (Seat<'a, A>, [Option<u32>; 3])
+    requires first { IsSplit hall.now 0 [] seat }
+    requires whole { seat.view.splits ≡ 0 }
+    ensures { IsSplit hall.now 0 [] result.0 }
+{
+    let mut seat = seat;
+    let second = hall.split(&mut seat);
+    let (mut first, second, holders) = try_by_turns(rt, app, hall, seat, second);
+    hall.join(&mut first, second);
+    (first, holders)
+}
+
+fn try_by_turns<'h, 'a, R: Threads + Sync, A: App + Sync>(
+    rt: &R,
+    app: &'a A,
+    hall: &'h Hall<'a, A>,
+    first: Seat<'a, A>,
+    second: Seat<'a, A>,
+) -> (Seat<'a, A>, Seat<'a, A>, [Option<u32>; 3])
+    requires first { IsSeated hall.now first }
+    requires second { IsSeated hall.now second }
+    ensures first { HasWorked hall.now first.entry result.0 }
+    ensures second { HasWorked hall.now second.entry result.1 }
+{
+    match hall.try_enter(first) {
+        EntryOf::Turn(turn) => {
+            let (second, beside) = try_elsewhere(rt, app, hall, second);
+            let first = leave_as_found(turn);
+            let (second, after) = try_here(hall, second);
+            (first, second, [None, beside, after])
+        }
+        EntryOf::Busy { seat, holder } => (seat, second, [Some(holder), None, None]),
+    }
+}
+
+/// Tries in a second thread.
+fn try_elsewhere<'h, 'a, R: Threads + Sync, A: App + Sync>(
+    rt: &R,
+    app: &'a A,
+    hall: &'h Hall<'a, A>,
+    seat: Seat<'a, A>,
+) -> (Seat<'a, A>, Option<u32>)
+    requires { IsSeated hall.now seat }
+    ensures { HasWorked hall.now seat.entry result.0 }
+{
+    let post = try_there(
+        rt,
+        Post {
+            app,
+            hall,
+            seat,
+            refusals: 0,
+            holder: 0,
+        },
+    );
+    let holder = if post.refusals > 0 {
+        Some(post.holder)
+    } else {
+        None
+    };
+    (post.seat, holder)
+}
+
+fn try_there<'h, 'a, R: Threads + Sync, A: App + Sync>(
+    rt: &R,
+    post: Post<'h, 'a, A>,
+) -> Post<'h, 'a, A>
+    requires { IsSeated post.hall.now post.seat }
+    ensures { HasWorked post.entry.hall.now post.entry.seat result.seat }
+{
+    engine_sends::<A>();
+    let (tried, ()) = thread::join(
+        rt,
+        move || -> Post<A>
+            requires { IsSeated post.hall.now post.seat }
+            ensures { HasWorked post.entry.hall.now post.entry.seat result.seat }
+        { try_at(post) },
+        || (),
+    );
+    tried
+}
+
+fn try_at<'h, 'a, A: App>(post: Post<'h, 'a, A>) -> Post<'h, 'a, A>
+    requires { IsSeated post.hall.now post.seat }
+    ensures { HasWorked post.entry.hall.now post.entry.seat result.seat }
+{
+    let Post {
+        app,
+        hall,
+        seat,
+        refusals,
+        holder,
+    } = post;
+    let (seat, met) = try_here(hall, seat);
+    let (refusals, holder) = match met {
+        Some(holder) => (1, holder),
+        None => (refusals, holder),
+    };
+    Post {
+        app,
+        hall,
+        seat,
+        refusals,
+        holder,
+    }
+}
+
+/// Tries once to take the turn, and leaves it again. The answer is who had it, where it was refused.
+fn try_here<'h, 'a, A: App>(hall: &'h Hall<'a, A>, seat: Seat<'a, A>) -> (Seat<'a, A>, Option<u32>)
+    requires { IsSeated hall.now seat }
+    ensures { HasWorked hall.now seat.entry result.0 }
+{
+    match hall.try_enter(seat) {
+        EntryOf::Turn(turn) => (leave_as_found(turn), None),
+        EntryOf::Busy { seat, holder } => (seat, Some(holder)),
+    }
+}
+
+/// Leaves a turn in which nothing was done.
+fn leave_as_found<'h, 'a, A: App>(turn: Turn<'h, 'a, A>) -> Seat<'a, A>
+    requires { turn.view.found ≡ Some turn.engine }
+    ensures hall { result.hall ≡ turn.entry.hall }
+    ensures view { (found : EngineState A A.Val) → turn.entry.view.found ≡ Some found → result.view ≡ left_by turn.entry.view.jobs [] turn.entry.view found turn.entry.engine }
+{
+    leaving_laws::<A>();
+    turn.leave::<Brand>()
+}
