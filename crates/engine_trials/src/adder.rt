@@ -13,6 +13,7 @@ use hook_app::{Deed, Hook, HookApp};
 use kdg_text::{NoRoom, Text, push_u64};
 use rw_sets::{Access, RwSet};
 use std::alloc::Global;
+use std::sync::Wait;
 use std::thread::Threads;
 use task_order::{Body, Start, StartList, Task};
 
@@ -30,7 +31,7 @@ impl Deed for Adder {
 }
 
 /// What the adder's runs come to under a lookahead and a budget.
-pub fn adder_runs<R: Threads + Sync>(
+pub fn adder_runs<R: Threads + Wait + Sync>(
     rt: &R,
     alloc: Global,
     ahead: u64,
@@ -47,7 +48,7 @@ pub fn adder_runs<R: Threads + Sync>(
 }
 
 /// What the runs come to by an operator that keeps the adder's deed.
-fn runs_by<R: Threads + Sync, H: Hook<u64> + Sync>(
+fn runs_by<R: Threads + Wait + Sync, H: Hook<u64> + Sync>(
     rt: &R,
     alloc: Global,
     ahead: u64,

@@ -5,27 +5,28 @@ ghost use Rattle.app_laws.specs.Applications.{AreFitStarts};
 
 use super::adder::adder_runs;
 use super::outcomes::Outcome;
-use super::rounds::{outcomes_of, rounds_outcome};
+use super::rounds::{free_outcomes_of, outcomes_of, rounds_outcome};
 use super::walkers::walker_runs;
 use app_laws::App;
 use cell_store::Seen;
 use graph_update::OverCause;
 use outer_edge::Seeded;
 use std::alloc::Global;
+use std::sync::Wait;
 use std::test::Fail;
 use std::thread::Threads;
 use task_order::Start;
 
-/// What runs come to, in turn, in rounds at an open gate and in rounds at one that isn't, and how many
-/// rounds there are.
+/// What runs come to: in turn; in rounds at an open gate and at one that isn't; and without rounds at
+/// these two gates. And how many rounds there are.
 #[derive(Drop)]
 pub struct Runs {
-    pub outcomes: [Outcome<u64>; 3],
+    pub outcomes: [Outcome<u64>; 5],
     pub rounds: u64,
 }
 
 /// The runs from these cells and first tasks.
-pub fn runs_of<R: Threads + Sync, A: App<Val = u64> + Sync>(
+pub fn runs_of<R: Threads + Wait + Sync, A: App<Val = u64> + Sync>(
     rt: &R,
     alloc: Global,
     app: &A,
@@ -39,8 +40,12 @@ pub fn runs_of<R: Threads + Sync, A: App<Val = u64> + Sync>(
     requires budget { budget ≤ 1_000_000_000 }
 {
     let (_, rounds) = rounds_outcome(rt, alloc, &Seeded, app, cells, first, budget)?;
-    let outcomes = outcomes_of(rt, alloc, app, cells, first, budget)?;
-    Ok(Runs { outcomes, rounds })
+    let [in_turn, open, watched] = outcomes_of(rt, alloc, app, cells, first, budget)?;
+    let [free, watched_free] = free_outcomes_of(rt, alloc, app, cells, first, budget)?;
+    Ok(Runs {
+        outcomes: [in_turn, open, watched, free, watched_free],
+        rounds,
+    })
 }
 
 /// Whether three cells are home and have these values.

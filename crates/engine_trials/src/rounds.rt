@@ -1,4 +1,4 @@
-//! Rounds over an engine.
+//! Rounds over an engine, and workers without rounds.
 
 ghost use Rattle.std.specs.Prelude.{◌≡◌, ◌≤◌, ◌<◌, ◌^◌, length};
 ghost use Rattle.app_laws.specs.Applications.{AreFitStarts};
@@ -7,12 +7,14 @@ use super::circuits::circuit_of;
 use super::decks::C17;
 use super::outcomes::{Outcome, cause_of, copies_of, list_of, outcome_of, serial_outcome};
 use app_laws::App;
+use free_pool::run_free;
 use graph_update::{Engine, OverCause};
 use kdg_text::Text;
 use logic_sim::Circuit;
 use outer_edge::{Gate, Seeded};
 use source_pool::run_rounds;
 use std::alloc::Global;
+use std::sync::Wait;
 use std::test::Fail;
 use std::thread::Threads;
 use task_order::{Key, Start};
@@ -51,6 +53,51 @@ pub fn rounds_outcome<R: Threads + Sync, A: App + Sync, G: Gate + Sync>(
     };
     let (finals, rounds) = run_rounds(rt, alloc, engine, gate, 1, 3)?;
     Ok((outcome_of(finals, Text::new(alloc))?, rounds))
+}
+
+/// What a run without rounds comes to by these workers at a gate, from these cells and first tasks.
+pub fn free_outcome<R: Threads + Wait + Sync, A: App + Sync, G: Gate + Sync>(
+    rt: &R,
+    alloc: Global,
+    gate: &G,
+    workers: u32,
+    app: &A,
+    cells: &[A::Val],
+    first: &[Start],
+    budget: u64,
+) -> Result<Outcome<A::Val>, OverCause>
+    requires workers { (1 ≤ workers) × (workers ≤ 64) }
+    requires fit_cells { (A.meaning app.now).is_fit_cells cells.now }
+    requires fit_first { AreFitStarts (A.meaning app.now) first.now }
+    requires few { length first.now < 2 ^ 32 }
+    requires budget { budget ≤ 1_000_000_000 }
+{
+    let (cells, first) = (copies_of(alloc, cells)?, list_of(alloc, first)?);
+    let engine = match Engine::begin_uncounted(alloc, app, cells, first, budget) {
+        Ok(engine) => engine,
+        Err(fault) => return Err(cause_of(fault)),
+    };
+    let finals = run_free(rt, alloc, engine, gate, 1, workers)?;
+    Ok(outcome_of(finals, Text::new(alloc))?)
+}
+
+/// What a run without rounds comes to by three workers at a gate that is open and at one that isn't.
+pub fn free_outcomes_of<R: Threads + Wait + Sync, A: App + Sync>(
+    rt: &R,
+    alloc: Global,
+    app: &A,
+    cells: &[A::Val],
+    first: &[Start],
+    budget: u64,
+) -> Result<[Outcome<A::Val>; 2], OverCause>
+    requires fit_cells { (A.meaning app.now).is_fit_cells cells.now }
+    requires fit_first { AreFitStarts (A.meaning app.now) first.now }
+    requires few { length first.now < 2 ^ 32 }
+    requires budget { budget ≤ 1_000_000_000 }
+{
+    let open = free_outcome(rt, alloc, &Seeded, 3, app, cells, first, budget)?;
+    let watched = free_outcome(rt, alloc, &Watched, 3, app, cells, first, budget)?;
+    Ok([open, watched])
 }
 
 /// What the serial run comes to, and rounds at a gate that is open and at one that isn't.

@@ -22,18 +22,18 @@ use std::test::Fail;
 use std::thread::Threads;
 use task_order::{Start, Task};
 
-/// Whether each executor is without memory where the second of three tasks, each on a cell of its own,
-/// hands its bundle back.
+/// Whether each executor is without memory where the second of three walkers along these arrows, each at
+/// first on a place of its own, hands its bundle back.
 fn all_are_tight<R: Threads + Wait + Sync>(
     rt: &R,
     alloc: Global,
     workers: u32,
+    to: Vec<u32>,
 ) -> Result<bool, NoRoom>
     requires workers { (1 ≤ workers) × (workers ≤ 64) }
+    requires arrows { AreArrows to.items }
 {
-    let arrows = Arrows {
-        to: vec![in alloc; 0, 1, 2]?,
-    };
+    let arrows = Arrows { to };
     let graph = &arrows;
     let walk = |task: &Task, bundle: Bundle<u64>| -> Result<Effect<u64>, Bundle<u64>>
         requires arrows { AreArrows graph.now.to.items }
@@ -97,8 +97,10 @@ fn are_tight<R: Threads + Wait + Sync, A: App<Val = u64> + Sync>(
 
 #[test]
 fn no_memory_in_the_middle_ends_each_run(rt: HostRuntime) -> Result<(), Fail> {
+    let alloc = rt.alloc();
     for workers in 1..=3 {
-        assert!(rt; all_are_tight(&rt, rt.alloc(), workers)?);
+        let own_places = vec![in alloc; 0, 1, 2]?;
+        assert!(rt; all_are_tight(&rt, alloc, workers, own_places)?);
     }
     Ok(())
 }

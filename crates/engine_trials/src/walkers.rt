@@ -13,6 +13,7 @@ use hook_app::{Deed, Hook, HookApp};
 use kdg_text::{NoRoom, Text};
 use rw_sets::RwSet;
 use std::alloc::Global;
+use std::sync::Wait;
 use std::thread::Threads;
 use task_order::{Body, StartList, Task};
 
@@ -32,7 +33,7 @@ impl Deed for Arrows {
 }
 
 /// What the runs of three walkers come to, one on each place, whose arrows lead to these.
-pub fn walker_runs<R: Threads + Sync>(
+pub fn walker_runs<R: Threads + Wait + Sync>(
     rt: &R,
     alloc: Global,
     to: Vec<u32>,
@@ -52,7 +53,7 @@ pub fn walker_runs<R: Threads + Sync>(
 }
 
 /// What the runs come to by an operator that keeps the deed of these arrows.
-fn runs_by<R: Threads + Sync, H: Hook<u64> + Sync>(
+fn runs_by<R: Threads + Wait + Sync, H: Hook<u64> + Sync>(
     rt: &R,
     alloc: Global,
     arrows: &Arrows,
