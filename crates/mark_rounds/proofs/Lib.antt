@@ -1,7 +1,9 @@
 pub mod AllMarked
 pub mod Chosen
 pub mod Clear
+pub mod FirstWriting
 pub mod Found
+pub mod Noted
 pub mod Places
 pub mod Safe
 pub mod Sources

@@ -1,15 +1,15 @@
 -- Lists that a loop goes over by a place, and what stands there.
-use Rattle.std.proofs.Common.{◌≡◌, ℕ, zero, suc, ◌+◌, ◌<◌, Bool, true, false, cond, List, [], ◌∷◌, ◌++◌, length, map, drop, get_or, Some, refl, sym, ap, subst, ◌∙◌, append_assoc, add-one, drop-cons, arith}
+use Rattle.std.proofs.Common.{◌≡◌, ℕ, zero, suc, ◌+◌, ◌<◌, List, [], ◌∷◌, ◌++◌, length, map, drop, get_or, Some, refl, sym, ap, subst, ◌∙◌, append_assoc, add-one, drop-cons, arith}
 use Rattle.std.specs.Prelude.{slice_get}
 use Rattle.std.specs.Borrow.{Bor}
 use Rattle.std.specs.List.{AllByRecursion}
 use Rattle.task_order.specs.declared.task.Task.{Task}
-use Rattle.rw_sets.specs.Accesses.{Accesses, writes}
+use Rattle.rw_sets.specs.Accesses.{Accesses}
 use Rattle.mark_board.specs.declared.view.Mark.{Mark}
 use Rattle.mark_board.specs.Markers.{marks_of}
 use Rattle.mark_board.specs.Ranks.{marks_from}
 use Rattle.app_laws.specs.Applications.{Application, set_in}
-use Rattle.mark_rounds.specs.Pending.{sets_in, tasks_in, writers_among}
+use Rattle.mark_rounds.specs.Pending.{sets_in, tasks_in}
 
 pub left_one : {X : Type 0} (xs : List X) (i : ℕ) (x : X) → i < length xs → x ≡ get_or xs i x → drop i xs ≡ x ∷ drop (suc i) xs
 left_one xs i x within here = drop-cons xs i x within ∙ ap (λ first. first ∷ drop (suc i) xs) (sym here)
@@ -66,19 +66,3 @@ as_many_tasks (task ∷ tasks) = ap suc (as_many_tasks tasks)
 pub as_many_sets : {V : Type 0} (app : Application V) (cells : List V) (tasks : List (Bor Task)) → length (sets_in app cells tasks) ≡ length tasks
 as_many_sets app cells [] = refl
 as_many_sets app cells (task ∷ tasks) = ap suc (as_many_sets app cells tasks)
-
--- whose sets write, from a place on
-module _ (tasks : List (Bor Task)) (sets : List Accesses) (loc i : ℕ) (task : Bor Task) (set : Accesses) (within : i < length tasks) (here : task ≡ get_or tasks i task) (among : i < length sets) (there : set ≡ get_or sets i set) where
-  pub writers_from : (b : Bool) → writes set loc ≡ b
-      → writers_among (tasks_in (drop i tasks)) (drop i sets) loc ≡ cond b (task.now ∷ writers_among (tasks_in (drop (suc i) tasks)) (drop (suc i) sets) loc) (writers_among (tasks_in (drop (suc i) tasks)) (drop (suc i) sets) loc)
-  writers_from b is =
-      let rest = writers_among (tasks_in (drop (suc i) tasks)) (drop (suc i) sets) loc in
-      ap (λ (left : List (Bor Task)). writers_among (tasks_in left) (drop i sets) loc) (left_one tasks i task within here)
-      ∙ ap (λ (left : List Accesses). writers_among (tasks_in (task ∷ drop (suc i) tasks)) left loc) (left_one sets i set among there)
-      ∙ ap (λ (b : Bool). cond b (task.now ∷ rest) rest) is
-
-  pub none_written : (whole : List Task) → writers_among (tasks_in (drop i tasks)) (drop i sets) loc ≡ whole → writes set loc ≡ false → writers_among (tasks_in (drop (i + 1) tasks)) (drop (i + 1) sets) loc ≡ whole
-  none_written whole so_far is = rw add-one (sym (writers_from false is) ∙ so_far)
-
-  pub first_written : (whole : List Task) → writers_among (tasks_in (drop i tasks)) (drop i sets) loc ≡ whole → writes set loc ≡ true → Some task.now ≡ slice_get whole 0
-  first_written whole so_far is = ap (λ (all : List Task). slice_get all 0) (sym (writers_from true is) ∙ so_far)

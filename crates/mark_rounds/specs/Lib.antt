@@ -4,3 +4,4 @@ pub mod Marked
 pub mod Pending
 pub mod Runs
 pub mod Sources
+pub mod Writers

@@ -6,6 +6,7 @@ mod laws;
 mod marking;
 mod pending;
 mod running;
+mod writers;
 
 pub use laws::{marked_laws, marked_source_laws};
 pub use list_rounds::RunFault;

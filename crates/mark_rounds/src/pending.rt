@@ -7,6 +7,7 @@ ghost use Rattle.task_order.specs.TaskList.{IsAscending};
 ghost use Rattle.rw_sets.specs.Accesses.{writes};
 ghost use Rattle.cell_store.specs.Values.{values_of};
 ghost use Rattle.mark_rounds.specs.Pending.{tasks_in, writers_among};
+ghost use Rattle.mark_rounds.specs.Writers.{HaveFirstWriters};
 
 use cell_store::{Held, Store};
 use rw_sets::RwSet;
@@ -19,6 +20,8 @@ use task_order::{PendingTasks, Task};
 pub(crate) struct MarkedTasks<'t, 'p, V: Held> {
     tasks: &'p [&'t Task],
     sets: &'p [RwSet],
+    /// At each location that one of the sets writes, the place of the first that does.
+    writers: &'p [u32],
     /// The cells in which the sets were asked for, for clauses alone.
     store: Snapshot<Store<V>>,
 }
@@ -28,12 +31,13 @@ impl<'t, 'p, V: Held> Model for MarkedTasks<'t, 'p, V> {
     ghost use Rattle.task_order.specs.TaskList.{IsAscending};
     ghost use Rattle.cell_store.specs.Values.{values_of};
     ghost use Rattle.mark_rounds.specs.Pending.{MarkedState, tasks_in};
+    ghost use Rattle.mark_rounds.specs.Writers.{HaveFirstWriters};
 
     ghost Value = { MarkedState V };
 
     ghost view = { λ p. record { tasks = tasks_in p.tasks.now; sets = p.sets.now; cells = values_of p.store.value } };
 
-    ghost invariant = { λ p. (length p.sets.now ≡ length p.tasks.now) × IsAscending (tasks_in p.tasks.now) };
+    ghost invariant = { λ p. (length p.sets.now ≡ length p.tasks.now) × IsAscending (tasks_in p.tasks.now) × HaveFirstWriters p.writers.now 0 p.sets.now };
 }
 
 impl<'t, 'p, V: Held> MarkedTasks<'t, 'p, V> {
@@ -41,15 +45,18 @@ impl<'t, 'p, V: Held> MarkedTasks<'t, 'p, V> {
     pub(crate) fn of(
         tasks: &'p [&'t Task],
         sets: &'p [RwSet],
+        writers: &'p [u32],
         store: &Store<V>,
     ) -> MarkedTasks<'t, 'p, V>
         requires one_each { length sets.now ≡ length tasks.now }
         requires ascending { IsAscending (tasks_in tasks.now) }
+        requires writers { HaveFirstWriters writers.now 0 sets.now }
         ensures { result ≡ record { tasks = tasks_in tasks.now; sets = sets.now; cells = values_of store.now } }
     {
         MarkedTasks {
             tasks,
             sets,
+            writers,
             store: Snapshot::of(store),
         }
     }
@@ -93,7 +100,7 @@ impl<'t, 'p, V: Held> PendingTasks for MarkedTasks<'t, 'p, V> {
     }
 
     fn earliest_writing(&self, loc: u32) -> Option<&Task> {
-        first_writing(self.tasks, self.sets, loc)
+        first_writing(self.tasks, self.sets, self.writers, loc)
     }
 }
 
@@ -113,18 +120,24 @@ fn set_at(sets: &[RwSet], rank: usize) -> &RwSet
     &sets[rank]
 }
 
-/// The first of the tasks whose set, at the same place, writes the location.
-fn first_writing<'p>(tasks: &[&'p Task], sets: &[RwSet], loc: u32) -> Option<&'p Task>
-    requires { length sets.now ≡ length tasks.now }
+/// The first of the tasks whose set, at the same place, writes the location. What is noted there is
+/// left of other sets where none of these does.
+fn first_writing<'p>(
+    tasks: &[&'p Task],
+    sets: &[RwSet],
+    writers: &[u32],
+    loc: u32,
+) -> Option<&'p Task>
+    requires one_each { length sets.now ≡ length tasks.now }
+    requires writers { HaveFirstWriters writers.now 0 sets.now }
     ensures { option_map deref result ≡ slice_get (writers_among (tasks_in tasks.now) sets.now loc) 0 }
 {
-    for rank in 0..sets.len() {
-        let task = tasks[rank];
-        if is_written(&sets[rank], loc) {
-            return Some(task);
-        }
+    let rank = *writers.get(loc as usize)? as usize;
+    if is_written(sets.get(rank)?, loc) {
+        Some(tasks[rank])
+    } else {
+        None
     }
-    None
 }
 
 /// Whether the set writes the location.

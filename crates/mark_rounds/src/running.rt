@@ -7,14 +7,13 @@ ghost use Rattle.list_rounds.specs.Rounds.{IsRunFault, most_tasks, start_state};
 ghost use Rattle.mark_rounds.specs.Board.{IsAlone, IsFresh};
 ghost use Rattle.mark_rounds.specs.Runs.{IsRoundsEnd};
 
-use crate::finding::find_clear;
+use crate::finding::{RoundLists, find_clear};
 use app_laws::{App, Finals};
 use kdg_text::{NoRoom, Steps};
 use list_rounds::{ListRounds, RunFault};
 use mark_board::{Board, Marker};
 use outer_edge::Gate;
 use std::alloc::Global;
-use std::collections::VecDeque;
 use std::marker::Brand;
 use std::sync::ledger::{Blank, Ledger};
 use task_order::StartList;
@@ -63,10 +62,9 @@ fn counted_marks<'a, A: App, G: Gate, L: Ledger>(
     ensures fault { IfErr result (IsRunFault (A.meaning run.entry.app) run.entry.start run.entry.limit) }
 {
     let mut steps = Steps::<L>::new(blank);
-    let mut sets = Vec::new(alloc);
-    let mut clear = VecDeque::new(alloc);
     let app = run.app();
     let count = app.cells();
+    let mut lists = RoundLists::new(alloc, count)?;
     let mut horizon = app.horizon(alloc)?;
     let (mut board, mut marker) = Board::new(alloc, count)?;
     while !run.pending().is_empty() {
@@ -76,12 +74,11 @@ fn counted_marks<'a, A: App, G: Gate, L: Ledger>(
             run.store(),
             &board,
             &mut marker,
-            &mut sets,
+            &mut lists,
             &mut horizon,
-            &mut clear,
             &mut steps,
         )?;
-        run = run.act_round(&mut clear, gate, workers, &mut horizon, &mut steps)?;
+        run = run.act_round(&mut lists.clear, gate, workers, &mut horizon, &mut steps)?;
         run = run.with_short_paths(alloc, gate)?;
         let (next, fresh) = next_board(alloc, count, board, marker)?;
         board = next;
