@@ -17,11 +17,12 @@ use std::test::Fail;
 use std::thread::Threads;
 use task_order::Start;
 
-/// What runs come to: in turn; in rounds at an open gate and at one that isn't; and without rounds at
-/// these two gates. And how many rounds there are.
+/// What runs come to, in turn, in rounds at an open gate and in rounds at one that isn't, and without rounds
+/// at such gates, and how many rounds there are.
 #[derive(Drop)]
 pub struct Runs {
-    pub outcomes: [Outcome<u64>; 5],
+    pub outcomes: [Outcome<u64>; 3],
+    pub free: [Outcome<u64>; 2],
     pub rounds: u64,
 }
 
@@ -40,10 +41,11 @@ pub fn runs_of<R: Threads + Wait + Sync, A: App<Val = u64> + Sync>(
     requires budget { budget ≤ 1_000_000_000 }
 {
     let (_, rounds) = rounds_outcome(rt, alloc, &Seeded, app, cells, first, budget)?;
-    let [in_turn, open, watched] = outcomes_of(rt, alloc, app, cells, first, budget)?;
-    let [free, watched_free] = free_outcomes_of(rt, alloc, app, cells, first, budget)?;
+    let outcomes = outcomes_of(rt, alloc, app, cells, first, budget)?;
+    let free = free_outcomes_of(rt, alloc, app, cells, first, budget)?;
     Ok(Runs {
-        outcomes: [in_turn, open, watched, free, watched_free],
+        outcomes,
+        free,
         rounds,
     })
 }
@@ -76,13 +78,18 @@ struct Row {
 
 /// Whether runs come to what the row says.
 fn come_to(runs: &Runs, row: &Row) -> bool {
-    for outcome in &runs.outcomes {
+    are_as_said(&runs.outcomes, row) && are_as_said(&runs.free, row) && runs.rounds == row.rounds
+}
+
+/// Whether all outcomes are those of the row.
+fn are_as_said(outcomes: &[Outcome<u64>], row: &Row) -> bool {
+    for outcome in outcomes {
         let same = outcome.text.bytes() == row.text && outcome.count == row.count;
         if !(same && has_cells(outcome, row.cells)) {
             return false;
         }
     }
-    runs.rounds == row.rounds
+    true
 }
 
 /// With a lookahead of 1 both adders act in each of three rounds, and then the sum is formed. Without
