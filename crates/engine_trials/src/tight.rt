@@ -89,10 +89,12 @@ fn are_tight<R: Threads + Wait + Sync, A: App<Val = u64> + Sync>(
     let (values, tasks) = (copies_of(alloc, cells)?, list_of(alloc, first)?);
     let engine = Engine::begin_uncounted(alloc, app, values, tasks, 100).map_err(|_| NoRoom)?;
     let free = run_free(rt, alloc, engine, &Seeded, 1, workers);
-    Ok(matches!(in_turn, Err(SerialFault::NoRoom))
-        && matches!(by_marks, Err(RunFault::NoRoom))
-        && matches!(in_rounds, Err(RunFault::NoRoom))
-        && matches!(free, Err(RunFault::NoRoom)))
+    Ok(
+        matches!(in_turn, Err(SerialFault::NoRoom))
+            && matches!(by_marks, Err(RunFault::NoRoom))
+            && matches!(in_rounds, Err(RunFault::NoRoom))
+            && matches!(free, Err(RunFault::NoRoom)),
+    )
 }
 
 #[test]

@@ -14,14 +14,13 @@ use std::thread::Threads;
 
 /// The whole program: does what `run` does, and where the status isn't `Ok` writes its fault line to
 /// `errors`. The exit code is that of the status. A fault of `errors` changes nothing else.
-pub fn run_and_tell<R: Threads + Wait + AllocGlobal + Sync, S: Source, K: Sink, E: Sink, G: Gate + Sync>(
-    rt: &R,
-    words: &Vec<String>,
-    source: &mut S,
-    sink: &mut K,
-    errors: &mut E,
-    gate: &G,
-) -> Status
+pub fn run_and_tell<
+    R: Threads + Wait + AllocGlobal + Sync,
+    S: Source,
+    K: Sink,
+    E: Sink,
+    G: Gate + Sync,
+>(rt: &R, words: &Vec<String>, source: &mut S, sink: &mut K, errors: &mut E, gate: &G) -> Status
     ensures usage { TellsBadWord (options_of (map string_bytes words.now.items)) result }
     ensures untouched { IfErr (options_of (map string_bytes words.now.items))
         (λ _. (source.new ≡ source.old) × (sink.new ≡ sink.old)) }
