@@ -1,4 +1,4 @@
-ghost use Rattle.std.specs.Prelude.{◌≡◌, ℕ, ◌<◌, ◌||◌, ◌==◌, false, IsTrue, IfSome, IfNone, IfOk, OnOk};
+ghost use Rattle.std.specs.Prelude.{◌≡◌, ℕ, ◌<◌, ◌&&◌, ◌||◌, ◌==◌, false, IsTrue, IfSome, IfNone, IfOk, OnOk};
 ghost use Rattle.rw_sets.specs.Accesses.{writes};
 ghost use Rattle.cell_store.specs.Values.{homes, values_of};
 ghost use Rattle.resting_tasks.specs.Resting.{IsResting};
@@ -59,6 +59,15 @@ pub trait Resting: App {
         requires home { store.now ≡ homes (values_of store.now) }
         requires cells { (Self.meaning self.now).is_fit_cells (values_of store.now) }
         ensures { OnOk result ((loc : ℕ) → covers self.now cover.new loc ≡ (covers self.now cover.old loc || writes ((Self.meaning self.now).set_of body.now (values_of store.now)) loc)) };
+
+    /// Puts all locations of another cover in. After `NoRoom` a part of them may be in.
+    fn join(&self, cover: &mut Self::Cover, other: &Self::Cover) -> Result<(), NoRoom>
+        ensures { OnOk result ((loc : ℕ) → covers self.now cover.new loc ≡ (covers self.now cover.old loc || covers self.now other.now loc)) };
+
+    /// A location that both covers have, where there is one.
+    fn shared(&self, one: &Self::Cover, other: &Self::Cover) -> Option<u32>
+        ensures both { IfSome result (λ loc. IsTrue (covers self.now one.now loc && covers self.now other.now loc)) }
+        ensures none { IfNone result ((loc : ℕ) → IsTrue (covers self.now one.now loc) → covers self.now other.now loc ≡ false) };
 
     /// A location that both the declared set of a task with this body and the cover have, where there is
     /// one. All cells are home.
