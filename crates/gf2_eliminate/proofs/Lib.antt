@@ -10,3 +10,6 @@ pub mod Found
 pub mod Printing
 pub mod FirstCells
 pub mod Diagonal
+pub mod FirstCommon
+pub mod Including
+pub mod Covering

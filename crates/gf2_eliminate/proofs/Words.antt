@@ -42,7 +42,7 @@ places_are words numbers up each = same_numbers (places_of words) numbers (ascen
     (λ n there. in_has (places_of words) n (has_places words n ∙ each n ∙ has_in numbers n there))
 
 -- the same words, or words without a bit behind them
-same_bits : (words others : List ℕ) → ((k : ℕ) → get_or words k 0 ≡ get_or others k 0) → (n : ℕ) → has_bit words n ≡ has_bit others n
+pub same_bits : (words others : List ℕ) → ((k : ℕ) → get_or words k 0 ≡ get_or others k 0) → (n : ℕ) → has_bit words n ≡ has_bit others n
 same_bits words others same n = ap (λ word. bit_at word (n % 64) == 1) (same (n / 64))
 
 -- a word that is put in the place of another
@@ -70,7 +70,7 @@ and_true true = refl
 and_true false = refl
 
 module _ (words : List ℕ) (place : ℕ) (within : place / 64 < length words) where
-  bit_set : (n : ℕ) → has_bit (slice_set words (place / 64) (bit_or (get_or words (place / 64) 0) (1 * 2 ^ (place % 64) % 2 ^ 64))) n ≡ (has_bit words n || place == n)
+  pub bit_set : (n : ℕ) → has_bit (slice_set words (place / 64) (bit_or (get_or words (place / 64) 0) (1 * 2 ^ (place % 64) % 2 ^ 64))) n ≡ (has_bit words n || place == n)
   bit_set n = elim (cases_eq n place) [
     | inl at ↦
         bit_now words place (bit_or (get_or words (place / 64) 0) (1 * 2 ^ (place % 64) % 2 ^ 64)) within n at
@@ -151,7 +151,7 @@ module _ (left right words : List ℕ) where
       ap (λ word. bit_at word (n % 64) == 1) (each (n / 64)) ∙ ap (λ b. b == 1) (bit_at_xor (get_or left (n / 64) 0) (get_or right (n / 64) 0) (n % 64))
       ∙ by_xor (bit_at (get_or left (n / 64) 0) (n % 64)) (bit_at (get_or right (n / 64) 0) (n % 64)) (bit_at-lt (get_or left (n / 64) 0) (n % 64)) (bit_at-lt (get_or right (n / 64) 0) (n % 64))
 
-  joined : ((k : ℕ) → get_or words k 0 ≡ bit_or (get_or left k 0) (get_or right k 0)) → (n : ℕ) → has_bit words n ≡ (has_bit left n || has_bit right n)
+  pub joined : ((k : ℕ) → get_or words k 0 ≡ bit_or (get_or left k 0) (get_or right k 0)) → (n : ℕ) → has_bit words n ≡ (has_bit left n || has_bit right n)
   joined each n =
       ap (λ word. bit_at word (n % 64) == 1) (each (n / 64)) ∙ ap (λ b. b == 1) (bit_at_or (get_or left (n / 64) 0) (get_or right (n / 64) 0) (n % 64))
       ∙ by_or (bit_at (get_or left (n / 64) 0) (n % 64)) (bit_at (get_or right (n / 64) 0) (n % 64)) (bit_at-lt (get_or left (n / 64) 0) (n % 64)) (bit_at-lt (get_or right (n / 64) 0) (n % 64))

@@ -26,7 +26,7 @@ use Rattle.gf2_eliminate.specs.Lines.{no_line, numbers_in, is_used, has, line_at
 use Rattle.gf2_eliminate.specs.Elimination.{first_of, exactly_one, writing, is_shared, is_touched, set_of, shown, is_out, unless_out, walk_from, pivot_of, holds_after, line_after, lines_after, outcome_with, eliminated, elimination}
 use Rattle.gf2_eliminate.specs.Membership.{any_found, any_from, any_same, filter_same, first_found, none_found, in_has, has_in, has_listed, listed_list, listed_same, row_is, column_is, length_numbers, get_numbers, line_same, line_numbers, written_in, in_written, ascending_writing, ends_with_line_feed}
 
-one_or_none : (b : Bool) → exactly_one b false ≡ b
+pub one_or_none : (b : Bool) → exactly_one b false ≡ b
 one_or_none true = refl
 one_or_none false = refl
 
@@ -68,13 +68,13 @@ module _ (rows columns : ℕ) where
   touched_column : (column : ℕ) (cells : List Line2) (loc : ℕ) → rows ≤ loc → is_touched rows columns column cells loc ≡ (loc == rows + column || is_shared rows columns cells column (loc - rows))
   touched_column column cells loc above = rw (le-ltb loc rows above) refl
 
-  shared_found : (cells : List Line2) (column other : ℕ) → is_shared rows columns cells column other ≡ true → SharesRow cells column other
+  pub shared_found : (cells : List Line2) (column other : ℕ) → is_shared rows columns cells column other ≡ true → SharesRow cells column other
   shared_found cells column other shared =
       let found = any_found (λ row. holds cells row column && holds cells row other) (numbers_from 0 rows) shared in
       let both = and_parts (holds cells found.0 column) (holds cells found.0 other) found.2 in
       (found.0, omega (arith, (from_numbers 0 rows found.0 found.1).1), both.0, both.1)
 
-  shared_from : (cells : List Line2) (column other : ℕ) → SharesRow cells column other → is_shared rows columns cells column other ≡ true
+  pub shared_from : (cells : List Line2) (column other : ℕ) → SharesRow cells column other → is_shared rows columns cells column other ≡ true
   shared_from cells column other shares =
       any_from (λ row. holds cells row column && holds cells row other) (numbers_from 0 rows) shares.0 (in_numbers 0 rows shares.0 (omega arith) (omega (arith, shares.1)))
       (and_from (holds cells shares.0 column) (holds cells shares.0 other) shares.2 shares.3)
@@ -112,7 +112,7 @@ module _ (rows columns : ℕ) where
   pub writes_from_named : (column : ℕ) (cells : List Line2) (loc : ℕ) → column < columns → IsNamed column cells loc → IsTrue (writes (set_of rows columns column cells) loc)
   writes_from_named column cells loc within named = rw (written_from_named column cells loc within named) refl
 
-  some_from_writes : (set : Accesses) (loc : ℕ) → IsTrue (writes set loc) → IsSome (access_at set loc)
+  pub some_from_writes : (set : Accesses) (loc : ℕ) → IsTrue (writes set loc) → IsSome (access_at set loc)
   some_from_writes set loc written = by_access (access_at set loc) written
     where
       by_access : (access : Option Access) → allows_write access ≡ true → IsSome access
@@ -349,11 +349,11 @@ module _ (rows columns : ℕ) where
       lines = ends_with_line_feed (codes "col " ++ decimal (suc column) ++ codes " row " ++ decimal (suc pivot));
     }
 
-    outcome_childless : (pivot : Option ℕ) → (outcome_with rows columns column pivot cells).children ≡ []
+    pub outcome_childless : (pivot : Option ℕ) → (outcome_with rows columns column pivot cells).children ≡ []
     outcome_childless None = refl
     outcome_childless (Some pivot) = refl
 
-    outcome_moves : (pivot : Option ℕ) → pivot_of rows columns column cells ≡ pivot → (second loc : ℕ) → second < columns → IsNamed second (outcome_with rows columns column pivot cells).cells loc
+    pub outcome_moves : (pivot : Option ℕ) → pivot_of rows columns column cells ≡ pivot → (second loc : ℕ) → second < columns → IsNamed second (outcome_with rows columns column pivot cells).cells loc
         → IsNamed second cells loc ⊎ IsNamed column cells loc
     outcome_moves None is second loc second-within named = inl named
     outcome_moves (Some pivot) is second loc second-within named =

@@ -7,3 +7,5 @@ pub mod Membership
 pub mod Lawful
 pub mod Start
 pub mod Blocks
+pub mod RestLaws
+pub mod Covers

@@ -1,5 +1,5 @@
 -- Sets of places as words of 64 bits, of which each place has one.
-use Rattle.std.specs.Prelude.{◌≡◌, ℕ, ◌*◌, ◌/◌, ◌%◌, ◌^◌, ◌<◌, ◌≤◌, Bool, ◌==◌, List, length, filter, slice_index}
+use Rattle.std.specs.Prelude.{◌≡◌, ℕ, ◌*◌, ◌/◌, ◌%◌, ◌^◌, ◌<◌, ◌≤◌, Bool, ◌==◌, List, length, filter, slice_index, Option, Some, None}
 use Rattle.std.specs.Int.{bit_at}
 use Rattle.mtx_reader.specs.Ascending.{numbers_from}
 
@@ -34,3 +34,15 @@ pub record IsSpan (words : List ℕ) (first end : ℕ) : Type 0 where
   pub short : length words ≤ least_words
   pub within : end ≤ length words
   pub nothing : HasNothingOutside words first end
+
+-- the least bit from one on that is set in a word
+pub record IsLeastBit (word from bit : ℕ) : Type 0 where
+  pub beyond : from ≤ bit
+  pub below : bit < 64
+  pub is_set : bit_at word bit ≡ 1
+  pub least : (k : ℕ) → from ≤ k → k < bit → bit_at word k ≡ 0
+
+-- that bit, or none where there is none
+abbrev pub IsFirstBit : ℕ → ℕ → Option ℕ → Type 0
+IsFirstBit word from None = (k : ℕ) → from ≤ k → bit_at word k ≡ 0
+IsFirstBit word from (Some bit) = IsLeastBit word from bit

@@ -30,7 +30,7 @@ use task_order::{Body, PendingTasks, StartList, Task};
 #[derive(Drop)]
 pub struct Matrix {
     alloc: Global,
-    pattern: Pattern,
+    pub(crate) pattern: Pattern,
 }
 
 impl Model for Matrix {

@@ -1,6 +1,6 @@
 ghost use Rattle.std.specs.Prelude.{◌≡◌, ℕ, ◌+◌, ◌≤◌, ◌<◌, ◌^◌, [], ◌∷◌, ◌++◌, not, ◌==◌, length, map, filter, slice_index, max, bit_or, bit_xor, IfOk, OnOk, OnErr};
 ghost use Rattle.std.specs.List.{AllByRecursion};
-ghost use Rattle.gf2_eliminate.specs.Ones.{bits_of, HasNothingOutside};
+ghost use Rattle.gf2_eliminate.specs.Ones.{bits_of, HasNothingOutside, IsFirstBit};
 
 use kdg_text::NoRoom;
 use std::alloc::Global;
@@ -28,11 +28,12 @@ impl Model for OneSet {
 }
 
 impl OneSet {
-    ghost use Rattle.std.specs.Prelude.{◌||◌};
+    ghost use Rattle.std.specs.Prelude.{◌*◌, ◌&&◌, ◌||◌, nat_lt};
     ghost use Rattle.std.specs.Ordering.{nat_cmp};
     ghost use Rattle.mtx_reader.specs.Ascending.{IsAscendingBy};
     ghost use Rattle.gf2_eliminate.specs.Lines.{has, IsListTo};
     ghost use Rattle.gf2_eliminate.specs.Plans.{sum_to};
+    ghost use Rattle.gf2_eliminate.specs.Covers.{IsFirstCommon};
 
     /// No place, which takes no memory.
     pub fn new(alloc: Global) -> OneSet
@@ -84,6 +85,60 @@ impl OneSet {
         lengthen(&mut self.words, other.words.len())?;
         set_bits(&mut self.words, &other.words);
         Ok(())
+    }
+
+    /// Adds the places that stand in the first words of another set. After `NoRoom` the set is as it was.
+    pub(crate) fn include_first(&mut self, other: &OneSet, words: usize) -> Result<(), NoRoom>
+        ensures ok { OnOk result ((n : ℕ) → has self.new n ≡ (has self.old n || (nat_lt n (64 * words) && has other.now n))) }
+        ensures err { OnErr result (self.new ≡ self.old) }
+    {
+        lengthen(&mut self.words, other.words.len())?;
+        set_bits(
+            &mut self.words,
+            &other.words[..other.words.len().min(words)],
+        );
+        Ok(())
+    }
+
+    /// Takes all places out. The memory stays.
+    pub(crate) fn clear(&mut self)
+        ensures { self.new ≡ [] }
+    {
+        self.words.clear();
+    }
+
+    /// Whether it has a place.
+    pub(crate) fn has(&self, place: u32) -> bool
+        ensures { result ≡ has self.now place }
+    {
+        let (at, bit) = ((place / u64::BITS) as usize, place % u64::BITS);
+        at < self.words.len() && (self.words[at] >> bit) % 2 == 1
+    }
+
+    /// Puts a place in. After `NoRoom` the set is as it was.
+    pub(crate) fn insert(&mut self, place: u32) -> Result<(), NoRoom>
+        ensures ok { OnOk result ((n : ℕ) → has self.new n ≡ (has self.old n || place == n)) }
+        ensures err { OnErr result (self.new ≡ self.old) }
+    {
+        let (at, bit) = ((place / u64::BITS) as usize, place % u64::BITS);
+        lengthen(&mut self.words, (at + 1).max(LEAST_WORDS))?;
+        self.words[at] |= 1 << bit;
+        Ok(())
+    }
+
+    /// The least place from one on that both sets have.
+    pub(crate) fn first_common(&self, other: &OneSet, from: u32) -> Option<u32>
+        ensures { IsFirstCommon self.now other.now from result }
+    {
+        let end = self.words.len().min(other.words.len());
+        let mut bit = from % u64::BITS;
+        for at in (from / u64::BITS) as usize..end {
+            if let Some(found) = first_bit(self.words[at] & other.words[at], bit) {
+                return Some(at as u32 * u64::BITS + found);
+            }
+            bit = 0;
+        }
+        None
     }
 
     /// Adds places over two elements, where they are: the set then has those that exactly one of the two
@@ -182,6 +237,19 @@ fn end_of_words(words: &[u64]) -> usize
         end -= 1;
     }
     end
+}
+
+/// The least bit from one on that is set in a word.
+fn first_bit(word: u64, from: u32) -> Option<u32>
+    requires { from < 64 }
+    ensures { IsFirstBit word from result }
+{
+    let left = word >> from;
+    if left == 0 {
+        None
+    } else {
+        Some(from + left.trailing_zeros())
+    }
 }
 
 /// Lengthens `words` to at least `len`, by words without a bit.
