@@ -1,10 +1,10 @@
 //! How one clear task acts.
 
-ghost use Rattle.std.specs.Prelude.{◌≡◌, ◌+◌, ◌<◌, ◌≤◌, ◌++◌, ◌∷◌, Contains, List, ℕ, length, IfErr, OnOk};
+ghost use Rattle.std.specs.Prelude.{◌≡◌, ◌+◌, ◌<◌, ◌≤◌, ◌++◌, ◌∷◌, Contains, List, ℕ, length, slice_get, IfErr, IfSome, IsTrue, OnOk};
 ghost use Rattle.std.specs.List.{AllByRecursion};
 ghost use Rattle.task_order.specs.declared.key.Key.{Key};
 ghost use Rattle.task_order.specs.declared.task.Task.{Task};
-ghost use Rattle.task_order.specs.TaskList.{put_all};
+ghost use Rattle.task_order.specs.TaskList.{put_all, without};
 ghost use Rattle.cell_store.specs.Values.{homes, values_of};
 ghost use Rattle.output_log.specs.Entries.{IsNewEntry};
 ghost use Rattle.app_laws.specs.Applications.{starts_of};
@@ -21,7 +21,7 @@ use crate::parts::RunParts;
 use app_laws::{App, Child, act, put_children};
 use kdg_text::Steps;
 use std::sync::ledger::Ledger;
-use task_order::{Body, Task};
+use task_order::{Body, Key, Task, TaskList, ascending_laws, put_in_laws, without_laws};
 
 /// Has a pending task act on the cells, which are all home: it leaves the pending ones, its children come
 /// in, and its text is logged. It is refused where there would be more tasks than the limit. The horizon
@@ -48,7 +48,7 @@ pub(crate) fn act_one<A: App, L: Ledger>(
 {
     basis::<A>();
     let (children, text) = act(app, &task, &mut parts.store, steps)?;
-    let _ = parts.pending.remove(&task.key);
+    leave(&mut parts.pending, &task.key);
     parts.ended += 1;
     let made = children.items();
     within(
@@ -60,6 +60,33 @@ pub(crate) fn act_one<A: App, L: Ledger>(
     parts.log.reserve_for(&text)?;
     parts.log.put(task.key, text);
     Ok(())
+}
+
+/// A task leaves the pending ones. In a round in which all of them are clear it is the earliest, which is
+/// found without a search.
+#[inline(always)]
+fn leave(pending: &mut TaskList, key: &Key)
+    ensures { pending.new ≡ without key.now pending.old }
+{
+    ascending_laws();
+    put_in_laws();
+    without_laws();
+    if is_earliest(pending, key) {
+        let _ = pending.take_first();
+    } else {
+        let _ = pending.remove(key);
+    }
+}
+
+/// Whether the key is that of the earliest of the tasks.
+#[inline(always)]
+fn is_earliest(pending: &TaskList, key: &Key) -> bool
+    ensures { IsTrue result → IfSome (slice_get pending.now 0) (λ first. first.key ≡ key.now) }
+{
+    match pending.first() {
+        Some(first) => first.key == *key,
+        None => false,
+    }
 }
 
 /// A task with this body ended, and its children came to the pending ones.

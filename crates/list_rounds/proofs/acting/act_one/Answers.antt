@@ -18,7 +18,7 @@ returns-in_err-within-clause-fault g c =
     let over = c.in_err-within.ensures.over in
     let after = pending_after (c.basis.ensures c.args.app.now) c.requires.ready c.requires.there c.items-made.result.now are in
     let e = err_from_is_err_and c.from_residual-in_err-within.result c.from_residual-in_err-within.ensures.1 in
-    rw (e.1, e.2, over.0) (omega (arith, after, c.len.ensures.len, ap length c.remove.ensures.left), refl, over.1)
+    rw (e.1, e.2, over.0) (omega (arith, after, c.len.ensures.len, ap length c.leave.ensures), refl, over.1)
 
 pub touch_end-requires-clause-children : goal.touch_end-requires-clause-children
 touch_end-requires-clause-children g c κs within =
@@ -30,7 +30,7 @@ put_children-requires-clause-not_earlier g c =
 
 pub put_children-requires-clause-new : goal.put_children-requires-clause-new
 put_children-requires-clause-new g c =
-    subst (λ (tasks : List Task). AllByRecursion (λ (task : Task). IsNewKey task.key tasks) (children_from c.args.task.key 0 (starts_of c.items-made.result.now))) (sym c.remove.ensures.left)
+    subst (λ (tasks : List Task). AllByRecursion (λ (task : Task). IsNewKey task.key tasks) (children_from c.args.task.key 0 (starts_of c.items-made.result.now))) (sym c.leave.ensures)
     (new_keys (c.basis.ensures c.args.app.now) c.requires.ready c.requires.there c.items-made.result.now (c.items-made.ensures.all ∙ c.in_ok-children.ensures.children))
 
 pub returns-clause-acted : goal.returns-clause-acted
@@ -40,7 +40,7 @@ returns-clause-acted g c =
     let starts = starts_are (c.basis.ensures c.args.app.now) c.requires.ready c.requires.there c.items-made.result.now (c.items-made.ensures.all ∙ c.in_ok-children.ensures.children) in
     record {
       store = c.in_ok-children.ensures.store;
-      pending = c.in_ok-put_children.ensures.put ∙ ap (λ (starts : List Start). put_all (children_from key 0 starts) c.remove.new.self) starts ∙ ap (put_all (children_from key 0 outcome.children)) c.remove.ensures.left;
+      pending = c.in_ok-put_children.ensures.put ∙ ap (λ (starts : List Start). put_all (children_from key 0 starts) c.leave.new.pending) starts ∙ ap (put_all (children_from key 0 outcome.children)) c.leave.ensures;
       log = c.put.ensures.entries ∙ ap (λ text. with_entry key text c.reserve_for.new.self.entries) c.in_ok-children.ensures.text ∙ ap (λ (entries : List Entry). with_entry key outcome.text entries) c.reserve_for.ensures.entries;
       text = refl;
       ended = refl;
@@ -49,12 +49,12 @@ returns-clause-acted g c =
 pub returns-clause-told : goal.returns-clause-told
 returns-clause-told g c =
     let children = children_from c.args.task.key 0 (starts_of c.items-made.result.now) in
-    subst (g.A.App.tells c.args.app.now c.touch_end.new.horizon) (sym (c.in_ok-put_children.ensures.put ∙ ap (put_all children) c.remove.ensures.left))
+    subst (g.A.App.tells c.args.app.now c.touch_end.new.horizon) (sym (c.in_ok-put_children.ensures.put ∙ ap (put_all children) c.leave.ensures))
     (told_of_others (c.basis.ensures c.args.app.now).restores c.args.task c.args.parts.now.pending c.requires.ready.ascending c.requires.there
     (g.A.App.tells c.args.app.now c.args.horizon.now) (λ (others : List Task). g.A.App.tells c.args.app.now c.touch_end.new.horizon (put_all children others))
     (λ before after told. c.touch_end.ensures c.args.task c.args.task.key before after refl told) c.requires.told)
 
 pub returns-clause-within : goal.returns-clause-within
 returns-clause-within g c =
-    let put = put_length (c.basis.ensures c.args.app.now) c.args.task.key c.items-made.result.now c.remove.new.self in
+    let put = put_length (c.basis.ensures c.args.app.now) c.args.task.key c.items-made.result.now c.leave.new.pending in
     omega (arith, c.in_ok-within.ensures.ok, c.len.ensures.len, ap length c.in_ok-put_children.ensures.put, put)
