@@ -31,11 +31,11 @@ pub use Rattle.kdg_graph.specs.Fronts.{BlocksNoneAlone, fronts_after, stoppers}
 pub use Rattle.kdg_graph.specs.Kept.{IsOrder, IsOrderShown}
 pub use Rattle.kdg_graph.specs.Lanes.{AreLater, AreStored, IsBetween, IsEnded, IsFound, IsGap, IsLane, IsRank, IsRankPast, IsSearched, cmp_at, cmp_if, cmp_in_if, is_id, is_id_at}
 pub use Rattle.kdg_graph.specs.Laws.{IdsFindNodes, IdsFindTheirNodes, KeysFindNodes, LatersAreInConflict, LatersAreNodes, LatersMayChange, LeastIsEarliest, NewKeysFindNone, NodesHaveIds, NodesHaveKeys, NoneIsLeastOfNone, PutsAddOneNode, RewritesAddNoOther, RewritesAddNodes, RewritesEndNodes, RewritesKeepNodes, RewritesReplaceTasks, RunningNodesAreNoSources, SourcesAreNodes, SourcesAreUnblocked, StartsMarkOneNode, WritersAreOfTasks}
-pub use Rattle.kdg_graph.specs.Locations.{AreFiled, HasRoom, HaveNoLess, HaveSameLanes, IsLaneAmong, Location, clashes_at, clashing_at, front_after, ids_for, is_blocked_at, is_first_before, lane_of, put_if, room_at, room_in, rooms_of, up_to_writer, without_if, writers_in}
+pub use Rattle.kdg_graph.specs.Locations.{AreFiled, HasMoreFor, HasRoomFor, HasTakenFor, HaveNoLess, HaveSameLanes, IsLaneAmong, Location, clashes_at, clashing_at, front_after, ids_for, is_blocked_at, is_first_before, lane_of, times_named, put_if, reserved_in, reserved_of, room_at, room_in, rooms_of, up_to_writer, without_if, writers_in}
 pub use Rattle.kdg_graph.specs.Node.{Node, new_node}
 pub use Rattle.kdg_graph.specs.NodeStock.{NodeShelf, NodeStock, ids_left, places_in}
 pub use Rattle.kdg_graph.specs.Nodes.{HasNode, HaveOwnIds, HaveSets, IsGraph, earlier_than, ids_of, is_at, later_than, least_of, node_at, node_with_key, put_node, set_at, started, task_at, tasks_of}
-pub use Rattle.kdg_graph.specs.Rewrite.{AreAdded, AreOfOwnNodes, HaveNewKeys, fresh_nodes, fresh_tasks, put_nodes, set_after, with_sets, without}
+pub use Rattle.kdg_graph.specs.Rewrite.{AreAdded, AreOfOwnNodes, HaveNewKeys, changed_sets, fresh_nodes, fresh_sets, fresh_tasks, put_nodes, set_after, with_sets, without}
 pub use Rattle.kdg_graph.specs.Selected.{AreForgotten, AreInTurn, AreLeft, AreMarked, AreRefreshed, AreRetested, AreSelected, AreSome, HasGone, HaveMarks, IsArrival, IsInOrder, IsLeft, IsNext, MarkedIds, TellsItsKey, arrival_cmp, arrived, forgotten, has_number, ids_in, is_among, is_behind, is_later, is_left, is_recent, is_settled, is_unblocked, key_at, left_in, listed_in, not_running, recent_among, recent_in, refreshed, retested, runs, settled_among, settled_from, settled_in, unblocked_of}
 pub use Rattle.kdg_graph.specs.Stored.{AreKept, IsStored, in_order, nodes_of}
 pub use Rattle.kdg_graph.specs.declared.arrival.Arrival.{Arrival}

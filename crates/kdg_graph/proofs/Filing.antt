@@ -1,6 +1,6 @@
 -- The lanes of the locations, while a node is filed at one after another.
-use Rattle.std.proofs.Common.{◌≡◌, ◌≢◌, ℕ, zero, suc, ◌<◌, ◌≤◌, cond, List, [], ◌∷◌, ◌++◌, length, take, drop, get_or, set, Some, None, refl, sym, ◌∙◌, ap, subst, arith, ◌==◌, ◌+◌, Bool, true, false, not, Option, inl, inr, IfSome, is_some, ◌-◌, ◌||◌, append-nil, filter, flat_map}
-use Rattle.kdg_graph.proofs.Common.{Access, Accesses, AllBeyond, IsAscendingSet, access_at, absent_beyond, access_first, access_other, ascending_first, ascending_rest, Location, ids_for, lane_of, room_at, room_in, rooms_of, cases_eq, Read, Write, clash, excludes, NodeId, HasRoom, HaveNoLess, IsLaneAmong, clashes_at, clashing_at, put_if, without_if, Node, IsGraph, ids_of, is_at, node_at, put_node, without, take-length, flat_map-append, map-append, take_more, filter-append, Key, beyond_lower, AreFiledWith, is_same, lacking, midway, fronts_after, AreFiled, front_after, AreRefreshed, MarkedIds, is_unblocked, from_filter}
+use Rattle.std.proofs.Common.{◌≡◌, ◌≢◌, ℕ, zero, suc, ◌<◌, ◌≤◌, cond, List, [], ◌∷◌, ◌++◌, length, map, take, drop, get_or, set, Some, None, refl, sym, ◌∙◌, ap, subst, arith, ◌==◌, ◌+◌, Bool, true, false, not, Option, inl, inr, IfSome, is_some, ◌-◌, ◌||◌, append-nil, filter, flat_map}
+use Rattle.kdg_graph.proofs.Common.{Access, Accesses, AllBeyond, IsAscendingSet, access_at, absent_beyond, access_first, access_other, ascending_first, ascending_rest, Location, ids_for, lane_of, room_at, room_in, rooms_of, cases_eq, Read, Write, clash, excludes, NodeId, HasRoomFor, HasTakenFor, HasMoreFor, HaveNoLess, times_named, reserved_in, reserved_of, IsLaneAmong, clashes_at, clashing_at, put_if, without_if, Node, IsGraph, ids_of, is_at, node_at, put_node, without, take-length, flat_map-append, map-append, take_more, filter-append, Key, beyond_lower, AreFiledWith, is_same, lacking, midway, fronts_after, AreFiled, front_after, AreRefreshed, MarkedIds, is_unblocked, from_filter}
 use Rattle.kdg_graph.proofs.KeyOrder.{filter_with, filters_commute, no_more_kept, same_filter, is_before}
 use Rattle.kdg_graph.proofs.Lanes.{among_filtered, graph_among, length-ids}
 use Rattle.kdg_graph.proofs.LookUps.{ids_find_nodes, is_at-same}
@@ -20,10 +20,13 @@ lane_beyond [] loc access beyond = refl
 lane_beyond (location ∷ locations) zero access beyond = absurd (omega (arith, beyond))
 lane_beyond (location ∷ locations) (suc loc) access beyond = lane_beyond locations loc access (omega (arith, beyond))
 
+number_there : (f : Location → ℕ) (locations : List Location) (loc : ℕ) (d : Location) → loc < length locations → room_at (map f locations) loc ≡ f (get_or locations loc d)
+number_there f [] loc d inside = absurd (omega (arith, inside))
+number_there f (location ∷ locations) zero d inside = refl
+number_there f (location ∷ locations) (suc loc) d inside = number_there f locations loc d (omega (arith, inside))
+
 pub room_there : (locations : List Location) (loc : ℕ) (d : Location) → loc < length locations → room_at (rooms_of locations) loc ≡ room_in (get_or locations loc d)
-room_there [] loc d inside = absurd (omega (arith, inside))
-room_there (location ∷ locations) zero d inside = refl
-room_there (location ∷ locations) (suc loc) d inside = room_there locations loc d (omega (arith, inside))
+room_there = number_there room_in
 
 -- beyond the last there is no room
 pub within_room : (locations : List Location) (loc : ℕ) → 1 ≤ room_at (rooms_of locations) loc → loc < length locations
@@ -50,17 +53,17 @@ lane_other (location ∷ locations) zero (suc loc) now access differs = refl
 lane_other (location ∷ locations) (suc at) zero now access differs = refl
 lane_other (location ∷ locations) (suc at) (suc loc) now access differs = lane_other locations at loc now access (λ same. differs (ap suc same))
 
-pub room_changed : (locations : List Location) (loc : ℕ) (now : Location) → loc < length locations → room_at (rooms_of (set locations loc now)) loc ≡ room_in now
-room_changed [] loc now inside = absurd (omega (arith, inside))
-room_changed (location ∷ locations) zero now inside = refl
-room_changed (location ∷ locations) (suc loc) now inside = room_changed locations loc now (omega (arith, inside))
+number_changed : (f : Location → ℕ) (locations : List Location) (loc : ℕ) (now : Location) → loc < length locations → room_at (map f (set locations loc now)) loc ≡ f now
+number_changed f [] loc now inside = absurd (omega (arith, inside))
+number_changed f (location ∷ locations) zero now inside = refl
+number_changed f (location ∷ locations) (suc loc) now inside = number_changed f locations loc now (omega (arith, inside))
 
-pub room_other : (locations : List Location) (at loc : ℕ) (now : Location) → (at ≡ loc → ⊥) → room_at (rooms_of (set locations at now)) loc ≡ room_at (rooms_of locations) loc
-room_other [] at loc now differs = elim at as (λ n. room_at (rooms_of (set [] n now)) loc ≡ 0) [ zero ↦ refl | suc n ↦ refl ]
-room_other (location ∷ locations) zero zero now differs = absurd (differs refl)
-room_other (location ∷ locations) zero (suc loc) now differs = refl
-room_other (location ∷ locations) (suc at) zero now differs = refl
-room_other (location ∷ locations) (suc at) (suc loc) now differs = room_other locations at loc now (λ same. differs (ap suc same))
+number_other : (f : Location → ℕ) (locations : List Location) (at loc : ℕ) (now : Location) → (at ≡ loc → ⊥) → room_at (map f (set locations at now)) loc ≡ room_at (map f locations) loc
+number_other f [] at loc now differs = elim at as (λ n. room_at (map f (set [] n now)) loc ≡ 0) [ zero ↦ refl | suc n ↦ refl ]
+number_other f (location ∷ locations) zero zero now differs = absurd (differs refl)
+number_other f (location ∷ locations) zero (suc loc) now differs = refl
+number_other f (location ∷ locations) (suc at) zero now differs = refl
+number_other f (location ∷ locations) (suc at) (suc loc) now differs = number_other f locations at loc now (λ same. differs (ap suc same))
 
 -- ---- one location more, that has no nodes
 
@@ -73,10 +76,10 @@ lane_more [] now loc access none = lane_first now loc access none
 lane_more (location ∷ locations) now zero access none = refl
 lane_more (location ∷ locations) now (suc loc) access none = lane_more locations now loc access none
 
-pub room_more : (locations : List Location) (now : Location) (loc : ℕ) → room_at (rooms_of locations) loc ≤ room_at (rooms_of (locations ++ now ∷ [])) loc
-room_more [] now loc = omega arith
-room_more (location ∷ locations) now zero = omega arith
-room_more (location ∷ locations) now (suc loc) = room_more locations now loc
+pub number_more : (f : Location → ℕ) (locations : List Location) (now : Location) (loc : ℕ) → room_at (map f locations) loc ≤ room_at (map f (locations ++ now ∷ [])) loc
+number_more f [] now loc = omega arith
+number_more f (location ∷ locations) now zero = omega arith
+number_more f (location ∷ locations) now (suc loc) = number_more f locations now loc
 
 -- ---- the pairs of a set so far, and those that are left
 
@@ -178,18 +181,13 @@ some_put node (other ∷ nodes) none =
     ] in
     by_case _ none
 
-pub has_room_at : (count : ℕ) (ps : Accesses) (rooms : List ℕ) (i : ℕ) (d : ℕ × Access) → HasRoom count ps rooms → i < length ps → count ≤ room_at rooms (let p : ℕ × Access = get_or ps i d in p.0)
-has_room_at count [] rooms i d all inside = absurd (omega (arith, inside))
-has_room_at count (p ∷ ps) rooms zero d all inside = all.0
-has_room_at count (p ∷ ps) rooms (suc i) d all inside = has_room_at count ps rooms i d all.1 (omega (arith, inside))
-
 -- there is room at the location that is next
-pub room_next : (ps : Accesses) (i : ℕ) (p : ℕ × Access) (first locations : List Location) → IsAscendingSet ps → i < length ps → p ≡ get_or ps i p → HasRoom 1 ps (rooms_of first)
+pub room_next : (ps : Accesses) (i : ℕ) (p : ℕ × Access) (first locations : List Location) → IsAscendingSet ps → i < length ps → p ≡ get_or ps i p → HasRoomFor (ps ∷ []) (rooms_of first)
     → ((loc : ℕ) → room_at (rooms_of first) loc ≤ room_at (rooms_of locations) loc + cond (is_some (access_at (take i ps) loc)) 1 0) → 1 ≤ room_at (rooms_of locations) p.0
 room_next ps i p first locations up inside at all room =
     let none : cond (is_some (access_at (take i ps) p.0)) 1 0 ≡ 0 = ap {B = ℕ} (λ found. cond (is_some found) 1 0) (not_before ps i p up inside at) in
-    let here : 1 ≤ room_at (rooms_of first) p.0 = subst (λ (q : ℕ × Access). 1 ≤ room_at (rooms_of first) q.0) (sym at) (has_room_at 1 ps (rooms_of first) i p all inside) in
-    omega (arith, none, here, room p.0)
+    let named : cond (is_some (access_at ps p.0)) 1 0 ≡ 1 = ap {B = ℕ} (λ found. cond (is_some found) 1 0) (pair_found ps i p up inside at) in
+    omega (arith, none, named, all p.0, room p.0)
 
 pub room_step : (ps : Accesses) (i : ℕ) (p : ℕ × Access) (first locations : List Location) (old now : Location) → IsAscendingSet ps → i < length ps → p ≡ get_or ps i p → p.0 < length locations → old ≡ get_or locations p.0 old → room_in old ≤ room_in now + 1
     → ((loc : ℕ) → room_at (rooms_of first) loc ≤ room_at (rooms_of locations) loc + cond (is_some (access_at (take i ps) loc)) 1 0)
@@ -198,22 +196,53 @@ room_step ps i p first locations old now up inside at within here fits room loc 
     let was : room_at (rooms_of locations) p.0 ≡ room_in old = room_there locations p.0 old within ∙ sym (ap room_in here) in
     let before : cond (is_some (access_at (take i ps) p.0)) 1 0 ≡ 0 = ap {B = ℕ} (λ found. cond (is_some found) 1 0) (not_before ps i p up inside at) in
     let after : cond (is_some (access_at (take (suc i) ps) p.0)) 1 0 ≡ 1 = ap {B = ℕ} (λ found. cond (is_some found) 1 0) (so_far_here ps i p up inside at) in
-    let changed : room_at (rooms_of first) p.0 ≤ room_at (rooms_of (set locations p.0 now)) p.0 + cond (is_some (access_at (take (suc i) ps) p.0)) 1 0 = omega (arith, was, before, after, fits, room p.0, room_changed locations p.0 now within) in
+    let changed : room_at (rooms_of first) p.0 ≤ room_at (rooms_of (set locations p.0 now)) p.0 + cond (is_some (access_at (take (suc i) ps) p.0)) 1 0 = omega (arith, was, before, after, fits, room p.0, number_changed room_in locations p.0 now within) in
     elim (cases_eq p.0 loc) as (λ _. room_at (rooms_of first) loc ≤ room_at (rooms_of (set locations p.0 now)) loc + cond (is_some (access_at (take (suc i) ps) loc)) 1 0) [
       | inl same ↦ subst (λ n. room_at (rooms_of first) n ≤ room_at (rooms_of (set locations p.0 now)) n + cond (is_some (access_at (take (suc i) ps) n)) 1 0) same changed
       | inr differs ↦
           let same : cond (is_some (access_at (take (suc i) ps) loc)) 1 0 ≡ cond (is_some (access_at (take i ps) loc)) 1 0 = ap {B = ℕ} (λ found. cond (is_some found) 1 0) (so_far_other ps i p loc inside at differs) in
-          omega (arith, same, room loc, room_other locations p.0 loc now differs)
+          omega (arith, same, room loc, number_other room_in locations p.0 loc now differs)
+    ]
+
+-- what all pairs have taken
+pub taken_whole : (so_far set : Accesses) (before after : List ℕ) → so_far ≡ set → ((loc : ℕ) → room_at before loc ≤ room_at after loc + cond (is_some (access_at so_far loc)) 1 0) → HasTakenFor (set ∷ []) before after
+taken_whole so_far set before after same taken loc = subst (λ (l : Accesses). room_at before loc ≤ room_at after loc + times_named (l ∷ []) loc) same (omega (arith, taken loc))
+
+-- room that is made at the location of one pair more
+pub more_step : (ps : Accesses) (i : ℕ) (p : ℕ × Access) (first before after : List ℕ) → IsAscendingSet ps → i < length ps → p ≡ get_or ps i p → room_at before p.0 + 1 ≤ room_at after p.0 → HaveNoLess before after
+    → ((loc : ℕ) → room_at first loc + cond (is_some (access_at (take i ps) loc)) 1 0 ≤ room_at before loc) → (loc : ℕ) → room_at first loc + cond (is_some (access_at (take (suc i) ps) loc)) 1 0 ≤ room_at after loc
+more_step ps i p first before after up inside at made no_less so_far loc =
+    let none : cond (is_some (access_at (take i ps) p.0)) 1 0 ≡ 0 = ap {B = ℕ} (λ found. cond (is_some found) 1 0) (not_before ps i p up inside at) in
+    let named : cond (is_some (access_at (take (suc i) ps) p.0)) 1 0 ≡ 1 = ap {B = ℕ} (λ found. cond (is_some found) 1 0) (so_far_here ps i p up inside at) in
+    let here : room_at first p.0 + cond (is_some (access_at (take (suc i) ps) p.0)) 1 0 ≤ room_at after p.0 = omega (arith, none, named, made, so_far p.0) in
+    elim (cases_eq p.0 loc) [
+      | inl same ↦ subst (λ n. room_at first n + cond (is_some (access_at (take (suc i) ps) n)) 1 0 ≤ room_at after n) same here
+      | inr differs ↦
+          let same : cond (is_some (access_at (take (suc i) ps) loc)) 1 0 ≡ cond (is_some (access_at (take i ps) loc)) 1 0 = ap {B = ℕ} (λ found. cond (is_some found) 1 0) (so_far_other ps i p loc inside at differs) in
+          omega (arith, same, no_less loc, so_far loc)
+    ]
+
+-- ---- a number of each location, where one is changed
+
+number_grows : (f : Location → ℕ) (p : ℕ) (first : List ℕ) (locations : List Location) (old now : Location) → p < length locations → old ≡ get_or locations p old → f old ≤ f now → HaveNoLess first (map f locations) → HaveNoLess first (map f (set locations p now))
+number_grows f p first locations old now within here fits no_less loc =
+    let was : room_at (map f locations) p ≡ f old = number_there f locations p old within ∙ sym (ap f here) in
+    let changed : room_at first p ≤ room_at (map f (set locations p now)) p = omega (arith, was, fits, no_less p, number_changed f locations p now within) in
+    elim (cases_eq p loc) [
+      | inl same ↦ subst (λ n. room_at first n ≤ room_at (map f (set locations p now)) n) same changed
+      | inr differs ↦ omega (arith, no_less loc, number_other f locations p loc now differs)
     ]
 
 pub no_less_step : (p : ℕ) (first locations : List Location) (old now : Location) → p < length locations → old ≡ get_or locations p old → room_in old ≤ room_in now → HaveNoLess (rooms_of first) (rooms_of locations) → HaveNoLess (rooms_of first) (rooms_of (set locations p now))
-no_less_step p first locations old now within here fits no_less loc =
-    let was : room_at (rooms_of locations) p ≡ room_in old = room_there locations p old within ∙ sym (ap room_in here) in
-    let changed : room_at (rooms_of first) p ≤ room_at (rooms_of (set locations p now)) p = omega (arith, was, fits, no_less p, room_changed locations p now within) in
-    elim (cases_eq p loc) [
-      | inl same ↦ subst (λ n. room_at (rooms_of first) n ≤ room_at (rooms_of (set locations p now)) n) same changed
-      | inr differs ↦ omega (arith, no_less loc, room_other locations p loc now differs)
-    ]
+no_less_step p first = number_grows room_in p (rooms_of first)
+
+-- where a reservation made room for one more at a location, it has done so for no fewer anywhere
+pub reserved_step : (number p : ℕ) (first : List ℕ) (locations : List Location) (old now : Location) → p < length locations → old ≡ get_or locations p old → reserved_in number old + 1 ≤ reserved_in number now → HaveNoLess first (reserved_of number locations)
+    → (room_at first p + 1 ≤ room_at (reserved_of number (set locations p now)) p) × HaveNoLess first (reserved_of number (set locations p now))
+reserved_step number p first locations old now within here more no_less =
+    let was : room_at (reserved_of number locations) p ≡ reserved_in number old = number_there (reserved_in number) locations p old within ∙ sym (ap (reserved_in number) here) in
+    let changed : room_at (reserved_of number (set locations p now)) p ≡ reserved_in number now = number_changed (reserved_in number) locations p now within in
+    (omega (arith, was, changed, more, no_less p), number_grows (reserved_in number) p first locations old now within here (omega (arith, more)) no_less)
 
 pub again : {X : Type 0} (xs : List X) (i : ℕ) (d e : X) → i < length xs → get_or xs i d ≡ get_or xs i e
 again [] i d e inside = absurd (omega (arith, inside))

@@ -1,7 +1,9 @@
 -- Room for more nodes at the locations of sets.
-use Rattle.std.proofs.Common.{◌≡◌, ℕ, suc, ◌+◌, ◌-◌, ◌^◌, ◌<◌, ◌≤◌, ◌==◌, Bool, true, false, cond, refl, eqb-true, bit_and, List, [], ◌∷◌, ◌++◌, length, take, get_or, sym, subst, arith, ◌∙◌}
+use Rattle.std.specs.Prelude.{min}
+use Rattle.std.proofs.Common.{◌≡◌, ℕ, zero, suc, ◌+◌, ◌-◌, ◌^◌, ◌<◌, ◌≤◌, ◌==◌, Bool, true, false, cond, refl, eqb-true, bit_and, List, [], ◌∷◌, ◌++◌, length, map, take, get_or, arith, ◌∙◌, add-one, Result, Ok, Err, OnOk}
+use Rattle.std.proofs.Math.Nat.{min-le_right}
 use Rattle.std.proofs.lemmas.Nat.{and_mask}
-use Rattle.kdg_graph.proofs.Common.{AllByRecursion, take_more, Accesses, ids_left, HasRoom, HaveNoLess, HaveSameLanes, Location, room_at}
+use Rattle.kdg_graph.proofs.Common.{AllByRecursion, Accesses, ids_left, HasMoreFor, HasRoomFor, HasTakenFor, HaveNoLess, HaveSameLanes, Location, times_named, reserved_of, room_at, rooms_of}
 
 -- ---- each of several
 
@@ -9,39 +11,54 @@ pub all_mapped : {X : Type 0} (P Q : X → Type 0) (xs : List X) → ((x : X) �
 all_mapped P Q [] each all = tt
 all_mapped P Q (x ∷ xs) each all = (each x all.0, all_mapped P Q xs each all.1)
 
-pub all_joined : {X : Type 0} (P : X → Type 0) (xs : List X) (y : X) → AllByRecursion P xs → P y → AllByRecursion P (xs ++ y ∷ [])
-all_joined P [] y all one = (one, tt)
-all_joined P (x ∷ xs) y all one = (all.0, all_joined P xs y all.1 one)
+-- ---- room that is made for one set after another
 
--- one more of a list
-pub all_more : {X : Type 0} (P : X → Type 0) (xs : List X) (i : ℕ) (d : X) → i < length xs → AllByRecursion P (take i xs) → P (get_or xs i d) → AllByRecursion P (take (i + 1) xs)
-all_more P xs i d inside all one = subst (AllByRecursion P) (sym (take_more xs i d inside)) (all_joined P (take i xs) (get_or xs i d) all one)
+pub on_ok : {T E : Type 0} (P Q : Type 0) (r : Result T E) → (P → Q) → OnOk r P → OnOk r Q
+on_ok P Q (Ok x) step holds = step holds
+on_ok P Q (Err e) step holds = holds
 
--- ---- room that stays, and that is taken
+-- of several, one more names its locations
+named_more : {X : Type 0} (set_of : X → Accesses) (xs : List X) (i : ℕ) (d : X) (loc : ℕ) → i < length xs → times_named (map set_of (take (suc i) xs)) loc ≡ times_named (map set_of (take i xs)) loc + times_named (set_of (get_or xs i d) ∷ []) loc
+named_more set_of [] i d loc inside = absurd (omega (arith, inside))
+named_more set_of (x ∷ xs) zero d loc inside = omega arith
+named_more set_of (x ∷ xs) (suc i) d loc inside = omega (arith, named_more set_of xs i d loc (omega (arith, inside)))
 
-pub no_less_twice : (a b c : List ℕ) → HaveNoLess a b → HaveNoLess b c → HaveNoLess a c
-no_less_twice a b c first second loc = omega (arith, first loc, second loc)
+pub more_named : {X : Type 0} (set_of : X → Accesses) (xs : List X) (i : ℕ) (d : X) (first before after : List ℕ) → i < length xs → HasMoreFor (map set_of (take i xs)) first before → HasMoreFor (set_of (get_or xs i d) ∷ []) before after → HasMoreFor (map set_of (take (i + 1) xs)) first after
+more_named set_of xs i d first before after inside so_far one = rw add-one (λ loc. omega (arith, named_more set_of xs i d loc inside, so_far loc, one loc))
 
-pub room_kept : (count : ℕ) (set : Accesses) (before after : List ℕ) → HaveNoLess before after → HasRoom count set before → HasRoom count set after
-room_kept count [] before after no_less room = tt
-room_kept count (p ∷ set) before after no_less room = (omega (arith, room.0, no_less p.0), room_kept count set before after no_less room.1)
+pub named-append : (sets others : List Accesses) (loc : ℕ) → times_named (sets ++ others) loc ≡ times_named sets loc + times_named others loc
+named-append [] others loc = omega arith
+named-append (set ∷ sets) others loc = omega (arith, named-append sets others loc)
 
--- where so much was taken, that much more was needed
-pub room_left : (count needed taken : ℕ) (set : Accesses) (before after : List ℕ) → ((loc : ℕ) → room_at before loc ≤ room_at after loc + taken) → count + taken ≤ needed → HasRoom needed set before → HasRoom count set after
-room_left count needed taken [] before after less fits room = tt
-room_left count needed taken (p ∷ set) before after less fits room = (omega (arith, room.0, less p.0, fits), room_left count needed taken set before after less fits room.1)
+-- what a reservation made room for has room
+pub reserved_fits : (number : ℕ) (locations : List Location) (loc : ℕ) → room_at (reserved_of number locations) loc ≤ room_at (rooms_of locations) loc
+reserved_fits number [] loc = omega arith
+reserved_fits number (location ∷ locations) zero = fits _
+  where
+    fits : (test : Bool) → cond test (min location.reserved location.room) 0 ≤ location.room
+    fits true = min-le_right location.reserved location.room
+    fits false = omega arith
+reserved_fits number (location ∷ locations) (suc loc) = reserved_fits number locations loc
 
--- the same for each of several
-pub all_room : {X : Type 0} (set_of : X → Accesses) (count needed taken : ℕ) (xs : List X) (before after : List ℕ) → ((loc : ℕ) → room_at before loc ≤ room_at after loc + taken) → count + taken ≤ needed → AllByRecursion (λ x. HasRoom needed (set_of x) before) xs → AllByRecursion (λ x. HasRoom count (set_of x) after) xs
-all_room set_of count needed taken xs before after less fits all = all_mapped _ _ xs (λ x room. room_left count needed taken (set_of x) before after less fits room) all
+-- room that was made for sets is there for them
+pub room_for_all : (sets others : List Accesses) (number : ℕ) (first before : List ℕ) (locations : List Location) → HasMoreFor sets first before → HasMoreFor others before (reserved_of number locations) → HasRoomFor (sets ++ others) (rooms_of locations)
+room_for_all sets others number first before locations made more loc = omega (arith, named-append sets others loc, made loc, more loc, reserved_fits number locations loc)
+
+pub room_for : (sets : List Accesses) (number : ℕ) (first : List ℕ) (locations : List Location) → HasMoreFor sets first (reserved_of number locations) → HasRoomFor sets (rooms_of locations)
+room_for sets number first locations made loc = omega (arith, made loc, reserved_fits number locations loc)
+
+-- ---- room that is taken for one set after another
+
+pub first_room : (set : Accesses) (sets : List Accesses) (rooms : List ℕ) → HasRoomFor (set ∷ sets) rooms → HasRoomFor (set ∷ []) rooms
+first_room set sets rooms room loc = omega (arith, room loc)
 
 -- where one of them had its place, the others have room left
-pub all_left : {X : Type 0} (set_of : X → Accesses) (needed : ℕ) (xs : List X) (before after : List ℕ) → ((loc : ℕ) → room_at before loc ≤ room_at after loc + 1) → length xs + 1 ≤ needed → AllByRecursion (λ x. HasRoom needed (set_of x) before) xs
-    → AllByRecursion (λ x. HasRoom (length xs) (set_of x) after) xs
-all_left set_of needed xs before after less fits all = all_room set_of (length xs) needed 1 xs before after less fits all
+pub room_left : (set : Accesses) (sets : List Accesses) (before after : List ℕ) → HasRoomFor (set ∷ sets) before → HasTakenFor (set ∷ []) before after → HasRoomFor sets after
+room_left set sets before after room taken loc = omega (arith, room loc, taken loc)
 
-pub first_room : (others : ℕ) (set : Accesses) (rooms : List ℕ) → HasRoom (suc others) set rooms → HasRoom 1 set rooms
-first_room others set rooms room = room_left 1 (suc others) 0 set rooms rooms (λ loc. omega arith) (omega arith) room
+-- what all take is what those that are left take
+pub taken_left : (all : List Accesses) (set : Accesses) (sets : List Accesses) (first before after : List ℕ) → ((loc : ℕ) → room_at first loc + times_named (set ∷ sets) loc ≤ room_at before loc + times_named all loc) → HasTakenFor (set ∷ []) before after → (loc : ℕ) → room_at first loc + times_named sets loc ≤ room_at after loc + times_named all loc
+taken_left all set sets first before after so_far taken loc = omega (arith, so_far loc, taken loc)
 
 -- ---- the lanes
 

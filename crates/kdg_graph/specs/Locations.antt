@@ -1,5 +1,5 @@
 -- The nodes of each location, and which of them stand in the way of which.
-use Rattle.std.specs.Prelude.{◌≡◌, ℕ, zero, suc, ◌+◌, ◌-◌, ◌≤◌, Bool, false, min, if◌then◌else◌, List, [], ◌∷◌, length, map, Some, Contains}
+use Rattle.std.specs.Prelude.{◌≡◌, ◌==◌, ℕ, zero, suc, ◌+◌, ◌-◌, ◌≤◌, Bool, false, min, if◌then◌else◌, List, [], ◌∷◌, length, map, Some, is_some, Contains}
 use Rattle.std.specs.List.{AllByRecursion, filter}
 use Rattle.std.specs.Ordering.{is_lt}
 use Rattle.rw_sets.specs.declared.access.Access.{Access}
@@ -59,11 +59,13 @@ without_if test id nodes = if test then without id nodes else nodes
 
 -- ---- locations by their numbers
 
--- the ids that are kept at a location, of the nodes that name it and of those that write it, and for how many more there is room
+-- the ids that are kept at a location, of the nodes that name it and of those that write it, for how many more there is room, and for how many of them one reservation made it, which has a number
 pub record Location : Type 0 where
   pub named : List NodeId
   pub writers : List NodeId
   pub room : ℕ
+  pub reservation : ℕ
+  pub reserved : ℕ
 
 -- the ids of those that write it, which stand in a list of their own where some don't
 abbrev pub writers_in : Bool → List NodeId → List NodeId → List NodeId
@@ -112,9 +114,29 @@ room_at [] loc = zero
 room_at (room ∷ rooms) zero = room
 room_at (room ∷ rooms) (suc loc) = room_at rooms loc
 
--- at each location of the set there is room for so many more
-abbrev pub HasRoom : ℕ → Accesses → List ℕ → Type 0
-HasRoom count set rooms = AllByRecursion (λ p. count ≤ room_at rooms p.0) set
+-- for so many nodes the reservation with a number made room at a location
+abbrev pub reserved_in : ℕ → Location → ℕ
+reserved_in number location = if location.reservation == number then min location.reserved location.room else 0
+
+abbrev pub reserved_of : ℕ → List Location → List ℕ
+reserved_of number locations = map (reserved_in number) locations
+
+-- how many of the sets name a location
+abbrev pub times_named : List Accesses → ℕ → ℕ
+times_named [] loc = 0
+times_named (set ∷ sets) loc = (if is_some (access_at set loc) then 1 else 0) + times_named sets loc
+
+-- at each location there is room for as many more as sets name it
+abbrev pub HasRoomFor : List Accesses → List ℕ → Type 0
+HasRoomFor sets rooms = (loc : ℕ) → times_named sets loc ≤ room_at rooms loc
+
+-- at each location there is room for as many more than before as sets name it
+abbrev pub HasMoreFor : List Accesses → List ℕ → List ℕ → Type 0
+HasMoreFor sets before after = (loc : ℕ) → room_at before loc + times_named sets loc ≤ room_at after loc
+
+-- of the room at a location no more is taken than sets name it
+abbrev pub HasTakenFor : List Accesses → List ℕ → List ℕ → Type 0
+HasTakenFor sets before after = (loc : ℕ) → room_at before loc ≤ room_at after loc + times_named sets loc
 
 -- no location has less room
 abbrev pub HaveNoLess : List ℕ → List ℕ → Type 0

@@ -31,6 +31,13 @@ put_nodes (node ∷ new) nodes = put_nodes new (put_node node nodes)
 abbrev pub fresh_tasks : List Fresh → List Task
 fresh_tasks fresh = map (λ item. item.task) fresh
 
+-- the sets that are named, and those of the fresh tasks
+abbrev pub changed_sets : List SetChange → List Accesses
+changed_sets changes = map (λ change. change.set) changes
+
+abbrev pub fresh_sets : List Fresh → List Accesses
+fresh_sets fresh = map (λ item. item.set) fresh
+
 -- the fresh tasks as nodes, under these ids
 abbrev pub fresh_nodes : List NodeId → List Fresh → List Node
 fresh_nodes [] fresh = []

@@ -5,7 +5,7 @@ ghost use Rattle.rw_sets.specs.Accesses.{excludes};
 ghost use Rattle.kdg_graph.specs.Fronts.{BlocksNoneAlone};
 ghost use Rattle.kdg_graph.specs.Node.{Node};
 ghost use Rattle.kdg_graph.specs.Nodes.{HasNode, earlier_than, ids_of, node_at};
-ghost use Rattle.kdg_graph.specs.Locations.{IsLaneAmong, ids_for, put_if, room_in, without_if};
+ghost use Rattle.kdg_graph.specs.Locations.{IsLaneAmong, ids_for, put_if, reserved_in, room_in, without_if};
 
 use crate::NodeId;
 use crate::lane::Lane;
@@ -38,10 +38,13 @@ pub(crate) struct Location {
     /// Whether those that write stand in their own list.
     apart: bool,
     /// For at least how many more ids the list of all has room.
-    spare: u32,
+    spare: u16,
     /// For at least how many more the other list has room behind all that write, in whichever list these
     /// stand.
-    spare_writers: u32,
+    spare_writers: u16,
+    /// For how many nodes the reservation with this number made room.
+    reserved: u32,
+    reservation: u32,
 }
 
 impl Model for Location {
@@ -54,6 +57,8 @@ impl Model for Location {
       named = l.named.ids.items;
       writers = writers_in l.apart l.named.ids.items l.writers.ids.items;
       room = room_for_both l.named.ids.capacity l.named.ids.items l.writers.ids.capacity (writers_in l.apart l.named.ids.items l.writers.ids.items);
+      reservation = l.reservation;
+      reserved = l.reserved;
     } };
 
     ghost invariant = { λ l. AreLists l.named l.writers l.apart l.spare l.spare_writers };
@@ -71,6 +76,8 @@ impl Location {
             apart: false,
             spare: 0,
             spare_writers: 0,
+            reserved: 0,
+            reservation: 0,
         }
     }
 
@@ -86,39 +93,48 @@ impl Location {
         }
     }
 
-    /// Makes room for `additional` more nodes.
+    /// Makes room for one more node, besides those for which the reservation with this number made room
+    /// here before.
     #[inline(always)]
-    pub(crate) fn reserve(&mut self, additional: usize) -> Result<(), NoRoom>
-        ensures room { OnOk result (additional ≤ room_in self.new) }
-        ensures no_less { room_in self.old ≤ room_in self.new }
+    pub(crate) fn reserve(&mut self, reservation: u32) -> Result<(), NoRoom>
+        ensures room { OnOk result (reserved_in reservation self.old + 1 ≤ reserved_in reservation self.new) }
         ensures named { ids_for Write self.new ≡ ids_for Write self.old }
         ensures writers { ids_for Read self.new ≡ ids_for Read self.old }
     {
-        if additional <= self.spare as usize && additional <= self.spare_writers as usize {
-            return Ok(());
+        let before = if self.reservation == reservation {
+            self.reserved
+        } else {
+            0
+        };
+        let reserved = before.checked_add(1).ok_or(NoRoom)?;
+        if reserved > u32::from(self.spare) || reserved > u32::from(self.spare_writers) {
+            self.reserve_lists(reserved as usize)?;
         }
-        self.reserve_lists(additional)
+        self.reservation = reservation;
+        self.reserved = reserved;
+        Ok(())
     }
 
     /// Makes room for `additional` more nodes, where the counters may not tell that there is.
     #[inline(never)]
     fn reserve_lists(&mut self, additional: usize) -> Result<(), NoRoom>
         ensures room { OnOk result (additional ≤ room_in self.new) }
-        ensures no_less { room_in self.old ≤ room_in self.new }
+        ensures reservation { self.new.reservation ≡ self.old.reservation }
         ensures named { ids_for Write self.new ≡ ids_for Write self.old }
         ensures writers { ids_for Read self.new ≡ ids_for Read self.old }
     {
-        self.named.reserve(additional)?;
+        // Half as many more, so that room is seldom asked for.
+        let ahead = additional.saturating_add(additional / 2);
+        self.named.reserve(ahead)?;
         if self.apart {
-            self.writers.reserve(additional)?;
+            self.writers.reserve(ahead)?;
         } else {
-            let all = self.named.len().checked_add(additional).ok_or(NoRoom)?;
+            let all = self.named.len().checked_add(ahead).ok_or(NoRoom)?;
             self.writers.reserve(all)?;
         }
-        if let Ok(counted) = u32::try_from(additional) {
-            self.spare = counted;
-            self.spare_writers = counted;
-        }
+        let counted = u16::try_from(ahead).unwrap_or(u16::MAX);
+        self.spare = counted;
+        self.spare_writers = counted;
         Ok(())
     }
 
@@ -166,12 +182,12 @@ impl Location {
         ensures lanes { (other : Access) (some : List Node) → IsLaneAmong nodes.now.nodes some (ids_for other self.old) → ids_for other self.new ≡ ids_of (without_if (excludes other access) id some) }
         ensures no_less { room_in self.old ≤ room_in self.new }
     {
-        let fewer = u32::from(nodes.take_from(&mut self.named, id));
+        let fewer = u16::from(nodes.take_from(&mut self.named, id));
         self.spare = self.spare.saturating_add(fewer);
         if !self.apart {
             self.spare_writers = self.spare_writers.saturating_add(fewer);
         } else if access.is_write() {
-            let fewer = u32::from(nodes.take_from(&mut self.writers, id));
+            let fewer = u16::from(nodes.take_from(&mut self.writers, id));
             self.spare_writers = self.spare_writers.saturating_add(fewer);
         }
     }

@@ -1,4 +1,4 @@
-ghost use Rattle.std.specs.Prelude.{◌≡◌, ◌==◌, ◌-◌, ◌≤◌, ◌<◌, ◌+◌, ℕ, List, [], take, drop, filter, length, slice_get, slice_index_or, true, false, Some, OnOk, IfNone, IfSome};
+ghost use Rattle.std.specs.Prelude.{◌≡◌, ◌==◌, ◌-◌, ◌≤◌, ◌<◌, ◌+◌, ◌%◌, ◌^◌, ℕ, List, [], ◌∷◌, take, drop, filter, length, slice_get, slice_index_or, true, false, Some, OnOk, IfNone, IfSome};
 ghost use Rattle.std.specs.List.{AllByRecursion};
 ghost use Rattle.rw_sets.specs.declared.access.Access.TheVariants.{Read};
 ghost use Rattle.rw_sets.specs.Accesses.{access_at, conflicts_with};
@@ -8,7 +8,7 @@ ghost use Rattle.kdg_graph.specs.Nodes.{HasKey, HasNode, IsGraph, ids_of, least_
 ghost use Rattle.kdg_graph.specs.Edges.{is_blocked};
 ghost use Rattle.kdg_graph.specs.Fronts.{fronts_after};
 ghost use Rattle.kdg_graph.specs.Lanes.{IsRankPast};
-ghost use Rattle.kdg_graph.specs.Locations.{AreFiled, HasRoom, HaveNoLess, HaveSameLanes, IsLaneAmong, clashing_at, front_after, is_first_before, lane_of, room_at, rooms_of};
+ghost use Rattle.kdg_graph.specs.Locations.{AreFiled, HasMoreFor, HasRoomFor, HasTakenFor, HaveNoLess, HaveSameLanes, IsLaneAmong, clashing_at, front_after, is_first_before, lane_of, reserved_of, room_at, rooms_of};
 ghost use Rattle.kdg_graph.specs.Rewrite.{without};
 
 use crate::NodeId;
@@ -27,6 +27,9 @@ use task_order::Key;
 #[derive(Drop)]
 pub(crate) struct Locations {
     locations: Vec<Location>,
+    // the number of the last reservation; where it comes again, as the 2^32nd after one, room may be
+    // made for more nodes than come
+    reservation: u32,
 }
 
 impl Locations {
@@ -36,18 +39,29 @@ impl Locations {
     {
         Locations {
             locations: Vec::new(alloc),
+            reservation: 0,
         }
     }
 
-    /// Makes room for `additional` more nodes at each location of a set.
+    /// Begins another reservation, which has made room for no node so far.
     #[inline(always)]
-    pub(crate) fn reserve(&mut self, set: &RwSet, additional: usize) -> Result<(), NoRoom>
-        ensures room { OnOk result (HasRoom additional set.now (rooms_of self.new.locations.items)) }
-        ensures no_less { HaveNoLess (rooms_of self.old.locations.items) (rooms_of self.new.locations.items) }
+    pub(crate) fn begin_reservation(&mut self)
+        ensures locations { self.new.locations ≡ self.old.locations }
+        ensures number { self.new.reservation ≡ (self.old.reservation + 1) % 2 ^ 32 }
+    {
+        self.reservation = self.reservation.wrapping_add(1);
+    }
+
+    /// Makes room for one more node at each location of a set, besides those for which this reservation
+    /// made room before.
+    #[inline(always)]
+    pub(crate) fn reserve(&mut self, set: &RwSet) -> Result<(), NoRoom>
+        ensures room { OnOk result (HasMoreFor (set.now ∷ []) (reserved_of self.old.reservation self.old.locations.items) (reserved_of self.new.reservation self.new.locations.items)) }
+        ensures number { self.new.reservation ≡ self.old.reservation }
         ensures lanes { HaveSameLanes self.old.locations.items self.new.locations.items }
     {
         for pair in set.items() {
-            self.reserve_at(pair.0, additional)?;
+            self.reserve_at(pair.0)?;
         }
         Ok(())
     }
@@ -57,13 +71,13 @@ impl Locations {
     #[inline(always)]
     pub(crate) fn enter(&mut self, nodes: &OrderedNodes, id: NodeId) -> Neighbours
         requires there { HasNode nodes.now.nodes id }
-        requires room { IfSome (node_at nodes.now.nodes id) (λ node. HasRoom 1 node.set (rooms_of self.old.locations.items)) }
+        requires room { IfSome (node_at nodes.now.nodes id) (λ node. HasRoomFor (node.set ∷ []) (rooms_of self.old.locations.items)) }
         requires filed { AreFiled (without id nodes.now.nodes) self.old.locations.items }
         ensures filed { AreFiled nodes.now.nodes self.new.locations.items }
         ensures first { IfSome (node_at nodes.now.nodes id) (λ node. result.first ≡ true → is_blocked nodes.now.nodes node ≡ false) }
         ensures blocked { IfSome (node_at nodes.now.nodes id) (λ node. result.blocked ≡ true → is_blocked nodes.now.nodes node ≡ true) }
         ensures blocks_none { IfSome (node_at nodes.now.nodes id) (λ node. result.blocks_none ≡ true → AllByRecursion (λ other. is_blocked (without id nodes.now.nodes) other ≡ true) (fronts_after node.set node.task.key nodes.now.nodes)) }
-        ensures room { (loc : ℕ) → room_at (rooms_of self.old.locations.items) loc ≤ room_at (rooms_of self.new.locations.items) loc + 1 }
+        ensures room { IfSome (node_at nodes.now.nodes id) (λ node. HasTakenFor (node.set ∷ []) (rooms_of self.old.locations.items) (rooms_of self.new.locations.items)) }
     {
         conflict_laws();
         let _graph = nodes.len();
@@ -109,9 +123,9 @@ impl Locations {
     pub(crate) fn exchange(&mut self, nodes: &OrderedNodes, id: NodeId, before: &RwSet)
         requires there { HasNode nodes.now.nodes id }
         requires filed { IfSome (node_at nodes.now.nodes id) (λ node. AreFiledWith (without id nodes.now.nodes) node (access_at before.now) self.old.locations.items) }
-        requires room { IfSome (node_at nodes.now.nodes id) (λ node. HasRoom 1 node.set (rooms_of self.old.locations.items)) }
+        requires room { IfSome (node_at nodes.now.nodes id) (λ node. HasRoomFor (node.set ∷ []) (rooms_of self.old.locations.items)) }
         ensures filed { AreFiled nodes.now.nodes self.new.locations.items }
-        ensures room { (loc : ℕ) → room_at (rooms_of self.old.locations.items) loc ≤ room_at (rooms_of self.new.locations.items) loc + 1 }
+        ensures room { IfSome (node_at nodes.now.nodes id) (λ node. HasTakenFor (node.set ∷ []) (rooms_of self.old.locations.items) (rooms_of self.new.locations.items)) }
     {
         self.leave_lacking(nodes, id, before);
         self.enter_lacking(nodes, id, before);
@@ -139,9 +153,9 @@ impl Locations {
     fn enter_lacking(&mut self, nodes: &OrderedNodes, id: NodeId, before: &RwSet)
         requires there { HasNode nodes.now.nodes id }
         requires filed { IfSome (node_at nodes.now.nodes id) (λ node. AreFiledWith (without id nodes.now.nodes) node (midway before.now node.set []) self.old.locations.items) }
-        requires room { IfSome (node_at nodes.now.nodes id) (λ node. HasRoom 1 node.set (rooms_of self.old.locations.items)) }
+        requires room { IfSome (node_at nodes.now.nodes id) (λ node. HasRoomFor (node.set ∷ []) (rooms_of self.old.locations.items)) }
         ensures filed { AreFiled nodes.now.nodes self.new.locations.items }
-        ensures room { (loc : ℕ) → room_at (rooms_of self.old.locations.items) loc ≤ room_at (rooms_of self.new.locations.items) loc + 1 }
+        ensures room { IfSome (node_at nodes.now.nodes id) (λ node. HasTakenFor (node.set ∷ []) (rooms_of self.old.locations.items) (rooms_of self.new.locations.items)) }
     {
         let _graph = nodes.len();
         let node = nodes.entry(id);
@@ -418,21 +432,23 @@ impl Locations {
         }
     }
 
-    /// Makes room for `additional` more nodes at a location.
-    fn reserve_at(&mut self, loc: u32, additional: usize) -> Result<(), NoRoom>
-        ensures room { OnOk result (additional ≤ room_at (rooms_of self.new.locations.items) loc) }
-        ensures no_less { HaveNoLess (rooms_of self.old.locations.items) (rooms_of self.new.locations.items) }
+    /// Makes room for one more node at a location.
+    fn reserve_at(&mut self, loc: u32) -> Result<(), NoRoom>
+        ensures room { OnOk result (room_at (reserved_of self.old.reservation self.old.locations.items) loc + 1 ≤ room_at (reserved_of self.new.reservation self.new.locations.items) loc) }
+        ensures no_less { OnOk result (HaveNoLess (reserved_of self.old.reservation self.old.locations.items) (reserved_of self.new.reservation self.new.locations.items)) }
+        ensures number { self.new.reservation ≡ self.old.reservation }
         ensures lanes { HaveSameLanes self.old.locations.items self.new.locations.items }
     {
         let loc = loc as usize;
         self.reach(loc)?;
-        self.locations[loc].reserve(additional)
+        self.locations[loc].reserve(self.reservation)
     }
 
     /// Keeps each location up to one.
     fn reach(&mut self, loc: usize) -> Result<(), NoRoom>
         ensures reached { OnOk result (loc < length self.new.locations.items) }
-        ensures no_less { HaveNoLess (rooms_of self.old.locations.items) (rooms_of self.new.locations.items) }
+        ensures no_less { HaveNoLess (reserved_of self.old.reservation self.old.locations.items) (reserved_of self.new.reservation self.new.locations.items) }
+        ensures number { self.new.reservation ≡ self.old.reservation }
         ensures lanes { HaveSameLanes self.old.locations.items self.new.locations.items }
     {
         let alloc = *self.locations.allocator();

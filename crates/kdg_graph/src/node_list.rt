@@ -1,14 +1,14 @@
-ghost use Rattle.std.specs.Prelude.{◌≡◌, ◌+◌, ◌<◌, ◌≤◌, ℕ, [], ◌∷◌, Some, IfSome, OnOk, length};
+ghost use Rattle.std.specs.Prelude.{◌≡◌, ◌+◌, ◌<◌, ◌≤◌, ℕ, [], ◌∷◌, ◌++◌, Some, IfSome, OnOk, length};
 ghost use Rattle.std.specs.List.{AllByRecursion};
 ghost use Rattle.std.specs.Option.{option_map};
 ghost use Rattle.task_order.specs.TaskList.{IsNewKey};
 ghost use Rattle.kdg_graph.specs.Node.{new_node};
 ghost use Rattle.kdg_graph.specs.Nodes.{IsGraph, HasNode, ids_of, least_of, node_with_key, put_node, started, task_at, tasks_of};
 ghost use Rattle.kdg_graph.specs.Edges.{sources_of};
-ghost use Rattle.kdg_graph.specs.Locations.{AreFiled, HasRoom, HaveNoLess, room_at};
+ghost use Rattle.kdg_graph.specs.Locations.{AreFiled, HasRoomFor, HasTakenFor, HaveNoLess};
 ghost use Rattle.kdg_graph.specs.Kept.{IsOrder};
 ghost use Rattle.kdg_graph.specs.NodeStock.{places_in};
-ghost use Rattle.kdg_graph.specs.Rewrite.{AreAdded, AreOfOwnNodes, HaveNewKeys, without, with_sets};
+ghost use Rattle.kdg_graph.specs.Rewrite.{AreAdded, AreOfOwnNodes, HaveNewKeys, changed_sets, fresh_sets, without, with_sets};
 
 use crate::exchange::refresh_lacking;
 use crate::lane::Lane;
@@ -144,28 +144,28 @@ impl NodeList {
     /// Makes room for one more node with the set.
     pub(crate) fn reserve(&mut self, set: &RwSet) -> Result<(), NoRoom>
         ensures room { OnOk result (0 < self.new.room) }
-        ensures rooms { OnOk result (HasRoom 1 set.now self.new.rooms) }
+        ensures rooms { OnOk result (HasRoomFor (set.now ∷ []) self.new.rooms) }
         ensures nodes { self.new.nodes ≡ self.old.nodes }
     {
         self.reserve_nodes(1)?;
-        self.locations.reserve(set, 1)
+        self.locations.begin_reservation();
+        self.locations.reserve(set)
     }
 
-    /// Makes room for the changed sets and for the fresh nodes.
+    /// Makes room for the changed sets and for the fresh nodes: at each location for as many as name it.
     pub(crate) fn reserve_all(
         &mut self,
         changed: &[SetChange],
         fresh: &[Fresh],
     ) -> Result<(), NoRoom>
         ensures room { OnOk result (length fresh.now ≤ self.new.room) }
-        ensures changed { OnOk result (AllByRecursion (λ change. HasRoom (length changed.now + length fresh.now) change.set self.new.rooms) changed.now) }
-        ensures fresh { OnOk result (AllByRecursion (λ item. HasRoom (length changed.now + length fresh.now) item.set self.new.rooms) fresh.now) }
+        ensures rooms { OnOk result (HasRoomFor (changed_sets changed.now ++ fresh_sets fresh.now) self.new.rooms) }
         ensures nodes { self.new.nodes ≡ self.old.nodes }
     {
         self.reserve_nodes(fresh.len())?;
-        let coming = changed.len().checked_add(fresh.len()).ok_or(NoRoom)?;
-        reserve_changed(&mut self.locations, changed, coming)?;
-        reserve_fresh(&mut self.locations, fresh, coming)
+        self.locations.begin_reservation();
+        reserve_changed(&mut self.locations, changed)?;
+        reserve_fresh(&mut self.locations, fresh)
     }
 
     /// Makes room for `additional` more nodes, but at the locations of their sets.
@@ -214,12 +214,12 @@ impl NodeList {
     #[inline(always)]
     pub(crate) fn put(&mut self, task: Task, set: RwSet) -> NodeId
         requires room { 0 < self.old.room }
-        requires rooms { HasRoom 1 set self.old.rooms }
+        requires rooms { HasRoomFor (set ∷ []) self.old.rooms }
         requires new { IsNewKey task.key (tasks_of self.old.nodes) }
         ensures nodes { self.new.nodes ≡ put_node (new_node result task set) self.old.nodes }
         ensures there { HasNode self.new.nodes result }
         ensures room { self.old.room ≤ self.new.room + 1 }
-        ensures rooms { (loc : ℕ) → room_at self.old.rooms loc ≤ room_at self.new.rooms loc + 1 }
+        ensures rooms { HasTakenFor (set ∷ []) self.old.rooms self.new.rooms }
         ensures graph { IsGraph self.new.nodes }
     {
         self.spare = self.spare.saturating_sub(1);
@@ -263,10 +263,10 @@ impl NodeList {
     /// the set is the one that the node has.
     pub(crate) fn set_set(&mut self, id: NodeId, set: RwSet)
         requires there { HasNode self.old.nodes id }
-        requires rooms { HasRoom 1 set self.old.rooms }
+        requires rooms { HasRoomFor (set ∷ []) self.old.rooms }
         ensures nodes { self.new.nodes ≡ with_sets (record { node = id; set = set } ∷ []) self.old.nodes }
         ensures room { self.old.room ≤ self.new.room }
-        ensures rooms { (loc : ℕ) → room_at self.old.rooms loc ≤ room_at self.new.rooms loc + 1 }
+        ensures rooms { HasTakenFor (set ∷ []) self.old.rooms self.new.rooms }
         ensures graph { IsGraph self.new.nodes }
     {
         lookup_laws();
@@ -280,10 +280,10 @@ impl NodeList {
     /// of locations, and only the fronts there are tested again.
     fn exchange_set(&mut self, id: NodeId, set: RwSet)
         requires there { HasNode self.old.nodes id }
-        requires rooms { HasRoom 1 set self.old.rooms }
+        requires rooms { HasRoomFor (set ∷ []) self.old.rooms }
         ensures nodes { self.new.nodes ≡ with_sets (record { node = id; set = set } ∷ []) self.old.nodes }
         ensures room { self.old.room ≤ self.new.room }
-        ensures rooms { (loc : ℕ) → room_at self.old.rooms loc ≤ room_at self.new.rooms loc + 1 }
+        ensures rooms { HasTakenFor (set ∷ []) self.old.rooms self.new.rooms }
         ensures graph { IsGraph self.new.nodes }
     {
         self.sources.forget(&self.nodes, id);
@@ -314,11 +314,11 @@ impl NodeList {
     pub(crate) fn set_sets(&mut self, changes: Vec<SetChange>)
         requires there { AllByRecursion (λ change. HasNode self.old.nodes change.node) changes.items }
         requires own { AreOfOwnNodes changes.items }
-        requires rooms { AllByRecursion (λ change. HasRoom (length changes.items) change.set self.old.rooms) changes.items }
+        requires rooms { HasRoomFor (changed_sets changes.items) self.old.rooms }
         requires graph { IsGraph self.old.nodes }
         ensures nodes { self.new.nodes ≡ with_sets changes.items self.old.nodes }
         ensures room { self.old.room ≤ self.new.room }
-        ensures rooms { (loc : ℕ) → room_at self.old.rooms loc ≤ room_at self.new.rooms loc + length changes.items }
+        ensures rooms { HasTakenFor (changed_sets changes.items) self.old.rooms self.new.rooms }
         ensures graph { IsGraph self.new.nodes }
     {
         for change in changes {
@@ -330,7 +330,7 @@ impl NodeList {
     /// needs no memory.
     pub(crate) fn put_all(&mut self, fresh: &mut Vec<Fresh>)
         requires room { length fresh.old.items ≤ self.old.room }
-        requires rooms { AllByRecursion (λ item. HasRoom (length fresh.old.items) item.set self.old.rooms) fresh.old.items }
+        requires rooms { HasRoomFor (fresh_sets fresh.old.items) self.old.rooms }
         requires new { HaveNewKeys (tasks_of self.old.nodes) fresh.old.items }
         requires graph { IsGraph self.old.nodes }
         ensures none_left { fresh.new.items ≡ [] }

@@ -1,39 +1,34 @@
 ghost use Rattle.std.specs.Prelude.{◌≡◌, OnOk};
-ghost use Rattle.std.specs.List.{AllByRecursion};
-ghost use Rattle.kdg_graph.specs.Locations.{HasRoom, HaveNoLess, HaveSameLanes, rooms_of};
+ghost use Rattle.kdg_graph.specs.Locations.{HasMoreFor, HaveSameLanes, reserved_of};
+ghost use Rattle.kdg_graph.specs.Rewrite.{changed_sets, fresh_sets};
 
 use crate::locations::Locations;
 use crate::{Fresh, SetChange};
 use kdg_text::NoRoom;
 
-/// Makes room for `coming` more nodes at each location of the changed sets.
+/// Makes room for one more node for each changed set, at each of its locations.
 pub(crate) fn reserve_changed(
     locations: &mut Locations,
     changed: &[SetChange],
-    coming: usize,
 ) -> Result<(), NoRoom>
-    ensures room { OnOk result (AllByRecursion (λ change. HasRoom coming change.set (rooms_of locations.new.locations.items)) changed.now) }
-    ensures no_less { HaveNoLess (rooms_of locations.old.locations.items) (rooms_of locations.new.locations.items) }
+    ensures room { OnOk result (HasMoreFor (changed_sets changed.now) (reserved_of locations.old.reservation locations.old.locations.items) (reserved_of locations.new.reservation locations.new.locations.items)) }
+    ensures number { locations.new.reservation ≡ locations.old.reservation }
     ensures lanes { HaveSameLanes locations.old.locations.items locations.new.locations.items }
 {
     for change in changed {
-        locations.reserve(&change.set, coming)?;
+        locations.reserve(&change.set)?;
     }
     Ok(())
 }
 
-/// Makes room for `coming` more nodes at each location of the fresh sets.
-pub(crate) fn reserve_fresh(
-    locations: &mut Locations,
-    fresh: &[Fresh],
-    coming: usize,
-) -> Result<(), NoRoom>
-    ensures room { OnOk result (AllByRecursion (λ item. HasRoom coming item.set (rooms_of locations.new.locations.items)) fresh.now) }
-    ensures no_less { HaveNoLess (rooms_of locations.old.locations.items) (rooms_of locations.new.locations.items) }
+/// Makes room for one more node for each fresh set, at each of its locations.
+pub(crate) fn reserve_fresh(locations: &mut Locations, fresh: &[Fresh]) -> Result<(), NoRoom>
+    ensures room { OnOk result (HasMoreFor (fresh_sets fresh.now) (reserved_of locations.old.reservation locations.old.locations.items) (reserved_of locations.new.reservation locations.new.locations.items)) }
+    ensures number { locations.new.reservation ≡ locations.old.reservation }
     ensures lanes { HaveSameLanes locations.old.locations.items locations.new.locations.items }
 {
     for item in fresh {
-        locations.reserve(&item.set, coming)?;
+        locations.reserve(&item.set)?;
     }
     Ok(())
 }

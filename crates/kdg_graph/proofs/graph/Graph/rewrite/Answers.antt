@@ -1,7 +1,7 @@
-use Rattle.std.proofs.Common.{rules, ◌≡◌, ◌∙◌, ℕ, ◌+◌, length, arith, List, Some, ap, subst, sym}
-use Rattle.kdg_graph.proofs.Common.{AllByRecursion, Task, tasks_without_key, SetChange, Fresh, Node, HasNode, IsGraph, task_at, tasks_of, HaveNewKeys, without, HasRoom}
+use Rattle.std.proofs.Common.{rules, ◌≡◌, ◌∙◌, ℕ, ◌++◌, arith, List, Some, ap, subst, sym}
+use Rattle.kdg_graph.proofs.Common.{AllByRecursion, Task, tasks_without_key, SetChange, Fresh, Node, HasNode, IsGraph, task_at, tasks_of, HaveNewKeys, without, HasRoomFor, changed_sets, fresh_sets}
 use Rattle.kdg_graph.proofs.Rewrites.{all_have_without, new_without, tasks-with_sets, tasks-without}
-use Rattle.kdg_graph.proofs.Rooms.{all_room}
+use Rattle.kdg_graph.proofs.Rooms.{named-append}
 use Rattle.kdg_graph.proofs.graph.Graph.rewrite.Goals as goal
 
 pub set_sets-requires-clause-there : goal.set_sets-requires-clause-there
@@ -22,22 +22,22 @@ put_all-requires-clause-new c =
     ∙ tasks-without c.args.ended old c.remove-task.result graph task in
     subst (λ (l : List Task). HaveNewKeys l c.args.fresh.now.items) (sym left) (new_without c.remove-task.result.key c.args.fresh.now.items (tasks_of old) c.requires.new)
 
+-- what was made room for has room before the sets change
+made : (changed : List SetChange) (fresh : List Fresh) (shown : List SetChange) (others : List Fresh) (rooms : List ℕ) → shown ≡ changed → others ≡ fresh → HasRoomFor (changed_sets shown ++ fresh_sets others) rooms → HasRoomFor (changed_sets changed ++ fresh_sets fresh) rooms
+made changed fresh shown others rooms is are room = subst (λ (l : List SetChange). HasRoomFor (changed_sets l ++ fresh_sets fresh) rooms) is (subst (λ (l : List Fresh). HasRoomFor (changed_sets shown ++ fresh_sets l) rooms) are room)
+
 pub set_sets-requires-clause-rooms : goal.set_sets-requires-clause-rooms
-set_sets-requires-clause-rooms c =
+set_sets-requires-clause-rooms c loc =
     let changed : List SetChange = c.args.changed.items in
-    let rooms : List ℕ = c.reserve_all.new.self.rooms in
-    let reserved : AllByRecursion (λ (x : SetChange). HasRoom (length c.deref.result.now + length c.deref-2.result.now) x.set rooms) c.deref.result.now = search rules in
-    let all : AllByRecursion (λ (x : SetChange). HasRoom (length changed + length c.args.fresh.now.items) x.set rooms) changed =
-    subst (λ (l : List SetChange). AllByRecursion (λ (x : SetChange). HasRoom (length l + length c.args.fresh.now.items) x.set rooms) l) c.deref.ensures.value
-    (subst (λ (l : List Fresh). AllByRecursion (λ (x : SetChange). HasRoom (length c.deref.result.now + length l) x.set rooms) c.deref.result.now) c.deref-2.ensures.value reserved) in
-    all_room (λ (x : SetChange). x.set) (length changed) (length changed + length c.args.fresh.now.items) 0 changed rooms c.remove-task.new.self.rooms (λ loc. omega (arith, c.remove-task.ensures.rooms loc)) (omega arith) all
+    let fresh : List Fresh = c.args.fresh.now.items in
+    let shown : HasRoomFor (changed_sets c.deref.result.now ++ fresh_sets c.deref-2.result.now) c.reserve_all.new.self.rooms = search rules in
+    let reserved = made changed fresh c.deref.result.now c.deref-2.result.now c.reserve_all.new.self.rooms c.deref.ensures.value c.deref-2.ensures.value shown in
+    omega (arith, reserved loc, named-append (changed_sets changed) (fresh_sets fresh) loc, c.remove-task.ensures.rooms loc)
 
 pub put_all-requires-clause-rooms : goal.put_all-requires-clause-rooms
-put_all-requires-clause-rooms c =
+put_all-requires-clause-rooms c loc =
+    let changed : List SetChange = c.args.changed.items in
     let fresh : List Fresh = c.args.fresh.now.items in
-    let rooms : List ℕ = c.reserve_all.new.self.rooms in
-    let reserved : AllByRecursion (λ (x : Fresh). HasRoom (length c.deref.result.now + length c.deref-2.result.now) x.set rooms) c.deref-2.result.now = search rules in
-    let all : AllByRecursion (λ (x : Fresh). HasRoom (length c.args.changed.items + length fresh) x.set rooms) fresh =
-    subst (λ (l : List SetChange). AllByRecursion (λ (x : Fresh). HasRoom (length l + length fresh) x.set rooms) fresh) c.deref.ensures.value
-    (subst (λ (l : List Fresh). AllByRecursion (λ (x : Fresh). HasRoom (length c.deref.result.now + length l) x.set rooms) l) c.deref-2.ensures.value reserved) in
-    all_room (λ (x : Fresh). x.set) (length fresh) (length c.args.changed.items + length fresh) (length c.args.changed.items) fresh rooms c.set_sets.new.self.rooms (λ loc. omega (arith, c.remove-task.ensures.rooms loc, c.set_sets.ensures.rooms loc)) (omega arith) all
+    let shown : HasRoomFor (changed_sets c.deref.result.now ++ fresh_sets c.deref-2.result.now) c.reserve_all.new.self.rooms = search rules in
+    let reserved = made changed fresh c.deref.result.now c.deref-2.result.now c.reserve_all.new.self.rooms c.deref.ensures.value c.deref-2.ensures.value shown in
+    omega (arith, reserved loc, named-append (changed_sets changed) (fresh_sets fresh) loc, c.remove-task.ensures.rooms loc, c.set_sets.ensures.rooms loc)

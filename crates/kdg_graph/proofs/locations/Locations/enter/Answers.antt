@@ -1,7 +1,7 @@
-use Rattle.std.proofs.Common.{rules, ◌≡◌, ◌≢◌, inl, inr, ℕ, ◌+◌, ◌<◌, ◌≤◌, ◌∙◌, List, [], Option, Some, true, false, true≢false, add-one, ap, arith, below_more, get_or, length, set, suc, subst, sym, take, take_all, Contains, IfSome}
-use Rattle.kdg_graph.proofs.Common.{and_parts, or_cases, AllByRecursion, Access, Read, Write, Accesses, IsAscendingSet, access_at, is_blocked, BlocksNoneAlone, fronts_after, AreFiledWith, HasRoom, IsLaneAmong, clashing_at, ids_for, room_at, room_in, rooms_of, Node, earlier_than, node_at, without}
+use Rattle.std.proofs.Common.{rules, ◌≡◌, ◌≢◌, inl, inr, ℕ, ◌+◌, ◌<◌, ◌≤◌, ◌∙◌, ◌∷◌, List, [], Option, Some, true, false, true≢false, add-one, ap, arith, below_more, get_or, length, set, suc, subst, sym, take, take_all, Contains, IfSome}
+use Rattle.kdg_graph.proofs.Common.{and_parts, or_cases, AllByRecursion, Access, Read, Write, Accesses, IsAscendingSet, access_at, is_blocked, BlocksNoneAlone, fronts_after, AreFiledWith, HasRoomFor, HasTakenFor, IsLaneAmong, clashing_at, ids_for, room_at, room_in, rooms_of, Node, earlier_than, node_at, without}
 use Rattle.kdg_graph.proofs.Arriving.{blocked_by_earlier, each_pair, first_unblocked, fronts_blocked}
-use Rattle.kdg_graph.proofs.Filing.{again, entered_there, filed_own, for_found, not_before, others_there, room_next, room_step, room_there, so_far_here, so_far_other, within_room}
+use Rattle.kdg_graph.proofs.Filing.{again, entered_there, filed_own, for_found, not_before, others_there, room_next, room_step, room_there, so_far_here, so_far_other, taken_whole, within_room}
 use Rattle.kdg_graph.proofs.Selecting.{at_some}
 use Rattle.kdg_graph.proofs.locations.Locations.enter.Goals as goal
 
@@ -23,8 +23,8 @@ index_mut-requires c =
     let i : ℕ = c.loop-pair.pair-index in
     let p : ℕ × Access = get_or ps i (0, Read) in
     let at : p ≡ get_or ps i p = again ps i (0, Read) p c.loop-pair-test.true in
-    let all : HasRoom 1 node.set (rooms_of c.args.self.now.locations.items) = subst (λ (o : Option Node). IfSome o (λ (n : Node). HasRoom 1 n.set (rooms_of c.args.self.now.locations.items))) found c.requires.room in
-    let own : HasRoom 1 ps (rooms_of c.args.self.now.locations.items) = subst (λ (l : Accesses). HasRoom 1 l (rooms_of c.args.self.now.locations.items)) (sym c.items-pair-items.ensures.all) all in
+    let all : HasRoomFor (node.set ∷ []) (rooms_of c.args.self.now.locations.items) = subst (λ (o : Option Node). IfSome o (λ (n : Node). HasRoomFor (n.set ∷ []) (rooms_of c.args.self.now.locations.items))) found c.requires.room in
+    let own : HasRoomFor (ps ∷ []) (rooms_of c.args.self.now.locations.items) = subst (λ (l : Accesses). HasRoomFor (l ∷ []) (rooms_of c.args.self.now.locations.items)) (sym c.items-pair-items.ensures.all) all in
     let within = within_room c.loop-pair.self.locations.items p.0 (room_next ps i p c.args.self.now.locations.items c.loop-pair.self.locations.items up c.loop-pair-test.true at own c.loop-pair.invariant.room) in
     search (rules, within)
 
@@ -37,8 +37,8 @@ enter-here-requires-clause-room c =
     let i : ℕ = c.loop-pair.pair-index in
     let p : ℕ × Access = get_or ps i (0, Read) in
     let at : p ≡ get_or ps i p = again ps i (0, Read) p c.loop-pair-test.true in
-    let all : HasRoom 1 node.set (rooms_of c.args.self.now.locations.items) = subst (λ (o : Option Node). IfSome o (λ (n : Node). HasRoom 1 n.set (rooms_of c.args.self.now.locations.items))) found c.requires.room in
-    let own : HasRoom 1 ps (rooms_of c.args.self.now.locations.items) = subst (λ (l : Accesses). HasRoom 1 l (rooms_of c.args.self.now.locations.items)) (sym c.items-pair-items.ensures.all) all in
+    let all : HasRoomFor (node.set ∷ []) (rooms_of c.args.self.now.locations.items) = subst (λ (o : Option Node). IfSome o (λ (n : Node). HasRoomFor (n.set ∷ []) (rooms_of c.args.self.now.locations.items))) found c.requires.room in
+    let own : HasRoomFor (ps ∷ []) (rooms_of c.args.self.now.locations.items) = subst (λ (l : Accesses). HasRoomFor (l ∷ []) (rooms_of c.args.self.now.locations.items)) (sym c.items-pair-items.ensures.all) all in
     let now : 1 ≤ room_at (rooms_of c.loop-pair.self.locations.items) p.0 = room_next ps i p c.args.self.now.locations.items c.loop-pair.self.locations.items up c.loop-pair-test.true at own c.loop-pair.invariant.room in
     let within = within_room c.loop-pair.self.locations.items p.0 now in
     omega (arith, now, room_there c.loop-pair.self.locations.items p.0 c.index_mut.result.now within, ap room_in c.index_mut.ensures.value)
@@ -54,8 +54,8 @@ loop-pair-preserved c =
     let inside : i < length ps = c.loop-pair-test.true in
     let p : ℕ × Access = get_or ps i (0, Read) in
     let at : p ≡ get_or ps i p = again ps i (0, Read) p inside in
-    let all : HasRoom 1 node.set (rooms_of c.args.self.now.locations.items) = subst (λ (o : Option Node). IfSome o (λ (n : Node). HasRoom 1 n.set (rooms_of c.args.self.now.locations.items))) found c.requires.room in
-    let own : HasRoom 1 ps (rooms_of c.args.self.now.locations.items) = subst (λ (l : Accesses). HasRoom 1 l (rooms_of c.args.self.now.locations.items)) (sym c.items-pair-items.ensures.all) all in
+    let all : HasRoomFor (node.set ∷ []) (rooms_of c.args.self.now.locations.items) = subst (λ (o : Option Node). IfSome o (λ (n : Node). HasRoomFor (n.set ∷ []) (rooms_of c.args.self.now.locations.items))) found c.requires.room in
+    let own : HasRoomFor (ps ∷ []) (rooms_of c.args.self.now.locations.items) = subst (λ (l : Accesses). HasRoomFor (l ∷ []) (rooms_of c.args.self.now.locations.items)) (sym c.items-pair-items.ensures.all) all in
     let within = within_room c.loop-pair.self.locations.items p.0 (room_next ps i p c.args.self.now.locations.items c.loop-pair.self.locations.items up inside at own c.loop-pair.invariant.room) in
     let others : List Node = clashing_at p.0 Write (without c.args.id nodes) in
     let among : IsLaneAmong nodes others (ids_for Write c.index_mut.result.now) =
@@ -124,3 +124,13 @@ returns-clause-blocks_none c =
     let none : ℕ × Access → Type 0 = λ p. BlocksNoneAlone p.1 node.task.key (clashing_at p.0 Write others) (clashing_at p.0 Read others) in
     subst (λ (o : Option Node). IfSome o (λ (n : Node). c.loop-pair.blocks_none ≡ true → AllByRecursion (λ other. is_blocked others other ≡ true) (fronts_after n.set n.task.key nodes))) (sym found) (λ is.
     fronts_blocked c.conflict_laws.ensures.decided nodes c.args.id node c.len-graph.ensures.graph found (each_pair none c.items-pair-items.result.now node.set c.loop-pair.pair-index c.items-pair-items.ensures.all end (c.loop-pair.invariant.blocks_none node found is)))
+
+pub returns-clause-room : goal.returns-clause-room
+returns-clause-room c =
+    let node : Node = record { id = c.node.inside.id; task = c.node.inside.task; set = c.node.inside.set; running = c.node.inside.running } in
+    let found : node_at c.args.nodes.now.nodes c.args.id ≡ Some node = c.entry-node.ensures ∙ ap (λ (n : Node). Some n) (sym c.node.view_is) in
+    let whole = take_all c.loop-pair.pair-index c.items-pair-items.result.now (omega (arith, c.loop-pair-test.false)) ∙ c.items-pair-items.ensures.all in
+    let first : List ℕ = rooms_of c.args.self.now.locations.items in
+    let last : List ℕ = rooms_of c.loop-pair.self.locations.items in
+    subst (λ (o : Option Node). IfSome o (λ (n : Node). HasTakenFor (n.set ∷ []) first last)) (sym found)
+    (taken_whole (take c.loop-pair.pair-index c.items-pair-items.result.now) node.set first last whole c.loop-pair.invariant.room)

@@ -1,6 +1,6 @@
-use Rattle.std.proofs.Common.{rules, ◌≡◌, ◌+◌, ◌<◌, ◌≤◌, ◌∙◌, ℕ, List, Option, Some, true, false, add-one, ap, arith, get_or, length, set, suc, subst, sym, take, IfSome}
-use Rattle.kdg_graph.proofs.Common.{take-length, Access, Read, Accesses, IsAscendingSet, access_at, AreFiledWith, is_same, midway, HasRoom, room_at, room_in, rooms_of, Node, node_at, without}
-use Rattle.kdg_graph.proofs.Filing.{entered_as_was, entered_elsewhere, entered_had, entered_has, entered_there, filed_as, filed_own, for_found, midway_last, room_passed, still_beside, again, room_next, room_step, room_there, within_room}
+use Rattle.std.proofs.Common.{rules, ◌≡◌, ◌+◌, ◌<◌, ◌≤◌, ◌∙◌, ◌∷◌, [], ℕ, List, Option, Some, true, false, add-one, ap, arith, get_or, length, set, suc, subst, sym, take, take_all, IfSome}
+use Rattle.kdg_graph.proofs.Common.{take-length, Access, Read, Accesses, IsAscendingSet, access_at, AreFiledWith, is_same, midway, HasRoomFor, HasTakenFor, room_at, room_in, rooms_of, Node, node_at, without}
+use Rattle.kdg_graph.proofs.Filing.{entered_as_was, entered_elsewhere, entered_had, entered_has, entered_there, filed_as, filed_own, for_found, midway_last, room_passed, still_beside, again, room_next, room_step, room_there, taken_whole, within_room}
 use Rattle.kdg_graph.proofs.locations.Locations.enter_lacking.Goals.{Else-has}
 use Rattle.kdg_graph.proofs.locations.Locations.enter_lacking.Goals as goal
 
@@ -37,8 +37,8 @@ next c =
     let p : ℕ × Access = get_or ps c.loop-pair.pair-index (0, Read) in
     let first = c.args.self.now.locations.items in
     let up : IsAscendingSet ps = subst IsAscendingSet (sym c.items-pair-items.ensures.all) c.items-pair-items.ensures.ascending in
-    let all : HasRoom 1 held.set (rooms_of first) = subst (λ (o : Option Node). IfSome o (λ (n : Node). HasRoom 1 n.set (rooms_of first))) found c.requires.room in
-    let own : HasRoom 1 ps (rooms_of first) = subst (λ (l : Accesses). HasRoom 1 l (rooms_of first)) (sym c.items-pair-items.ensures.all) all in
+    let all : HasRoomFor (held.set ∷ []) (rooms_of first) = subst (λ (o : Option Node). IfSome o (λ (n : Node). HasRoomFor (n.set ∷ []) (rooms_of first))) found c.requires.room in
+    let own : HasRoomFor (ps ∷ []) (rooms_of first) = subst (λ (l : Accesses). HasRoomFor (l ∷ []) (rooms_of first)) (sym c.items-pair-items.ensures.all) all in
     room_next ps c.loop-pair.pair-index p first c.loop-pair.self.locations.items up c.loop-pair-test.true (again ps c.loop-pair.pair-index (0, Read) p c.loop-pair-test.true) own c.loop-pair.invariant.room
 
 pub index_mut-requires : goal.index_mut-requires
@@ -91,3 +91,13 @@ returns-clause-filed c =
     let whole : take c.loop-pair.pair-index held.set ≡ held.set = ap (λ n. take n held.set) end ∙ take-length held.set in
     filed_own c.args.nodes.now.nodes c.args.id held c.loop-pair.self.locations.items c.len-graph.ensures.graph found
     (filed_as (without c.args.id c.args.nodes.now.nodes) held (midway c.args.before.now held.set (take c.loop-pair.pair-index held.set)) (access_at held.set) c.loop-pair.self.locations.items (λ loc. ap (λ (l : Accesses). midway c.args.before.now held.set l loc) whole ∙ midway_last c.args.before.now held.set loc) (c.loop-pair.invariant.filed held found))
+
+pub returns-clause-room : goal.returns-clause-room
+returns-clause-room c =
+    let held : Node = record { id = c.node.inside.id; task = c.node.inside.task; set = c.node.inside.set; running = c.node.inside.running } in
+    let found : node_at c.args.nodes.now.nodes c.args.id ≡ Some held = c.entry-node.ensures ∙ ap (λ (n : Node). Some n) (sym c.node.view_is) in
+    let whole = take_all c.loop-pair.pair-index c.items-pair-items.result.now (omega (arith, c.loop-pair-test.false)) ∙ c.items-pair-items.ensures.all in
+    let first : List ℕ = rooms_of c.args.self.now.locations.items in
+    let last : List ℕ = rooms_of c.loop-pair.self.locations.items in
+    subst (λ (o : Option Node). IfSome o (λ (n : Node). HasTakenFor (n.set ∷ []) first last)) (sym found)
+    (taken_whole (take c.loop-pair.pair-index c.items-pair-items.result.now) held.set first last whole c.loop-pair.invariant.room)

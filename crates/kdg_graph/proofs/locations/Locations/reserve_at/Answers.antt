@@ -1,15 +1,14 @@
-use Rattle.std.proofs.Common.{◌≡◌, ◌≤◌, ◌∙◌, List, ap, inl, inr, subst, sym, set, OnOk}
-use Rattle.kdg_graph.proofs.Common.{cases_eq, Access, Read, Write, Location, ids_for, lane_of}
-use Rattle.kdg_graph.proofs.Filing.{no_less_step, lane_at, lane_changed, lane_other, room_changed}
+use Rattle.std.proofs.Common.{◌≡◌, ◌∙◌, List, ap, inl, inr, subst, sym, set}
+use Rattle.kdg_graph.proofs.Common.{cases_eq, Access, Read, Write, Location, ids_for, lane_of, reserved_of}
+use Rattle.kdg_graph.proofs.Filing.{lane_at, lane_changed, lane_other, reserved_step}
+use Rattle.kdg_graph.proofs.Rooms.{on_ok}
 use Rattle.kdg_graph.proofs.locations.Locations.reserve_at.Goals as goal
 
 pub returns-clause-room : goal.returns-clause-room
-returns-clause-room c =
-    subst (λ n. OnOk c.reserve.result (c.args.additional ≤ n)) (sym (room_changed c.reach.new.self.locations.items c.args.loc c.reserve.new.self c.in_ok-reach.ensures.reached)) c.reserve.ensures.room
+returns-clause-room c = on_ok _ _ c.reserve.result (λ more. (reserved_step c.reach.new.self.reservation c.args.loc (reserved_of c.args.self.now.reservation c.args.self.now.locations.items) c.reach.new.self.locations.items c.index_mut.result.now c.reserve.new.self c.in_ok-reach.ensures.reached c.index_mut.ensures.value more c.reach.ensures.no_less).0) c.reserve.ensures.room
 
 pub returns-clause-no_less : goal.returns-clause-no_less
-returns-clause-no_less c =
-    no_less_step c.args.loc c.args.self.now.locations.items c.reach.new.self.locations.items c.index_mut.result.now c.reserve.new.self c.in_ok-reach.ensures.reached c.index_mut.ensures.value c.reserve.ensures.no_less c.reach.ensures.no_less
+returns-clause-no_less c = on_ok _ _ c.reserve.result (λ more. (reserved_step c.reach.new.self.reservation c.args.loc (reserved_of c.args.self.now.reservation c.args.self.now.locations.items) c.reach.new.self.locations.items c.index_mut.result.now c.reserve.new.self c.in_ok-reach.ensures.reached c.index_mut.ensures.value more c.reach.ensures.no_less).1) c.reserve.ensures.room
 
 same_for : (before after : Location) (access : Access) → ids_for Write after ≡ ids_for Write before → ids_for Read after ≡ ids_for Read before → ids_for access after ≡ ids_for access before
 same_for before after Read named writers = writers

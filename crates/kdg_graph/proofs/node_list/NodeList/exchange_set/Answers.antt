@@ -1,10 +1,10 @@
 use Rattle.std.proofs.Common.{◌≡◌, ◌∙◌, ℕ, Bool, List, [], ◌∷◌, Option, Some, ap, length, refl, subst, sym, arith, IfSome, IsSome, option_map}
-use Rattle.kdg_graph.proofs.Common.{Accesses, access_at, SetChange, NodeId, Node, NodeStock, HasNode, ids_of, AreFiledWith, lacking, fronts_after, HasRoom, Location, rooms_of, without, AreSelected, is_unblocked, listed_in, refreshed, length-map, ids_in}
+use Rattle.kdg_graph.proofs.Common.{Accesses, access_at, SetChange, NodeId, Node, NodeStock, HasNode, ids_of, node_at, AreFiledWith, lacking, fronts_after, HasRoomFor, HasTakenFor, Location, rooms_of, without, AreSelected, is_unblocked, listed_in, refreshed, length-map, ids_in}
 use Rattle.kdg_graph.proofs.Keeping.{changed}
 use Rattle.kdg_graph.proofs.Filing.{filed_before}
 use Rattle.kdg_graph.proofs.Listed.{some_changed, listed_kept}
 use Rattle.kdg_graph.proofs.Ordered.{order_kept, places_kept}
-use Rattle.kdg_graph.proofs.Selecting.{but, found_node}
+use Rattle.kdg_graph.proofs.Selecting.{at_some, but, found_node}
 use Rattle.kdg_graph.proofs.Settling.{found_changed, ids-changed, select_but, select_left, settled_exchanged, without_changed}
 use Rattle.kdg_graph.proofs.node_list.NodeList.exchange_set.Goals as goal
 
@@ -30,8 +30,8 @@ pub exchange-requires-clause-room : goal.exchange-requires-clause-room
 exchange-requires-clause-room c =
     let gone = found_node c.self.inside.nodes.nodes c.args.id (subst (λ (stock : NodeStock). HasNode stock.nodes c.args.id) (sym c.self.view_is) c.requires.there) in
     let rooms : List ℕ = rooms_of c.self.inside.locations.locations.items in
-    let room : HasRoom 1 c.args.set rooms = subst (λ (stock : NodeStock). HasRoom 1 c.args.set stock.rooms) (sym c.self.view_is) c.requires.rooms in
-    subst (λ (o : Option Node). IfSome o (λ (n : Node). HasRoom 1 n.set rooms)) (sym (found_changed c.args.id gone.0 c.args.set c.self.inside.nodes.nodes c.set_set-before.new.self.nodes c.self.invariant.0.graph c.set_set-before.ensures.graph gone.1 c.set_set-before.ensures.nodes)) room
+    let room : HasRoomFor (c.args.set ∷ []) rooms = subst (λ (stock : NodeStock). HasRoomFor (c.args.set ∷ []) stock.rooms) (sym c.self.view_is) c.requires.rooms in
+    subst (λ (o : Option Node). IfSome o (λ (n : Node). HasRoomFor (n.set ∷ []) rooms)) (sym (found_changed c.args.id gone.0 c.args.set c.self.inside.nodes.nodes c.set_set-before.new.self.nodes c.self.invariant.0.graph c.set_set-before.ensures.graph gone.1 c.set_set-before.ensures.nodes)) room
 
 pub entry-node-requires : goal.entry-node-requires
 entry-node-requires c =
@@ -81,3 +81,15 @@ invariant_of-self c =
         room = omega (arith, spare.room, long, c.forget.ensures.room, c.refresh.ensures.room, c.refresh_lacking.ensures.room, c.refresh_lacking-2.ensures.room);
       },
     )
+
+pub returns-clause-rooms : goal.returns-clause-rooms
+returns-clause-rooms c =
+    let nodes : List Node = c.self.inside.nodes.nodes in
+    let now : List Node = c.set_set-before.new.self.nodes in
+    let gone = found_node nodes c.args.id (subst (λ (stock : NodeStock). HasNode stock.nodes c.args.id) (sym c.self.view_is) c.requires.there) in
+    let its : Node = record gone.0 { set = c.args.set } in
+    let before : List ℕ = rooms_of c.self.inside.locations.locations.items in
+    let after : List ℕ = rooms_of c.exchange.new.self.locations.items in
+    let found = found_changed c.args.id gone.0 c.args.set nodes now c.self.invariant.0.graph c.set_set-before.ensures.graph gone.1 c.set_set-before.ensures.nodes in
+    let taken : HasTakenFor (c.args.set ∷ []) before after = at_some (λ (n : Node). HasTakenFor (n.set ∷ []) before after) (node_at now c.args.id) its found c.exchange.ensures.room in
+    subst (λ (stock : NodeStock). HasTakenFor (c.args.set ∷ []) stock.rooms after) c.self.view_is taken

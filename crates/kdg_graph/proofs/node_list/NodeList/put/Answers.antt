@@ -1,5 +1,5 @@
-use Rattle.std.proofs.Common.{◌≡◌, ◌<◌, ◌≤◌, ◌∙◌, Bool, true, false, List, [], ◌∷◌, Option, ap, length, subst, sym, arith, IfSome}
-use Rattle.kdg_graph.proofs.Common.{AllByRecursion, NodeId, Node, new_node, NodeStock, HaveOwnIds, ids_of, node_at, is_blocked, IsOrder, fronts_after, AreFiled, HasRoom, rooms_of, without, AreSelected, forgotten, is_unblocked, listed_in, refreshed}
+use Rattle.std.proofs.Common.{◌≡◌, ◌<◌, ◌≤◌, ◌∙◌, ℕ, Bool, true, false, List, [], ◌∷◌, Option, ap, length, subst, sym, arith, IfSome}
+use Rattle.kdg_graph.proofs.Common.{AllByRecursion, NodeId, Node, new_node, NodeStock, HaveOwnIds, ids_of, node_at, is_blocked, IsOrder, fronts_after, AreFiled, HasRoomFor, HasTakenFor, rooms_of, without, AreSelected, forgotten, is_unblocked, listed_in, refreshed}
 use Rattle.kdg_graph.proofs.Listed.{listed_put, some_put}
 use Rattle.kdg_graph.proofs.LookUps.{ids_find_nodes}
 use Rattle.kdg_graph.proofs.Ordered.{place_left}
@@ -10,8 +10,8 @@ use Rattle.kdg_graph.proofs.node_list.NodeList.put.Goals as goal
 pub enter-known-requires-clause-room : goal.enter-known-requires-clause-room
 enter-known-requires-clause-room c =
     let node : Node = new_node c.put-id.result c.args.task c.args.set in
-    let room : HasRoom 1 c.args.set (rooms_of c.self.inside.locations.locations.items) = subst (λ (stock : NodeStock). HasRoom 1 c.args.set stock.rooms) (sym c.self.view_is) c.requires.rooms in
-    subst (λ (o : Option Node). IfSome o (λ (n : Node). HasRoom 1 n.set (rooms_of c.self.inside.locations.locations.items))) (sym (found_put node c.self.inside.nodes.nodes c.put-id.new.self.nodes c.put-id.ensures.nodes c.put-id.ensures.graph)) room
+    let room : HasRoomFor (c.args.set ∷ []) (rooms_of c.self.inside.locations.locations.items) = subst (λ (stock : NodeStock). HasRoomFor (c.args.set ∷ []) stock.rooms) (sym c.self.view_is) c.requires.rooms in
+    subst (λ (o : Option Node). IfSome o (λ (n : Node). HasRoomFor (n.set ∷ []) (rooms_of c.self.inside.locations.locations.items))) (sym (found_put node c.self.inside.nodes.nodes c.put-id.new.self.nodes c.put-id.ensures.nodes c.put-id.ensures.graph)) room
 
 pub enter-known-requires-clause-filed : goal.enter-known-requires-clause-filed
 enter-known-requires-clause-filed c =
@@ -75,3 +75,13 @@ enter_order-requires-clause-others c =
 pub enter_order-requires-clause-room : goal.enter_order-requires-clause-room
 enter_order-requires-clause-room c =
     place_left c.self.inside.order c.self.inside.nodes.numbers (omega (arith, c.requires.room, ap (λ (stock : NodeStock). stock.room) c.self.view_is, c.self.invariant.2.places))
+
+pub returns-clause-rooms : goal.returns-clause-rooms
+returns-clause-rooms c =
+    let nodes : List Node = c.self.inside.nodes.nodes in
+    let now : List Node = c.put-id.new.self.nodes in
+    let node : Node = new_node c.put-id.result c.args.task c.args.set in
+    let before : List ℕ = rooms_of c.self.inside.locations.locations.items in
+    let after : List ℕ = rooms_of c.enter-known.new.self.locations.items in
+    let taken : HasTakenFor (c.args.set ∷ []) before after = at_some (λ (n : Node). HasTakenFor (n.set ∷ []) before after) (node_at now c.put-id.result) node (found_put node nodes now c.put-id.ensures.nodes c.put-id.ensures.graph) c.enter-known.ensures.room in
+    subst (λ (stock : NodeStock). HasTakenFor (c.args.set ∷ []) stock.rooms after) c.self.view_is taken

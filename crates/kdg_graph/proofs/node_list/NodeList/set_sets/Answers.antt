@@ -1,7 +1,7 @@
-use Rattle.std.proofs.Common.{◌≡◌, ◌∷◌, [], ◌∙◌, List, ap, subst, sym, length, arith}
-use Rattle.kdg_graph.proofs.Common.{AllByRecursion, into_iter_items, SetChange, Node, HasNode, AreOfOwnNodes, with_sets, HasRoom}
+use Rattle.std.proofs.Common.{◌≡◌, ◌+◌, ◌≤◌, ◌∷◌, [], ◌∙◌, ℕ, List, ap, subst, sym, length, arith}
+use Rattle.kdg_graph.proofs.Common.{AllByRecursion, into_iter_items, SetChange, Node, HasNode, AreOfOwnNodes, with_sets, HasRoomFor, changed_sets, times_named, room_at}
 use Rattle.kdg_graph.proofs.Rewrites.{all_have_with_sets, nothing_left, with_no_sets, with_sets-cons}
-use Rattle.kdg_graph.proofs.Rooms.{all_left, first_room}
+use Rattle.kdg_graph.proofs.Rooms.{first_room, room_left, taken_left}
 use Rattle.kdg_graph.proofs.node_list.NodeList.set_sets.Goals as goal
 
 pub loop-change-preserved : goal.loop-change-preserved
@@ -12,7 +12,10 @@ loop-change-preserved c =
     let steps : into_iter_items at.change-iterator ≡ change ∷ rest = c.in-Some.ensures.steps.0 in
     let there : AllByRecursion (λ (other : SetChange). HasNode at.self.nodes other.node) (change ∷ rest) = subst (AllByRecursion (λ (other : SetChange). HasNode at.self.nodes other.node)) steps at.invariant.there in
     let own : AreOfOwnNodes (change ∷ rest) = subst AreOfOwnNodes steps at.invariant.own in
-    let room : AllByRecursion (λ (x : SetChange). HasRoom (length (change ∷ rest)) x.set at.self.rooms) (change ∷ rest) = subst (λ (l : List SetChange). AllByRecursion (λ (x : SetChange). HasRoom (length l) x.set at.self.rooms) l) steps at.invariant.rooms in
+    let room : HasRoomFor (change.set ∷ changed_sets rest) at.self.rooms = subst (λ (l : List SetChange). HasRoomFor (changed_sets l) at.self.rooms) steps at.invariant.rooms in
+    let all : List SetChange = into_iter_items c.into_iter-change-iterator.result in
+    let first : List ℕ = c.args.self.now.rooms in
+    let taken = subst (λ (l : List SetChange). (loc : ℕ) → room_at first loc + times_named (changed_sets l) loc ≤ room_at at.self.rooms loc + times_named (changed_sets all) loc) steps at.invariant.taken in
     let was = at.invariant.len in
     let short = ap length steps in
     record {
@@ -22,8 +25,8 @@ loop-change-preserved c =
       nodes = at.invariant.nodes ∙ ap (λ l. with_sets l at.self.nodes) steps ∙ with_sets-cons change rest at.self.nodes own.0 ∙ ap (with_sets rest) (sym c.set_set.ensures.nodes);
       graph = c.set_set.ensures.graph;
       room = omega arith;
-      rooms = all_left (λ (x : SetChange). x.set) (length (change ∷ rest)) rest at.self.rooms c.set_set.new.self.rooms c.set_set.ensures.rooms (omega arith) room.1;
-      taken = λ loc. omega (arith, at.invariant.taken loc, c.set_set.ensures.rooms loc, short);
+      rooms = room_left change.set (changed_sets rest) at.self.rooms c.set_set.new.self.rooms room c.set_set.ensures.rooms;
+      taken = taken_left (changed_sets all) change.set (changed_sets rest) first at.self.rooms c.set_set.new.self.rooms taken c.set_set.ensures.rooms;
     }
 
 pub returns-clause-nodes : goal.returns-clause-nodes
@@ -36,10 +39,10 @@ pub set_set-requires-clause-rooms : goal.set_set-requires-clause-rooms
 set_set-requires-clause-rooms c =
     let at = c.loop-change in
     let rest : List SetChange = into_iter_items c.next.new.self in
-    let room : AllByRecursion (λ (x : SetChange). HasRoom (length (c.in-Some.change ∷ rest)) x.set at.self.rooms) (c.in-Some.change ∷ rest) = subst (λ (l : List SetChange). AllByRecursion (λ (x : SetChange). HasRoom (length l) x.set at.self.rooms) l) c.in-Some.ensures.steps.0 at.invariant.rooms in
-    first_room (length rest) c.in-Some.change.set at.self.rooms room.0
+    let room : HasRoomFor (c.in-Some.change.set ∷ changed_sets rest) at.self.rooms = subst (λ (l : List SetChange). HasRoomFor (changed_sets l) at.self.rooms) c.in-Some.ensures.steps.0 at.invariant.rooms in
+    first_room c.in-Some.change.set (changed_sets rest) at.self.rooms room
 
 pub returns-clause-rooms : goal.returns-clause-rooms
 returns-clause-rooms c loc =
-    let whole = ap length c.into_iter-change-iterator.ensures.into_iter_gives.0 in
-    omega (arith, c.loop-change.invariant.taken loc, whole)
+    let all = ap (λ l. times_named (changed_sets l) loc) c.into_iter-change-iterator.ensures.into_iter_gives.0 in
+    omega (arith, c.loop-change.invariant.taken loc, all)
