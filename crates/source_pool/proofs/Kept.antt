@@ -32,7 +32,7 @@ use Rattle.source_pool.specs.KeptLaws.{DrainedTextsAreKept}
 use Rattle.source_pool.specs.Runs.{state_at_rest}
 use Rattle.source_pool.proofs.RunsBeside.{end_beside}
 
-not_less : (order : Ordering) → (order ≡ Less → ⊥) → is_lt order ≡ false
+pub not_less : (order : Ordering) → (order ≡ Less → ⊥) → is_lt order ≡ false
 not_less Less never = absurd (never refl)
 not_less Equal never = refl
 not_less Greater never = refl

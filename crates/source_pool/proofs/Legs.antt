@@ -23,6 +23,7 @@ use Rattle.run_laws.specs.Renaming.{IsRenamed}
 use Rattle.run_laws.specs.Sound.{IsSound}
 use Rattle.source_pool.specs.Basis.{Basis}
 use Rattle.source_pool.specs.Course.{IsAtRest, LeadsByRounds}
+use Rattle.source_pool.specs.Kept.{IsLastAfter, KeepsAfter}
 use Rattle.source_pool.specs.KeptLaws.{RenamingsKeepTexts}
 use Rattle.source_pool.specs.Legs.{IsEndBehind, LegsBegin, LegsGoOn, RenamingsGoOn}
 use Rattle.source_pool.specs.Runs.{IsRoundsEnd, rest_of_run, state_at_rest}
@@ -50,6 +51,11 @@ module _ {V : Type 0} (app : Application V) where
     };
     too_long = λ none. none;
     limit = refl;
+    keeps = λ more state kept keeps. let all : more ≡ 0 + more = omega arith in record {
+      there = state;
+      keeps = subst (λ n. KeepsAfter app start n state kept) all keeps;
+      last = λ last. subst (λ n. IsLastAfter app start n state) all last;
+    };
   }
 
   pub legs_go_on : LegsGoOn app
@@ -63,6 +69,15 @@ module _ {V : Type 0} (app : Application V) where
         (record { store = behind.store; text_is = behind.text_is ∙ append_assoc text more finals.text; count = behind.count }));
     too_long = λ none. first.too_long (second.too_long none);
     limit = second.limit ∙ first.limit;
+    keeps = λ count state kept keeps.
+        let all : rounds + (others + count) ≡ (rounds + others) + count = omega arith in
+        let behind = second.keeps count state kept keeps in
+        let whole = first.keeps (others + count) behind.there (more ++ kept) behind.keeps in
+        record {
+          there = whole.there;
+          keeps = subst (λ n. KeepsAfter app start n whole.there ((text ++ more) ++ kept)) all (subst (KeepsAfter app start (rounds + (others + count)) whole.there) (sym (append_assoc text more kept)) whole.keeps);
+          last = λ last. subst (λ n. IsLastAfter app start n whole.there) all (whole.last (behind.last last));
+        };
   }
 
 module _ {V : Type 0} {app : Application V} (basis : Basis app) where
@@ -169,10 +184,13 @@ module _ {V : Type 0} {app : Application V} (basis : Basis app) where
           }
 
   pub renamings_go_on : RenamingsGoOn app
-  renamings_go_on start now next state text rounds ignored rest leads silent renamed = record {
+  renamings_go_on start now next state text rounds ignored begins rest leads count silent renamed = record {
     ends = ends start now next state text ignored rest renamed rounds leads silent;
     too_long = too_long start now next state text ignored rest renamed;
     limit = same_limit start now next state text ignored rest renamed;
+    keeps =
+        keeps_behind basis start now next state text rounds ignored begins rest leads count silent renamed.first renamed.listed (next_is start now next state text ignored rest renamed)
+        (same_ended start now next state text ignored rest renamed) (same_limit start now next state text ignored rest renamed) (ap (λ (p : Progress V). p.log) renamed.after);
   }
 
   pub renamings_keep_texts : RenamingsKeepTexts app

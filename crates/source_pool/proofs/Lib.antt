@@ -8,6 +8,8 @@ pub mod Ending
 pub mod EndsInKeyOrder
 pub mod EngineAtRest
 pub mod Faults
+pub mod Flows
+pub mod Fronts
 pub mod HandsPlayed
 pub mod Jobs
 pub mod JoinedTexts
@@ -22,3 +24,5 @@ pub mod Passing
 pub mod PerformedInOrder
 pub mod RoundNumbers
 pub mod RunsBeside
+pub mod Sending
+pub mod Telling

@@ -1,4 +1,5 @@
 -- What the laws of this crate stand on.
+use Rattle.std.specs.Prelude.{ℕ}
 use Rattle.task_order.specs.Key.{ChildrenComeLater, IsExactOrder}
 use Rattle.task_order.specs.Laws as tasks
 use Rattle.rw_sets.specs.Laws as sets
@@ -6,8 +7,9 @@ use Rattle.cell_store.specs.Laws as cells
 use Rattle.output_log.specs.Laws as logs
 use Rattle.kdg_graph.specs.Laws as graph
 use Rattle.app_laws.specs.Applications.{Application, IsLawful, PathsAreIgnored}
-use Rattle.app_laws.specs.Execution.{Execution}
-use Rattle.app_laws.specs.Laws.{GreaterLimitsAgree, RunsBeginWithAStep}
+use Rattle.app_laws.specs.Execution.{Execution, after_steps}
+use Rattle.app_laws.specs.Laws.{GreaterLimitsAgree, IsFitExecution, LogsGrowAtTheEnd, RunsBeginWithAStep, StepsAdd, StopsWhenClear}
+use Rattle.app_laws.specs.Order.{IsOrderly}
 use Rattle.app_laws.specs.Renaming.{ListedTasksAreNamed}
 use Rattle.commuting.specs.Commuting.{ClearTasksStayClearInTurn}
 use Rattle.commuting.specs.Renaming.{ListedTasksComeToSame, NamesChangeNoRound}
@@ -24,6 +26,10 @@ pub record Basis {V : Type 0} (app : Application V) : Type 0 where
   pub lawful : IsLawful app
   pub begins : (e : Execution V) → RunsBeginWithAStep app.act e
   pub greater_limits : (e : Execution V) → GreaterLimitsAgree app.act e
+  pub adds : (e : Execution V) → StepsAdd app.act e
+  pub grows : (e : Execution V) → LogsGrowAtTheEnd app.act e
+  pub stops : (e : Execution V) → StopsWhenClear app.act e
+  pub stays_orderly : (e : Execution V) → IsFitExecution app e → IsOrderly e → (steps : ℕ) → IsOrderly (after_steps app.act steps e)
   pub are_named : ListedTasksAreNamed
   pub in_turn : ClearTasksStayClearInTurn app
   pub listed : ClearTasksAreListed app
@@ -68,11 +74,13 @@ pub record Basis {V : Type 0} (app : Application V) : Type 0 where
   pub put_without : tasks.PutRestoresWithout
   pub decided : sets.ConflictsAreDecided
   pub before_end : logs.AllAreBeforeEnd
+  pub earlier_first : logs.EarlierEntriesComeFirst
   pub parts_in_order : logs.PartsKeepOrder
   pub parts_join : logs.PartsJoin
   pub texts_follow : logs.TextsFollow
   pub joins_with_none : logs.JoinsWithNone
   pub joins_commute : logs.JoinsCommute
+  pub joins_in_order : logs.JoinsKeepOrder
   pub joins_associate : logs.JoinsAssociate
   pub silent_joins : logs.SilentJoinsAddNoText
   pub joins_add_lengths : logs.JoinsAddLengths

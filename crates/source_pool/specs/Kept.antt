@@ -4,9 +4,10 @@ use Rattle.task_order.specs.declared.task.Task.{Task}
 use Rattle.task_order.specs.Key.{Bound, at_key, end}
 use Rattle.output_log.specs.Entries.{Entry, entries_before, joined_by_key, joined_texts}
 use Rattle.app_laws.specs.Applications.{Application}
+use Rattle.app_laws.specs.Execution.{after_steps}
 use Rattle.commuting.specs.Commuting.{entries_of}
 use Rattle.commuting.specs.Rounds.{after_round, clear_tasks}
-use Rattle.commuting.specs.States.{State}
+use Rattle.commuting.specs.States.{State, execution_from}
 use Rattle.crew.specs.declared.answers.OverCause.{OverCause}
 use Rattle.crew.specs.declared.answers.OverCause.TheVariants as cause
 use Rattle.run_laws.specs.Progress.{Progress}
@@ -50,6 +51,10 @@ module _ {V : Type 0} (app : Application V) where
   -- and which of its rounds is the last within the limit
   abbrev pub IsLastAfter : Progress V → ℕ → State V → Type 0
   IsLastAfter start = IsLastRound (start.limit - start.ended) (state_at_rest start)
+
+  -- the texts of the log and of the tasks that act next one after the other, as many as what is left of the limit, in the order of their keys
+  abbrev pub sequential_text : Progress V → List ℕ
+  sequential_text start = joined_texts (joined_by_key start.log (after_steps app.act (start.limit - start.ended) (execution_from (state_at_rest start))).log)
 
   -- What is kept after some rounds from an execution is kept from an earlier start too, behind this text and after so many rounds more.
   -- Where that round is the last one within the limit, it is so from the start.

@@ -1,5 +1,5 @@
 -- What holds of the texts that are kept, and of rounds that pass the limit, for every application.
-use Rattle.std.specs.Prelude.{◌≡◌, ◌<◌, ℕ, ◌+◌, List, [], ◌∷◌, length}
+use Rattle.std.specs.Prelude.{◌≡◌, ◌<◌, ℕ, ◌+◌, List, [], ◌∷◌, ◌++◌, length}
 use Rattle.task_order.specs.TaskList.{IsAscending}
 use Rattle.cell_store.specs.Values.{values_of}
 use Rattle.kdg_graph.specs.declared.node_id.NodeId.{NodeId}
@@ -13,7 +13,7 @@ use Rattle.run_laws.specs.Jobs.{Done, Job}
 use Rattle.run_laws.specs.Progress.{Progress}
 use Rattle.run_laws.specs.Renaming.{IsRenamed}
 use Rattle.source_pool.specs.Course.{AreAllDone, IsActing, IsAtRest, IsDrawing, IsEnding, LeadsByRounds, done_tasks}
-use Rattle.source_pool.specs.Kept.{KeepsAfter, KeepsBehind, acted_in}
+use Rattle.source_pool.specs.Kept.{KeepsAfter, KeepsBehind, acted_in, sequential_text}
 use Rattle.source_pool.specs.Legs.{BeginsAtRest}
 use Rattle.source_pool.specs.Runs.{state_at_rest}
 
@@ -23,6 +23,11 @@ module _ {V : Type 0} (app : Application V) where
   DrainedTextsAreKept = (start now : Progress V) (state : State V) (text : List ℕ) (rounds : ℕ) →
       BeginsAtRest app start → IsAtRest app start (values_of start.cells) state text now → LeadsByRounds app rounds (state_at_rest start) state →
       now.ended ≡ start.ended + acted_in app rounds (state_at_rest start) → drainable app now.nodes now.log ≡ [] → KeepsAfter app start rounds state text
+
+  -- what is kept after any round within the limit is a front of the sequential run's text
+  abbrev pub KeptTextsAreFronts : Type 0
+  KeptTextsAreFronts = (start : Progress V) (rounds : ℕ) (state : State V) (text : List ℕ) → BeginsAtRest app start → KeepsAfter app start rounds state text →
+      (rest : List ℕ) × (sequential_text app start ≡ text ++ rest)
 
   -- a round has as many acts as tasks are clear when it begins
   abbrev pub ActsAreTheRound : Type 0

@@ -8,6 +8,7 @@ use Rattle.commuting.specs.States.{State}
 use Rattle.run_laws.specs.Progress.{Progress}
 use Rattle.run_laws.specs.Renaming.{IsRenamed}
 use Rattle.source_pool.specs.Course.{IsAtRest, LeadsByRounds}
+use Rattle.source_pool.specs.Kept.{KeepsAfter, KeepsBehind, acted_in}
 use Rattle.source_pool.specs.Runs.{IsRoundsEnd, rest_of_run, state_at_rest}
 
 -- the same end with this text in front of its own
@@ -26,6 +27,7 @@ module _ {V : Type 0} (app : Application V) where
     pub ends : (finals whole : Finals V) (more : ℕ) → IsRoundsEnd app now finals more → IsEndBehind text finals whole → IsRoundsEnd app start whole (rounds + more)
     pub too_long : rest_of_run app now ≡ None → rest_of_run app start ≡ None
     pub limit : now.limit ≡ start.limit
+    pub keeps : (more : ℕ) (state : State V) (kept : List ℕ) → KeepsAfter app now more state kept → KeepsBehind app start text rounds now more state kept
 
   abbrev pub LegsBegin : Type 0
   LegsBegin = (start : Progress V) → GoesOnFrom start [] 0 start
@@ -37,5 +39,6 @@ module _ {V : Type 0} (app : Application V) where
   -- after some rounds, where paths are ignored and no text is logged that isn't drained, the pending tasks may become first tasks
   abbrev pub RenamingsGoOn : Type 0
   RenamingsGoOn = (start now next : Progress V) (state : State V) (text : List ℕ) (rounds : ℕ) → PathsAreIgnored app →
-      IsAtRest app start (values_of start.cells) state text now → LeadsByRounds app rounds (state_at_rest start) state →
+      BeginsAtRest start → IsAtRest app start (values_of start.cells) state text now → LeadsByRounds app rounds (state_at_rest start) state →
+      now.ended ≡ start.ended + acted_in app rounds (state_at_rest start) →
       with_texts now.log ≡ [] → IsRenamed app now next → GoesOnFrom start text rounds next

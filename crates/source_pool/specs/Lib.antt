@@ -6,3 +6,5 @@ pub mod Laws
 pub mod Legs
 pub mod Performing
 pub mod Runs
+pub mod Streams
+pub mod Told

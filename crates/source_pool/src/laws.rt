@@ -1,9 +1,9 @@
 ghost use Rattle.source_pool.specs.Basis.{Basis};
-ghost use Rattle.source_pool.specs.KeptLaws.{ActsAreTheRound, ActsPassWithTheRound, DrainedTextsAreKept, EndsAreTheRound, EndsPassWithTheRound, RenamingsKeepTexts};
+ghost use Rattle.source_pool.specs.KeptLaws.{ActsAreTheRound, ActsPassWithTheRound, DrainedTextsAreKept, EndsAreTheRound, EndsPassWithTheRound, KeptTextsAreFronts, RenamingsKeepTexts};
 ghost use Rattle.source_pool.specs.Legs.{LegsBegin, LegsGoOn, RenamingsGoOn};
 ghost use Rattle.source_pool.specs.Laws.{ActsBegin, ActsComeToRest, ActsGoOn, ClaimsGoOn, ClaimsLeaveFewer, DrainsKeepRest, DrawingsBegin, DrawnJobsAreTheRound, DrawnJobsDiffer, EndsComeToRest, EndsGoOn, FirstMayAct, FirstMayEnd, RestWithoutNodesIsTheEnd, RoundsAdd, RoundsAreTaken, RoundsHaveActs, RoundsHaveJobs, StartsAreAtRest, TooManyActsNeverEnd, TooManyNeverEnd, WholeIsHome};
 
-use app_laws::{App, execution_laws, lawful, naming_laws};
+use app_laws::{App, execution_laws, lawful, naming_laws, orderly_laws};
 use cell_store::value_laws;
 use commuting::{
     clear_tasks_all_commute, listed_tasks_come_to_same, round_laws as clear_round_laws,
@@ -27,6 +27,7 @@ fn basis<A: App>()
 {
     lawful::<A>();
     execution_laws::<A::Val>();
+    orderly_laws::<A>();
     naming_laws();
     clear_tasks_all_commute::<A>();
     clear_round_laws::<A>();
@@ -127,10 +128,12 @@ pub fn leg_laws<A: App>()
 }
 
 /// What is kept of a run in rounds while it goes on: where nothing more is to be drained, what was drained
-/// are the texts of the ended tasks that come before every pending one. A round acts on as many tasks as
-/// are clear, and where one of them passes the limit, the whole round does.
+/// are the texts of the ended tasks that come before every pending one, and so a front of what the sequential
+/// run writes. A round acts on as many tasks as are clear, and where one of them passes the limit, the whole
+/// round does.
 pub fn kept_laws<A: App>()
     ensures drained { (app : A) → DrainedTextsAreKept (A.meaning app) }
+    ensures fronts { (app : A) → KeptTextsAreFronts (A.meaning app) }
     ensures acts { (app : A) → ActsAreTheRound (A.meaning app) }
     ensures ends { (app : A) → EndsAreTheRound (A.meaning app) }
     ensures acts_pass { (app : A) → ActsPassWithTheRound (A.meaning app) }

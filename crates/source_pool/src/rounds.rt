@@ -1,28 +1,32 @@
-ghost use Rattle.std.specs.Prelude.{◌≡◌, ◌≢◌, ◌+◌, ◌<◌, ◌≤◌, ◌^◌, [], ◌++◌, None, length, IsTrue, IfOk, IfErr, OnOk};
+ghost use Rattle.std.specs.Prelude.{◌≡◌, ◌≢◌, ◌+◌, ◌<◌, ◌≤◌, ◌^◌, [], None, true, false, ℕ, List, length, IsTrue, IfOk, IfErr, OnErr, OnOk};
 ghost use Rattle.cell_store.specs.Values.{values_of};
 ghost use Rattle.app_laws.specs.Applications.{PathsAreIgnored};
 ghost use Rattle.commuting.specs.Rounds.{after_round, clear_tasks};
+ghost use Rattle.run_laws.specs.Events.{drainable};
 ghost use Rattle.run_laws.specs.Progress.{Progress};
 ghost use Rattle.run_laws.specs.Rest.{NoneRuns};
+ghost use Rattle.outer_edge.specs.Transfers.{transfer_of};
 ghost use Rattle.output_log.specs.Entries.{with_texts};
 ghost use Rattle.source_pool.specs.Course.{IsAtRest, LeadsByRounds, RunPoint};
 ghost use Rattle.source_pool.specs.Kept.{PassesWith};
 ghost use Rattle.source_pool.specs.Legs.{BeginsAtRest};
-ghost use Rattle.source_pool.specs.Runs.{IsRoundsEnd, IsRunFault, state_at_rest};
+ghost use Rattle.source_pool.specs.Runs.{IsRoundsEnd, IsRunFault};
+ghost use Rattle.source_pool.specs.Streams.{IsCutShort, IsFitFlow, IsFlow, IsOnLeg, IsToldEnd, TellsMore, TellsOn};
 
-use crate::RunFault;
 use crate::acting::act_round;
 use crate::claiming::Picks;
-use crate::draining::drain;
 use crate::finishing::end_all;
-use crate::laws::{drawing_laws, leg_laws, rounds_laws};
+use crate::laws::{draining_laws, drawing_laws, kept_laws, leg_laws, rounds_laws};
+use crate::outlet::{Outlet, tell};
 use crate::performing::perform_round;
 use crate::round_lists::RoundLists;
+use crate::text_sink::TextSink;
 use crate::work::Work;
+use crate::{Flow, RunFault};
 use app_laws::{App, Finals, new_paths_pay};
 use graph_update::Engine;
-use kdg_text::{NoRoom, Steps, Text};
-use outer_edge::Gate;
+use kdg_text::Steps;
+use outer_edge::{Gate, Sink};
 use run_laws::rest_laws;
 use std::alloc::Global;
 use std::marker::Brand;
@@ -54,23 +58,92 @@ pub fn run_rounds<'a, R: Threads + Sync, A: App + Sync, G: Gate + Sync>(
     ensures fit { IfOk result (λ run. (A.meaning engine.entry.app).is_fit_cells (values_of run.0.store)) }
     ensures fault { IfErr result (IsRunFault (A.meaning engine.entry.app) engine.entry.progress) }
 {
+    let mut sink = TextSink::new(alloc);
+    match rounds_to(rt, alloc, engine, gate, seed, workers, &mut sink) {
+        Flow::Ended {
+            mut finals,
+            rounds,
+            failed: false,
+        } => {
+            finals.text = sink.into_text();
+            Ok((finals, rounds))
+        }
+        Flow::Budget { created, limit, .. } => Err(RunFault::Budget { created, limit }),
+        Flow::Ended { failed: true, .. } | Flow::NoRoom => Err(RunFault::NoRoom),
+    }
+}
+
+/// `run_rounds`, where the text goes to a sink while the run goes on: at its start and after each round
+/// that of the ended tasks that come before every pending one, in the order of their keys. Some of it
+/// may be held until a write pays, but no longer than the run. After a write has failed nothing more is
+/// written, and the run goes on; what the log has then is left to the finals.
+pub fn rounds_to<'a, R: Threads + Sync, A: App + Sync, G: Gate + Sync, K: Sink>(
+    rt: &R,
+    alloc: Global,
+    engine: Engine<'a, A>,
+    gate: &G,
+    seed: u64,
+    workers: u32,
+    out: &mut K,
+) -> Flow<A::Val>
+    requires workers { (1 ≤ workers) × (workers ≤ 64) }
+    requires at_rest { NoneRuns engine.progress.nodes }
+    requires not_over { engine.progress.over ≡ None }
+    ensures flow { IsFlow (A.meaning engine.entry.app) engine.entry.progress (transfer_of K.contents K.faults out.old out.new) result }
+    ensures fit { IsFitFlow (A.meaning engine.entry.app) result }
+    ensures never_falls { K.faults out.old ≤ K.faults out.new }
+    ensures same_room { K.room out.new ≡ K.room out.old }
+{
     drawing_laws::<A>();
+    kept_laws::<A>();
     rest_laws::<A>();
     // Its contract tells what every engine keeps: the execution is sound.
     let _graph = engine.graph();
     let blank = Blank::new(1);
-    counted_rounds::<R, A, G, Brand>(rt, alloc, engine, gate, seed, workers, blank)
+    let mut outlet = Outlet::new(alloc);
+    let run = counted_rounds::<R, A, G, K, Brand>(
+        rt,
+        alloc,
+        engine,
+        gate,
+        seed,
+        workers,
+        &mut outlet,
+        out,
+        blank,
+    );
+    match run {
+        Ok((finals, rounds)) => {
+            outlet.flush(out);
+            Flow::Ended {
+                finals,
+                rounds,
+                failed: outlet.has_failed(),
+            }
+        }
+        Err(RunFault::Budget { created, limit }) => {
+            outlet.flush(out);
+            Flow::Budget {
+                created,
+                limit,
+                failed: outlet.has_failed(),
+            }
+        }
+        Err(RunFault::NoRoom) => Flow::NoRoom,
+    }
 }
 
 /// The rounds from one at whose beginning nothing runs, with a count of the sets that are asked for.
 /// Before each leg but the first the pending tasks get short paths.
-fn counted_rounds<'a, R: Threads + Sync, A: App + Sync, G: Gate + Sync, L: Ledger>(
+fn counted_rounds<'a, R: Threads + Sync, A: App + Sync, G: Gate + Sync, K: Sink, L: Ledger>(
     rt: &R,
     alloc: Global,
     mut engine: Engine<'a, A>,
     gate: &G,
     seed: u64,
     workers: u32,
+    outlet: &mut Outlet,
+    out: &mut K,
     blank: Blank,
 ) -> Result<(Finals<A::Val>, u64), RunFault>
     ghost start: { Progress A.Val }
@@ -81,9 +154,12 @@ fn counted_rounds<'a, R: Threads + Sync, A: App + Sync, G: Gate + Sync, L: Ledge
     requires rest { BeginsAtRest (A.meaning engine.app) start }
     requires begins { engine.progress ≡ start }
     requires limited { start.limit < 2 ^ 64 }
-    ensures end { IfOk result (λ run. IsRoundsEnd (A.meaning engine.entry.app) start run.0 run.1) }
+    requires no_fault { outlet.old.has_failed ≡ false }
+    ensures end { IfOk result (λ run. (told : List ℕ) × TellsMore K.contents K.faults outlet.old out.old outlet.new out.new told × IsToldEnd (A.meaning engine.entry.app) start outlet.new.has_failed told run.0 run.1) }
     ensures fit { IfOk result (λ run. (A.meaning engine.entry.app).is_fit_cells (values_of run.0.store)) }
     ensures fault { IfErr result (IsRunFault (A.meaning engine.entry.app) start) }
+    ensures cut { IfErr result (λ why. (told : List ℕ) × TellsMore K.contents K.faults outlet.old out.old outlet.new out.new told × IsCutShort (A.meaning engine.entry.app) start outlet.new.has_failed told why) }
+    ensures same_room { K.room out.new ≡ K.room out.old }
 {
     drawing_laws::<A>();
     leg_laws::<A>();
@@ -92,10 +168,8 @@ fn counted_rounds<'a, R: Threads + Sync, A: App + Sync, G: Gate + Sync, L: Ledge
     let mut steps = Steps::<L>::new(blank);
     let mut picks = Picks::new(gate, seed);
     let mut lists = RoundLists::new(alloc, Work::new(engine.app().task_nanos()));
-    let mut text = Text::new(alloc);
     let mut rounds = 0u64;
     loop {
-        let mut more = Text::new(alloc);
         rounds += play_leg(
             rt,
             &mut engine,
@@ -103,63 +177,57 @@ fn counted_rounds<'a, R: Threads + Sync, A: App + Sync, G: Gate + Sync, L: Ledge
             workers,
             &mut lists,
             &mut steps,
-            &mut more,
+            outlet,
+            out,
         )?;
-        text = joined(text, more)?;
         if engine.graph().least().is_none() {
             break;
         }
         engine = engine.renamed(&mut steps)?;
     }
-    let mut finals = engine.end()?;
-    finals.text = joined(text, finals.text)?;
+    let finals = engine.end()?;
     Ok((finals, rounds))
 }
 
-/// The two texts, one behind the other. Where one is empty, nothing is copied.
-fn joined(text: Text, more: Text) -> Result<Text, NoRoom>
-    ensures { IfOk result (λ whole. whole ≡ text ++ more) }
-{
-    if text.is_empty() {
-        return Ok(more);
-    }
-    let mut text = text;
-    text.push_all(more.bytes())?;
-    Ok(text)
-}
-
 /// Plays a leg of an execution in which nothing runs: rounds until no task is pending, or until the
-/// paths are to be short again. Its text comes into one that is empty. The answer is the number of
-/// rounds.
-fn play_leg<R: Threads + Sync, A: App + Sync, G: Gate + Sync, L: Ledger>(
+/// paths are to be short again. What comes before every pending task is told at its start and after each
+/// round. The answer is the number of rounds.
+fn play_leg<R: Threads + Sync, A: App + Sync, G: Gate + Sync, K: Sink, L: Ledger>(
     rt: &R,
     engine: &mut Engine<'_, A>,
     picks: &mut Picks<'_, G>,
     workers: u32,
     lists: &mut RoundLists<A::Val>,
     steps: &mut Steps<L>,
-    text: &mut Text,
+    outlet: &mut Outlet,
+    out: &mut K,
 ) -> Result<u64, RunFault>
     ghost start: { Progress A.Val }
     requires workers { 1 ≤ workers }
-    requires rest { IsAtRest (A.meaning engine.old.app) start (values_of start.cells) (state_at_rest start) [] engine.old.progress }
+    requires rest { BeginsAtRest (A.meaning engine.old.app) start }
     requires begins { engine.old.progress ≡ start }
     requires limited { start.limit < 2 ^ 64 }
-    requires text { text.old ≡ [] }
+    requires none_left { outlet.old.has_failed ≡ true → start.log ≡ [] }
     ensures app { engine.new.app ≡ engine.old.app }
-    ensures rest { OnOk result (IsAtRest (A.meaning engine.old.app) start (values_of start.cells) (state_at_rest engine.new.progress) text.new engine.new.progress) }
-    ensures leads { IfOk result (λ rounds. LeadsByRounds (A.meaning engine.old.app) rounds (state_at_rest start) (state_at_rest engine.new.progress)) }
+    ensures leg { IfOk result (λ rounds. IsOnLeg (A.meaning engine.old.app) start outlet.new.has_failed rounds engine.new.progress outlet.new.told) }
     ensures ignored { OnOk result (engine.new.progress.nodes ≢ [] → PathsAreIgnored (A.meaning engine.old.app)) }
     ensures silent { OnOk result (engine.new.progress.nodes ≢ [] → with_texts engine.new.progress.log ≡ []) }
     ensures ended { IfOk result (λ rounds. start.ended + rounds ≤ engine.new.progress.ended) }
     ensures some_round { IfOk result (λ rounds. engine.new.progress.nodes ≢ [] → 0 < rounds) }
     ensures fault { IfErr result (IsRunFault (A.meaning engine.old.app) start) }
+    ensures cut { IfErr result (IsCutShort (A.meaning engine.old.app) start outlet.new.has_failed outlet.new.told) }
+    ensures tells { TellsMore K.contents K.faults outlet.old out.old outlet.new out.new outlet.new.told }
+    ensures same_room { K.room out.new ≡ K.room out.old }
 {
     rounds_laws::<A>();
+    draining_laws::<A>();
+    kept_laws::<A>();
     let ended = engine.ended();
+    outlet.begin_leg();
+    tell(engine, outlet, out, false)?;
     let mut rounds = 0u64;
     while engine.graph().least().is_some() {
-        play_round(rt, engine, picks, workers, lists, steps, text)?;
+        play_round(rt, engine, picks, workers, lists, steps, outlet, out)?;
         rounds += 1;
         if needs_new_paths(engine, picks.gate(), ended) {
             return Ok(rounds);
@@ -189,26 +257,60 @@ fn needs_new_paths<A: App, G: Gate>(engine: &Engine<'_, A>, gate: &G, ended: u64
     }
 }
 
-/// Plays one round of an execution in which nothing runs: draws the jobs of all clear tasks, has
-/// them performed, and ends them in the order of their keys. Where no thread is likely to start and
-/// the gate is open, they act one after the other, which comes to the same. Then the texts that no
-/// pending task is before leave the log for the text of the run. Whatever is in the lists is dropped.
-fn play_round<R: Threads + Sync, A: App + Sync, G: Gate + Sync, L: Ledger>(
+/// Plays one round of an execution in which nothing runs: all clear tasks act or end, and then what comes
+/// before every pending task is told. Whatever is in the lists is dropped.
+fn play_round<R: Threads + Sync, A: App + Sync, G: Gate + Sync, K: Sink, L: Ledger>(
     rt: &R,
     engine: &mut Engine<'_, A>,
     picks: &mut Picks<'_, G>,
     workers: u32,
     lists: &mut RoundLists<A::Val>,
     steps: &mut Steps<L>,
-    text: &mut Text,
+    outlet: &mut Outlet,
+    out: &mut K,
 ) -> Result<(), RunFault>
     ghost from: { RunPoint A.Val }
     requires workers { 1 ≤ workers }
     requires rest { IsAtRest (A.meaning engine.old.app) from.start (values_of from.start.cells) from.state from.text engine.old.progress }
-    requires text { text.old ≡ from.text }
+    requires some { engine.old.progress.nodes ≢ [] }
+    requires text { outlet.old.told ≡ from.text }
+    ensures app { engine.new.app ≡ engine.old.app }
+    ensures rest { OnOk result (IsAtRest (A.meaning engine.old.app) from.start (values_of from.start.cells) (after_round (A.meaning engine.old.app) from.state) outlet.new.told engine.new.progress) }
+    ensures ended { OnOk result (engine.old.progress.ended < engine.new.progress.ended) }
+    ensures counted { OnOk result (engine.new.progress.ended ≡ engine.old.progress.ended + length (clear_tasks (A.meaning engine.old.app) from.state)) }
+    ensures drained { OnOk result (outlet.old.has_failed ≡ false → drainable (A.meaning engine.old.app) engine.new.progress.nodes engine.new.progress.log ≡ []) }
+    ensures same { outlet.old.has_failed ≡ true → outlet.new.told ≡ outlet.old.told }
+    ensures told { OnOk result (TellsOn K.contents K.faults outlet.old out.old outlet.new out.new) }
+    ensures nothing_told { OnErr result ((outlet.new ≡ outlet.old) × (out.new ≡ out.old)) }
+    ensures stays { outlet.old.has_failed ≡ true → outlet.new.has_failed ≡ true }
+    ensures fault { IfErr result (IsRunFault (A.meaning engine.old.app) from.start) }
+    ensures passed { IfErr result (PassesWith from.start.limit (engine.old.progress.ended + length (clear_tasks (A.meaning engine.old.app) from.state)) (after_round (A.meaning engine.old.app) from.state)) }
+    ensures same_room { K.room out.new ≡ K.room out.old }
+{
+    draining_laws::<A>();
+    act_or_perform(rt, engine, picks, workers, lists, steps)?;
+    tell(engine, outlet, out, !lists.work.tasks_are_light())?;
+    Ok(())
+}
+
+/// Plays one round of an execution in which nothing runs, but for its text: draws the jobs of all clear tasks, has
+/// them performed, and ends them in the order of their keys. Where no thread is likely to start and
+/// the gate is open, they act one after the other, which comes to the same. Whatever is in the lists is
+/// dropped.
+fn act_or_perform<R: Threads + Sync, A: App + Sync, G: Gate + Sync, L: Ledger>(
+    rt: &R,
+    engine: &mut Engine<'_, A>,
+    picks: &mut Picks<'_, G>,
+    workers: u32,
+    lists: &mut RoundLists<A::Val>,
+    steps: &mut Steps<L>,
+) -> Result<(), RunFault>
+    ghost from: { RunPoint A.Val }
+    requires workers { 1 ≤ workers }
+    requires rest { IsAtRest (A.meaning engine.old.app) from.start (values_of from.start.cells) from.state from.text engine.old.progress }
     requires some { engine.old.progress.nodes ≢ [] }
     ensures app { engine.new.app ≡ engine.old.app }
-    ensures rest { OnOk result (IsAtRest (A.meaning engine.old.app) from.start (values_of from.start.cells) (after_round (A.meaning engine.old.app) from.state) text.new engine.new.progress) }
+    ensures rest { OnOk result (IsAtRest (A.meaning engine.old.app) from.start (values_of from.start.cells) (after_round (A.meaning engine.old.app) from.state) from.text engine.new.progress) }
     ensures ended { OnOk result (engine.old.progress.ended < engine.new.progress.ended) }
     ensures counted { OnOk result (engine.new.progress.ended ≡ engine.old.progress.ended + length (clear_tasks (A.meaning engine.old.app) from.state)) }
     ensures fault { IfErr result (IsRunFault (A.meaning engine.old.app) from.start) }
@@ -220,6 +322,5 @@ fn play_round<R: Threads + Sync, A: App + Sync, G: Gate + Sync, L: Ledger>(
         perform_round(rt, engine, picks, workers, lists)?;
         end_all(engine, &mut lists.dones, steps)?;
     }
-    drain(engine, text)?;
     Ok(())
 }

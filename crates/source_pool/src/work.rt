@@ -54,7 +54,7 @@ impl Work {
     }
 
     /// Whether a task is performed sooner than it is handed to another thread.
-    fn tasks_are_light(&self) -> bool {
+    pub(crate) fn tasks_are_light(&self) -> bool {
         match self.task_nanos {
             Some(nanos) => nanos <= TRANSPORT,
             None => false,

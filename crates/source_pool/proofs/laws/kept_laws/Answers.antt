@@ -1,5 +1,6 @@
 use Rattle.source_pool.proofs.Acts.{acts_are_the_round}
 use Rattle.source_pool.proofs.Drawing.{ends_are_the_round}
+use Rattle.source_pool.proofs.Fronts.{kept_texts_are_fronts}
 use Rattle.source_pool.proofs.Kept.{drained_texts_are_kept}
 use Rattle.source_pool.proofs.Legs.{renamings_keep_texts}
 use Rattle.source_pool.proofs.Passing.{acts_pass_with_the_round, ends_pass_with_the_round}
@@ -7,6 +8,9 @@ use Rattle.source_pool.proofs.laws.kept_laws.Goals as goal
 
 pub returns-clause-drained : goal.returns-clause-drained
 returns-clause-drained g c = λ app. drained_texts_are_kept (c.basis.ensures app)
+
+pub returns-clause-fronts : goal.returns-clause-fronts
+returns-clause-fronts g c = λ app. kept_texts_are_fronts (c.basis.ensures app)
 
 pub returns-clause-acts : goal.returns-clause-acts
 returns-clause-acts g c = λ app. acts_are_the_round (c.basis.ensures app)

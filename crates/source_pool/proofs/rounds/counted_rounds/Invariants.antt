@@ -1,17 +1,20 @@
-use Rattle.std.proofs.Common.{◌≡◌, ◌+◌, ◌-◌, ◌≤◌}
+use Rattle.std.proofs.Common.{◌≡◌, ◌+◌, ◌-◌, ◌≤◌, true, List, [], ℕ}
 use Rattle.source_pool.specs.Legs.{BeginsAtRest, GoesOnFrom}
+use Rattle.source_pool.specs.Streams.{TellsMore}
 use Rattle.source_pool.proofs.rounds.counted_rounds.Given as goal
 
 abbrev pub ghost-play_leg : goal.ghost-play_leg
 ghost-play_leg g a = a.engine.now.progress
 
-abbrev pub invariant-loop-more : goal.invariant-loop-more
-invariant-loop-more g l = record {
+abbrev pub invariant-loop-lists : goal.invariant-loop-lists
+invariant-loop-lists g l = record {
   app : l.engine.app ≡ l.fn.engine.app;
   rest : BeginsAtRest (g.A.App.meaning l.fn.engine.app) l.engine.progress;
-  goes_on : GoesOnFrom (g.A.App.meaning l.fn.engine.app) g.start l.text l.rounds l.engine.progress;
+  goes_on : (told : List ℕ) × TellsMore g.K.Sink.contents g.K.Sink.faults l.fn.outlet l.fn.out l.outlet l.out told × GoesOnFrom (g.A.App.meaning l.fn.engine.app) g.start told l.rounds l.engine.progress;
+  none_left : l.outlet.has_failed ≡ true → l.engine.progress.log ≡ [];
   few : l.rounds + g.start.ended ≤ l.engine.progress.ended;
+  room : g.K.Sink.room l.out ≡ g.K.Sink.room l.fn.out;
 }
 
-abbrev pub decreases-loop-more : goal.decreases-loop-more
-decreases-loop-more g l = l.engine.progress.limit - l.engine.progress.ended
+abbrev pub decreases-loop-lists : goal.decreases-loop-lists
+decreases-loop-lists g l = l.engine.progress.limit - l.engine.progress.ended

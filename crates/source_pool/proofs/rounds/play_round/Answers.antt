@@ -1,42 +1,17 @@
 use mir.Syntax.{of_param}
-use Rattle.std.proofs.Common.{◌≡◌, ◌+◌, ℕ, List, length, sym, ap, subst, arith}
-use Rattle.std.proofs.lemmas.Result.{err_from_is_err_and}
+use Rattle.std.proofs.Common.{◌≡◌, ◌++◌, List, ℕ, false, sym, ap, subst, ◌∙◌, arith}
 use Rattle.cell_store.specs.Values.{values_of}
-use Rattle.commuting.specs.Rounds.{after_round, clear_tasks}
-use Rattle.graph_update.specs.Engine.{EngineState}
-use Rattle.run_laws.specs.Progress.{Progress}
-use Rattle.source_pool.specs.Course.{IsAtRest, IsEnding}
-use Rattle.source_pool.specs.Runs.{IsRunFault}
-use Rattle.source_pool.specs.Kept.{PassesWith}
-use Rattle.source_pool.proofs.Faults.{passes_at}
+use Rattle.commuting.specs.Rounds.{after_round}
+use Rattle.run_laws.specs.Events.{drained}
+use Rattle.source_pool.specs.Course.{IsAtRest}
+use Rattle.source_pool.specs.Streams.{told_by}
+use Rattle.source_pool.specs.declared.outlet.Outlet.{Outlet}
+use Rattle.source_pool.proofs.Telling.{ended_same, none_after, rest_told, same_told}
 use Rattle.source_pool.proofs.rounds.play_round.Goals as goal
-use Rattle.source_pool.proofs.rounds.play_round.Goals.{then-is_open+then-stays_alone+in_ok-act_round, else-is_open+in_ok-perform_round+in_ok-end_all}
 
-pub act_round-requires : goal.act_round-requires
-act_round-requires g c κs within =
-    let asked = c.requires.1.1.1.1.1.1 in
-    let sent = asked.0 in
-    let horizon = asked.1.0 in
-    let others = asked.1.1 in (
-      within.0,
-      (
-        within.1.0,
-        (
-          within.1.1.0,
-          (
-            within.1.1.1,
-            (
-              record { owned = sent.owned; leaving = λ k. sent.leaving (λ _. k (of_param 2)) },
-              (record { owned = horizon.owned; leaving = λ k. horizon.leaving (λ _. k (of_param 3)) }, (others.1.1.1.1.0, others.1.1.1.1.1.1)),
-            ),
-          ),
-        ),
-      ),
-    )
-
-pub perform_round-requires : goal.perform_round-requires
-perform_round-requires g c κs within =
-    let asked = c.requires.1.1.1.1.1.1 in
+pub act_or_perform-requires : goal.act_or_perform-requires
+act_or_perform-requires g c κs within =
+    let asked = c.requires.1.1.1.1.1.1.1 in
     let sent = asked.0 in
     let horizon = asked.1.0 in
     let others = asked.1.1 in (
@@ -48,12 +23,15 @@ perform_round-requires g c κs within =
           (
             within.1.1.1.0,
             (
-              within.1.1.1.1,
+              within.1.1.1.1.0,
               (
-                record { owned = sent.owned; leaving = λ k. sent.leaving (λ _. k (of_param 3)) },
+                within.1.1.1.1.1,
                 (
-                  record { owned = horizon.owned; leaving = λ k. horizon.leaving (λ _. k (of_param 4)) },
-                  (others.0, (others.1.0, (others.1.1.0, (others.1.1.1.0, (others.1.1.1.1.0, others.1.1.1.1.1.1))))),
+                  record { owned = sent.owned; leaving = λ k. sent.leaving (λ _. k (of_param 4)) },
+                  (
+                    record { owned = horizon.owned; leaving = λ k. horizon.leaving (λ _. k (of_param 5)) },
+                    (others.0, (others.1.0, (others.1.1.0, (others.1.1.1.0, (others.1.1.1.1.0, others.1.1.1.1.1.0))))),
+                  ),
                 ),
               ),
             ),
@@ -62,107 +40,54 @@ perform_round-requires g c κs within =
       ),
     )
 
-pub end_all-requires : goal.end_all-requires
-end_all-requires g c κs within =
-    let now = c.perform_round.new.engine in
-    let dones = c.perform_round.new.lists.dones.items in
-    let ending = subst (λ (other : g.row.A.Denot). IsEnding (g.A.App.meaning other) g.from.start (values_of g.from.start.cells) (after_round (g.A.App.meaning other) g.from.state) g.from.text now.progress dones) (sym c.perform_round.ensures.app) c.in_ok-perform_round.ensures.ending in
-    let sent = c.requires.1.1.1.1.1.1.0 in
-    let horizon = c.requires.1.1.1.1.1.1.1.0 in (
-      within.0,
-      (
-        within.1.0,
-        (
-          within.1.1.0,
-          (
-            within.1.1.1,
-            (
-              record { owned = sent.owned; leaving = λ k. sent.leaving (λ _. k (of_param 2)) },
-              (record { owned = horizon.owned; leaving = λ k. horizon.leaving (λ _. k (of_param 3)) }, ending),
-            ),
-          ),
-        ),
-      ),
-    )
-
-pub drain-requires : goal.drain-requires
-drain-requires g c κs within =
+pub returns-clause-rest : goal.returns-clause-rest
+returns-clause-rest g c =
+    let app = g.A.App.meaning c.args.engine.now.app in
     let start = g.from.start in
-    let text = c.requires.1.1.1.1.1.1.1.1.1.1.1.1.1.0 in
-    let Rests = λ (app : g.row.A.Denot) (now : Progress g.row.A-Val.Denot) (text : List ℕ). IsAtRest (g.A.App.meaning app) start (values_of start.cells) (after_round (g.A.App.meaning app) g.from.state) text now in
-    let rest : Rests c.if-is_open.engine.app c.if-is_open.engine.progress g.from.text = elim c.if-is_open.branch [
-      | then-is_open+then-stays_alone+in_ok-act_round w ↦
-          subst (λ (e : EngineState g.row.A.Denot g.row.A-Val.Denot). Rests e.app e.progress g.from.text) (sym w.engine-is)
-          (subst (λ (app : g.row.A.Denot). Rests app w.act_round.new.engine.progress g.from.text) (sym w.act_round.ensures.app) w.in_ok-act_round.ensures.rest)
-      | else-is_open+in_ok-perform_round+in_ok-end_all w ↦
-          subst (λ (e : EngineState g.row.A.Denot g.row.A-Val.Denot). Rests e.app e.progress g.from.text) (sym w.engine-is)
-          (subst (λ (app : g.row.A.Denot). Rests app w.end_all.new.engine.progress g.from.text) (sym w.end_all.ensures.app) w.in_ok-end_all.ensures.rest)
-    ] in
-    let sent = c.requires.1.1.1.1.1.1.0 in
-    let horizon = c.requires.1.1.1.1.1.1.1.0 in (
-      within.0,
-      (
-        within.1.0,
-        (
-          within.1.1,
-          (
-            record { owned = sent.owned; leaving = λ k. sent.leaving (λ _. k (of_param 1)) },
-            (
-              record { owned = horizon.owned; leaving = λ k. horizon.leaving (λ _. k (of_param 2)) },
-              subst (Rests c.if-is_open.engine.app c.if-is_open.engine.progress) (sym text) rest,
-            ),
-          ),
-        ),
-      ),
-    )
+    let cells = values_of start.cells in
+    let next = after_round app g.from.state in
+    let had = c.args.outlet.now.has_failed in
+    let middle = c.act_or_perform.new.engine.progress in
+    let now = c.tell.new.engine.progress in
+    let text = c.requires.1.1.1.1.1.1.1.1.1.1.1.1.1.1.1 in
+    let drain = subst (λ (other : g.row.A.Denot). had ≡ false → now ≡ drained (g.A.App.meaning other) middle) c.act_or_perform.ensures.app c.in_ok-tell.ensures.drains in
+    let told = subst (λ (other : g.row.A.Denot). c.tell.new.outlet.told ≡ c.args.outlet.now.told ++ told_by (g.A.App.meaning other) had middle) c.act_or_perform.ensures.app c.in_ok-tell.ensures.told in
+    let rest = rest_told (c.draining_laws.ensures c.args.engine.now.app) start middle now cells next g.from.text had c.in_ok-act_or_perform.ensures.rest drain c.tell.ensures.stands in
+    subst (λ (t : List ℕ). IsAtRest app start cells next t now) (ap (λ (front : List ℕ). front ++ told_by app had middle) (sym text) ∙ sym told) rest
 
 pub returns-clause-ended : goal.returns-clause-ended
 returns-clause-ended g c =
-    let drained = ap (λ (p : Progress g.row.A-Val.Denot). p.ended) c.in_ok-drain.ensures.drained in
-    elim c.if-is_open.branch [
-      | then-is_open+then-stays_alone+in_ok-act_round w ↦ omega (arith, ap (λ (e : EngineState g.row.A.Denot g.row.A-Val.Denot). e.progress.ended) w.engine-is, w.in_ok-act_round.ensures.ended, drained)
-      | else-is_open+in_ok-perform_round+in_ok-end_all w ↦
-          omega (
-            arith,
-            ap (λ (e : EngineState g.row.A.Denot g.row.A-Val.Denot). e.progress.ended) w.engine-is,
-            w.in_ok-perform_round.ensures.ended,
-            w.in_ok-end_all.ensures.ended,
-            drained,
-            w.in_ok-perform_round.ensures.some,
-          )
-    ]
-
-pub returns-in_err-end_all-clause-fault : goal.returns-in_err-end_all-clause-fault
-returns-in_err-end_all-clause-fault g c =
-    let fault = subst (λ (app : g.row.A.Denot). IsRunFault (g.A.App.meaning app) g.from.start c.in_err-end_all.field-0.0) c.perform_round.ensures.app c.in_err-end_all.ensures.fault in
-    let e = err_from_is_err_and c.from_residual-in_err-end_all.result c.from_residual-in_err-end_all.ensures.1 in
-    rw (e.1, e.2) fault
+    let app = g.A.App.meaning c.act_or_perform.new.engine.app in
+    omega (
+      arith,
+      ended_same app c.act_or_perform.new.engine.progress c.tell.new.engine.progress c.args.outlet.now.has_failed c.in_ok-tell.ensures.drains c.tell.ensures.stands,
+      c.in_ok-act_or_perform.ensures.ended,
+    )
 
 pub returns-clause-counted : goal.returns-clause-counted
 returns-clause-counted g c =
-    let drained = ap (λ (p : Progress g.row.A-Val.Denot). p.ended) c.in_ok-drain.ensures.drained in
-    elim c.if-is_open.branch [
-      | then-is_open+then-stays_alone+in_ok-act_round w ↦ omega (arith, ap (λ (e : EngineState g.row.A.Denot g.row.A-Val.Denot). e.progress.ended) w.engine-is, w.in_ok-act_round.ensures.counted, drained)
-      | else-is_open+in_ok-perform_round+in_ok-end_all w ↦
-          omega (
-            arith,
-            ap (λ (e : EngineState g.row.A.Denot g.row.A-Val.Denot). e.progress.ended) w.engine-is,
-            w.in_ok-perform_round.ensures.ended,
-            w.in_ok-end_all.ensures.ended,
-            drained,
-            w.in_ok-perform_round.ensures.as_many,
-          )
-    ]
+    let app = g.A.App.meaning c.act_or_perform.new.engine.app in
+    ended_same app c.act_or_perform.new.engine.progress c.tell.new.engine.progress c.args.outlet.now.has_failed c.in_ok-tell.ensures.drains c.tell.ensures.stands
+    ∙ c.in_ok-act_or_perform.ensures.counted
 
-pub returns-in_err-end_all-clause-passed : goal.returns-in_err-end_all-clause-passed
-returns-in_err-end_all-clause-passed g c =
+pub returns-clause-drained : goal.returns-clause-drained
+returns-clause-drained g c =
     let app = g.A.App.meaning c.args.engine.now.app in
-    let start = g.from.start in
-    let old = c.args.engine.now.progress.ended in
-    let dones = c.perform_round.new.lists.dones.items in
-    let acted = old + length (clear_tasks app g.from.state) in
-    let why = c.in_err-end_all.field-0.0 in
-    let same : c.perform_round.new.engine.progress.ended + length dones ≡ acted = omega (arith, c.in_ok-perform_round.ensures.ended, c.in_ok-perform_round.ensures.as_many) in
-    let e = err_from_is_err_and c.from_residual-in_err-end_all.result c.from_residual-in_err-end_all.ensures.1 in
-    let passes = subst (λ (other : g.row.A.Denot). PassesWith start.limit (c.perform_round.new.engine.progress.ended + length dones) (after_round (g.A.App.meaning other) g.from.state) why) c.perform_round.ensures.app c.in_err-end_all.ensures.passed in
-    rw (e.1, e.2) (passes_at start.limit (c.perform_round.new.engine.progress.ended + length dones) acted (after_round app g.from.state) why same passes)
+    let had = c.args.outlet.now.has_failed in
+    let middle = c.act_or_perform.new.engine.progress in
+    let now = c.tell.new.engine.progress in
+    let drain = subst (λ (other : g.row.A.Denot). had ≡ false → now ≡ drained (g.A.App.meaning other) middle) c.act_or_perform.ensures.app c.in_ok-tell.ensures.drains in
+    none_after app middle now had drain
+
+pub returns-clause-same : goal.returns-clause-same
+returns-clause-same g c =
+    let app = g.A.App.meaning c.act_or_perform.new.engine.app in
+    same_told app c.act_or_perform.new.engine.progress c.args.outlet.now.told c.tell.new.outlet.told c.args.outlet.now.has_failed c.in_ok-tell.ensures.told
+
+pub returns-in_err-tell-clause-same : goal.returns-in_err-tell-clause-same
+returns-in_err-tell-clause-same g c = λ failed. ap (λ (outlet : Outlet). outlet.told) c.in_err-tell.ensures.nothing_told.0
+
+pub returns-clause-told : goal.returns-clause-told
+returns-clause-told g c =
+    let app = g.A.App.meaning c.act_or_perform.new.engine.app in
+    (told_by app c.args.outlet.now.has_failed c.act_or_perform.new.engine.progress, c.in_ok-tell.ensures.told, c.in_ok-tell.ensures.tells)

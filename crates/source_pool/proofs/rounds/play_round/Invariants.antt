@@ -1,14 +1,4 @@
-use Rattle.commuting.specs.Rounds.{after_round}
 use Rattle.source_pool.proofs.rounds.play_round.Given as goal
 
-abbrev pub ghost-act_round : goal.ghost-act_round
-ghost-act_round g a = g.from
-
-abbrev pub ghost-perform_round : goal.ghost-perform_round
-ghost-perform_round g a = g.from
-
-abbrev pub ghost-end_all : goal.ghost-end_all
-ghost-end_all g a = record { start = g.from.start; state = after_round (g.A.App.meaning a.engine.now.app) g.from.state; text = g.from.text }
-
-abbrev pub ghost-drain : goal.ghost-drain
-ghost-drain g a = record { start = g.from.start; state = after_round (g.A.App.meaning a.engine.now.app) g.from.state; text = g.from.text }
+abbrev pub ghost-act_or_perform : goal.ghost-act_or_perform
+ghost-act_or_perform g a = g.from
