@@ -4,15 +4,16 @@ ghost use Rattle.std.specs.Prelude.{◌≡◌, ◌≤◌, ◌<◌, ◌^◌, leng
 ghost use Rattle.app_laws.specs.Applications.{AreFitStarts};
 
 use super::circuits::circuit_of;
-use super::decks::C17;
+use super::decks::{C17, RING};
 use super::outcomes::{Outcome, cause_of, copies_of, list_of, outcome_of, serial_outcome};
 use app_laws::App;
+use bench_reader::read_deck;
 use free_pool::run_free;
 use graph_update::{Engine, OverCause};
 use kdg_text::Text;
 use logic_sim::Circuit;
-use outer_edge::{Gate, Seeded};
-use source_pool::run_rounds;
+use outer_edge::{Gate, MemSink, Seeded};
+use source_pool::{Flow, rounds_to, run_rounds};
 use std::alloc::Global;
 use std::sync::Wait;
 use std::test::Fail;
@@ -150,5 +151,58 @@ fn rounds_with_a_task_too_many_are_refused(rt: HostRuntime) -> Result<(), Fail> 
     let circuit = circuit_of(alloc, C17)?;
     let refused = rounds_of(&rt, alloc, &circuit, 19).err();
     assert!(rt; matches!(refused, Some(OverCause::Budget { limit: 19, .. })));
+    Ok(())
+}
+
+/// What a ring that turns at each time comes to within so many tasks, and what a sink in memory that takes
+/// four bytes at a time holds then, of whose writes these fail.
+fn ring_to<R: Threads + Sync>(
+    rt: &R,
+    alloc: Global,
+    budget: u64,
+    fails: Vec<u64>,
+) -> Result<(Flow<u8>, MemSink), Fail>
+    requires { budget ≤ 1_000_000_000 }
+{
+    let circuit = Circuit::new(alloc, read_deck(alloc, RING.as_bytes())?, 5, 10)?;
+    let (cells, first) = (circuit.first_cells()?, circuit.first_tasks()?);
+    let mut sink = MemSink::with_room(alloc, 4, 59, fails)?;
+    let flow = match Engine::begin_uncounted(alloc, &circuit, cells, first, budget) {
+        Ok(engine) => rounds_to(rt, alloc, engine, &Seeded, 1, 3, &mut sink),
+        Err(_) => Flow::NoRoom,
+    };
+    Ok((flow, sink))
+}
+
+#[test]
+fn rounds_write_before_a_task_too_many(rt: HostRuntime) -> Result<(), Fail> {
+    let alloc = rt.alloc();
+    let (flow, sink) = ring_to(&rt, alloc, 10, Vec::new(alloc))?;
+    assert!(rt;
+        matches!(
+            flow,
+            Flow::Budget {
+                created: 11,
+                limit: 10,
+                failed: false
+            }
+        )
+    );
+    assert_eq!(rt; sink.held(), b"1 q 1\n3 q 0\n4 q 1\n".as_slice());
+    let (flow, sink) = ring_to(&rt, alloc, 10, vec![in alloc; 1]?)?;
+    assert!(rt;
+        matches!(
+            flow,
+            Flow::Budget {
+                created: 11,
+                limit: 10,
+                failed: true
+            }
+        )
+    );
+    assert!(rt; sink.held().is_empty());
+    let (flow, sink) = ring_to(&rt, alloc, 11, Vec::new(alloc))?;
+    assert!(rt; matches!(flow, Flow::Ended { failed: false, .. }));
+    assert_eq!(rt; sink.held(), b"1 q 1\n3 q 0\n4 q 1\n5 q 0\n".as_slice());
     Ok(())
 }
