@@ -1,20 +1,18 @@
 -- What the engine tells once all workers have stopped.
-use Rattle.std.proofs.Common.{◌≡◌, ◌≢◌, ◌≤◌, ℕ, ◌+◌, ◌-◌, List, [], ◌∷◌, ◌++◌, length, Option, Some, None, refl, sym, ap, subst, ◌∙◌, arith}
+use Rattle.std.proofs.Common.{◌≡◌, ◌≤◌, ◌-◌, List, [], ◌++◌, length, Option, Some, None, refl, sym, ap, ◌∙◌, arith}
 use Rattle.std.specs.Prelude.{IsSomeAnd}
 use Rattle.std.proofs.lemmas.List.{length-append, nil_from_length}
-use Rattle.task_order.specs.Key.{end}
 use Rattle.cell_store.specs.Values.{values_of}
-use Rattle.output_log.specs.Entries.{Entry, joined_by_key, joined_texts}
+use Rattle.output_log.specs.Entries.{Entry, joined_texts}
 use Rattle.output_log.specs.Laws.{JoinsAddLengths}
 use Rattle.app_laws.specs.Applications.{Application}
 use Rattle.app_laws.specs.declared.serial_run.Finals.{Finals}
 use Rattle.app_laws.specs.Execution.{Execution}
-use Rattle.commuting.specs.States.{run_from}
 use Rattle.crew.specs.declared.answers.OverCause.{OverCause}
 use Rattle.crew.specs.declared.answers.OverCause.TheVariants as cause
 use Rattle.run_laws.specs.CourseLaws.{IsSequentialEnd, NoNodesAreTheEnd}
-use Rattle.run_laws.specs.Progress.{Progress, whole_state}
-use Rattle.source_pool.specs.Runs.{IsRunFault, rest_of_run, state_at_rest}
+use Rattle.run_laws.specs.Progress.{Progress}
+use Rattle.source_pool.specs.Runs.{IsRunFault, rest_of_run}
 use Rattle.worker_gate.specs.Fits.{Continues, Sum, drained_count}
 use Rattle.free_pool.specs.Runs.{IsRunEnd}
 

@@ -1,22 +1,16 @@
 -- What a seat finds in its turn, and what it is after it.
-use Rattle.std.proofs.Common.{◌≡◌, ◌≢◌, ◌==◌, ℕ, true, List, [], ◌∷◌, ◌++◌, if◌then◌else◌, Option, Some, None, refl, sym, ap, subst, ◌∙◌}
-use Rattle.std.specs.Prelude.{IfSome}
+use Rattle.std.proofs.Common.{◌≡◌, ◌==◌, ℕ, List, ◌++◌, if◌then◌else◌, Some, sym, ap, subst, ◌∙◌}
 use Rattle.std.proofs.lemmas.Option.{same_Some}
 use Rattle.task_order.specs.declared.key.Key.{Key}
 use Rattle.app_laws.specs.Applications.{Application}
-use Rattle.crew.specs.Jobs.{IsPerformed}
 use Rattle.run_laws.specs.Jobs.{Done, Job}
-use Rattle.run_laws.specs.Laws.{IsDone}
 use Rattle.run_laws.specs.Moves.{Moved}
-use Rattle.run_laws.specs.Progress.{Progress}
 use Rattle.run_laws.specs.Sound.{IsSound}
 use Rattle.graph_update.specs.Engine.{EngineState}
-use Rattle.worker_gate.specs.declared.view.View.{View}
 use Rattle.worker_gate.specs.Fits.{drained_count}
 use Rattle.worker_gate.specs.Steps.{Seen, left_by}
 use Rattle.worker_gate.specs.Turns.{HallState, HasMoved, HasWaited, MayLeave, SeatState, TurnState}
-use Rattle.free_pool.specs.Turns.{HasDone, IsSeated}
-use Rattle.free_pool.proofs.Moves.{beside_others}
+use Rattle.free_pool.specs.Turns.{AreDone, IsSeated, MayEnd}
 
 module _ {A V : Type 0} {meaning : A → Application V} (hall : HallState (EngineState A V)) (seat : SeatState (EngineState A V) V) (turn : TurnState (EngineState A V) V)
     (seated : IsSeated hall seat) (waited : HasWaited meaning seat turn) where
@@ -41,11 +35,6 @@ module _ {A V : Type 0} {meaning : A → Application V} (hall : HallState (Engin
   pub turn_found : turn.view.found ≡ Some turn.engine
   turn_found = in_turn (λ (v : Seen A V). v.found)
 
-  pub in_hand : (done : Option (Done V)) → HasDone (meaning hall.origin.app) seat.view.jobs done → HasDone (meaning turn.engine.app) turn.view.jobs done
-  in_hand done has =
-      subst (λ (app : A). HasDone (meaning app) turn.view.jobs done) (sym app_is)
-      (subst (λ (jobs : List (Job V)). HasDone (meaning hall.origin.app) jobs done) (sym turn_jobs) has)
-
   -- the engine is sound with the jobs of the seat and those of others
   sound : IsSound (meaning turn.engine.app) turn.engine.progress (now.jobs ++ waited.entered.found.others.jobs) waited.entered.found.fits.progress.values
   sound =
@@ -55,20 +44,20 @@ module _ {A V : Type 0} {meaning : A → Application V} (hall : HallState (Engin
   now_jobs : seat.view.jobs ≡ now.jobs
   now_jobs = sym (of_view (λ (v : Seen A V). v.jobs))
 
-  pub is_done : (done : Option (Done V)) → HasDone (meaning hall.origin.app) seat.view.jobs done → IfSome done (IsDone (meaning turn.engine.app) turn.engine.progress)
-  is_done None has = tt
-  is_done (Some done) has =
-      let own : HasDone (meaning turn.engine.app) now.jobs (Some done) =
-      subst (λ (app : A). HasDone (meaning app) now.jobs (Some done)) (sym app_is)
-      (subst (λ (jobs : List (Job V)). HasDone (meaning hall.origin.app) jobs (Some done)) now_jobs has) in
-      record {
-        jobs = now.jobs ++ waited.entered.found.others.jobs;
-        values = waited.entered.found.fits.progress.values;
-        sound = sound;
-        job = own.0;
-        others = waited.entered.found.others.jobs;
-        performed = beside_others waited.entered.found.others.jobs own.1;
-      }
+  pub may_end : (dones : List (Done V)) → AreDone (meaning hall.origin.app) seat.view.jobs dones → MayEnd (meaning turn.engine.app) turn.engine.progress dones
+  may_end dones are = record {
+    jobs = now.jobs;
+    others = waited.entered.found.others.jobs;
+    values = waited.entered.found.fits.progress.values;
+    sound = sound;
+    done = subst (λ (app : A). AreDone (meaning app) now.jobs dones) (sym app_is) (subst (λ (jobs : List (Job V)). AreDone (meaning hall.origin.app) jobs dones) now_jobs are);
+  }
+
+  -- what was performed of the jobs that the seat has is that of the jobs in the turn
+  pub done_in_turn : (dones : List (Done V)) → AreDone (meaning hall.origin.app) seat.view.jobs dones → AreDone (meaning turn.engine.app) turn.view.jobs dones
+  done_in_turn dones are =
+      subst (λ (app : A). AreDone (meaning app) turn.view.jobs dones) (sym app_is)
+      (subst (λ (jobs : List (Job V)). AreDone (meaning hall.origin.app) jobs dones) (sym turn_jobs) are)
 
   -- the turn may be left with what was done to the engine
   pub may_leave : (engine : EngineState A V) (jobs : List (Job V)) (ended : List Key) → engine.app ≡ turn.engine.app

@@ -1,6 +1,9 @@
+pub mod ClaimsInTurn
 pub mod Ends
+pub mod EndsInTurn
 pub mod InTurn
 pub mod Moves
 pub mod Numbers
+pub mod PerformedInOrder
 pub mod Seats
 pub mod Working

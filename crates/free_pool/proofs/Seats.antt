@@ -1,11 +1,9 @@
 -- The seats of a team, from the first split to the last join.
-use Rattle.std.proofs.Common.{get_or, Option, Some, None, true≢false, ◌≡◌, ◌≢◌, ◌==◌, not, ℕ, zero, suc, ◌+◌, ◌-◌, ◌<◌, ◌≤◌, List, [], ◌∷◌, ◌++◌, map, length, refl, sym, ap, subst, ◌∙◌, arith}
+use Rattle.std.proofs.Common.{get_or, Option, Some, None, true≢false, ◌≡◌, ◌==◌, not, ℕ, suc, ◌<◌, List, [], ◌∷◌, ◌++◌, map, length, refl, sym, ap, subst, ◌∙◌, arith}
 use Rattle.std.specs.Prelude.{Contains, IsSome, filter}
 use Rattle.std.specs.List.{AllByRecursion, AllZip}
 use Rattle.graph_update.specs.Engine.{EngineState}
-use Rattle.worker_gate.specs.declared.view.View.{View}
-use Rattle.worker_gate.specs.Fits.{drained_count}
-use Rattle.worker_gate.specs.Steps.{Seen, both_views, first_half, second_half}
+use Rattle.worker_gate.specs.Steps.{both_views, first_half, second_half}
 use Rattle.worker_gate.specs.Turns.{HallState, SeatState}
 use Rattle.free_pool.specs.Team.{HasWorked, IsMember, IsReady, IsTeam, MayWork, down_from, up_to}
 use Rattle.free_pool.specs.Turns.{IsSeated}

@@ -1,57 +1,59 @@
 -- What holds of a worker's seat, and of what it has in hand, between two turns.
-use Rattle.std.proofs.Common.{◌≡◌, List, [], ◌∷◌, Option, Some, None, refl, sym, ap, subst, ◌∙◌}
-use Rattle.app_laws.specs.Applications.{Application, IsEffect}
-use Rattle.crew.specs.Jobs.{MayRun}
+use Rattle.std.proofs.Common.{◌≡◌, ℕ, List, [], ◌++◌, drop, length, refl, sym, ap, subst, ◌∙◌, append-nil}
+use Rattle.std.proofs.Math.Seq.{drop-length}
+use Rattle.std.proofs.lemmas.Slice.Zip.{AllZip-long}
+use Rattle.app_laws.specs.Applications.{Application}
 use Rattle.run_laws.specs.Jobs.{Done, Job}
 use Rattle.graph_update.specs.Engine.{EngineState}
+use Rattle.source_pool.specs.Course.{IsJobDone}
 use Rattle.worker_gate.specs.Turns.{HallState, SeatState}
-use Rattle.free_pool.specs.declared.turns.Next.{Next}
-use Rattle.free_pool.specs.declared.turns.Next.TheVariants as next
-use Rattle.free_pool.specs.Turns.{HasDone, IsNextToRun, IsSeated, jobs_left}
+use Rattle.free_pool.specs.Turns.{AreDone, IsSeated, jobs_left}
 
 module _ {A V : Type 0} (meaning : A → Application V) (hall : HallState (EngineState A V)) where
-  pub record IsWorking (old now : SeatState (EngineState A V) V) (done : Option (Done V)) : Type 0 where
+  pub record IsWorking (old now : SeatState (EngineState A V) V) (dones : List (Done V)) : Type 0 where
     pub seated : IsSeated hall now
     pub number : now.view.number ≡ old.view.number
     pub unjoined : now.view.unjoined ≡ old.view.unjoined
-    pub hand : HasDone (meaning hall.origin.app) now.view.jobs done
+    pub hand : AreDone (meaning hall.origin.app) now.view.jobs dones
 
-  pub begins : (seat : SeatState (EngineState A V) V) → IsSeated hall seat → seat.view.jobs ≡ [] → IsWorking seat seat None
-  begins seat seated idle = record { seated = seated; number = refl; unjoined = refl; hand = idle }
+  none_in_hand : (jobs : List (Job V)) (dones : List (Done V)) → jobs ≡ [] → dones ≡ [] → AreDone (meaning hall.origin.app) jobs dones
+  none_in_hand jobs dones idle empty =
+      subst (AreDone (meaning hall.origin.app) jobs) (sym empty) (subst (λ (js : List (Job V)). AreDone (meaning hall.origin.app) js []) (sym idle) tt)
 
-  pub may_run : (app : A) (after : Next V) (job : Job V) → app ≡ hall.origin.app → after ≡ next.Perform job → IsNextToRun (meaning hall.origin.app) after → MayRun (meaning app) job
-  may_run app after job same is may =
-      subst (λ (a : A). MayRun (meaning a) job) (sym same) (subst (IsNextToRun (meaning hall.origin.app)) is may)
+  pub begins : (seat : SeatState (EngineState A V) V) (dones : List (Done V)) → IsSeated hall seat → seat.view.jobs ≡ [] → dones ≡ [] → IsWorking seat seat dones
+  begins seat dones seated idle empty = record { seated = seated; number = refl; unjoined = refl; hand = none_in_hand seat.view.jobs dones idle empty }
 
-  module _ (old seat now : SeatState (EngineState A V) V) (done : Option (Done V)) (after : Next V) (working : IsWorking old seat done)
-      (seated : IsSeated hall now) (number : now.view.number ≡ seat.view.number) (unjoined : now.view.unjoined ≡ seat.view.unjoined)
-      (jobs : now.view.jobs ≡ jobs_left seat.view.jobs after) where
+  -- where all ended, the jobs are those that were claimed
+  only_claimed : (had claimed : List (Job V)) (dones : List (Done V)) (ended : ℕ) → AreDone (meaning hall.origin.app) had dones → ended ≡ length dones → jobs_left had ended claimed ≡ claimed
+  only_claimed had claimed dones ended done all =
+      let long : ended ≡ length had = all ∙ AllZip-long (IsJobDone (meaning hall.origin.app)) had dones done in
+      ap (λ (n : ℕ). claimed ++ drop n had) long ∙ ap (λ (rest : List (Job V)). claimed ++ rest) (drop-length had) ∙ append-nil claimed
+
+  module _ (old seat now : SeatState (EngineState A V) V) (dones : List (Done V)) (working : IsWorking old seat dones)
+      (seated : IsSeated hall now) (number : now.view.number ≡ seat.view.number) (unjoined : now.view.unjoined ≡ seat.view.unjoined) where
     pub same_number : now.view.number ≡ old.view.number
     same_number = number ∙ working.number
 
     pub same_unjoined : now.view.unjoined ≡ old.view.unjoined
     same_unjoined = unjoined ∙ working.unjoined
 
-    -- the task that was claimed is performed
-    pub performs : (app : A) (job : Job V) (did : Done V) → app ≡ hall.origin.app → after ≡ next.Perform job → did.node ≡ job.node → did.task ≡ job.task → IsEffect (meaning app) job.task job.bundle did.effect
-        → IsWorking old now (Some did)
-    performs app job did same is node task effect = record {
-      seated = seated;
-      number = same_number;
-      unjoined = same_unjoined;
-      hand = (
-        job,
-        record {
-          before = [];
-          after = [];
-          there = jobs ∙ ap (jobs_left seat.view.jobs) is;
-          others_are = refl;
-          node = sym node;
-          task = sym task;
-          effect = subst (λ (a : A). IsEffect (meaning a) job.task job.bundle did.effect) same effect;
-        },
-      );
-    }
+    module _ (ended : ℕ) (claimed : List (Job V)) (jobs : now.view.jobs ≡ jobs_left seat.view.jobs ended claimed) (all : ended ≡ length dones) where
+      are_claimed : now.view.jobs ≡ claimed
+      are_claimed = jobs ∙ only_claimed seat.view.jobs claimed dones ended working.hand all
 
-    pub waits : after ≡ next.Wait → IsWorking old now None
-    waits is = record { seated = seated; number = same_number; unjoined = same_unjoined; hand = jobs ∙ ap (jobs_left seat.view.jobs) is }
+      -- the tasks that were claimed are performed
+      pub performs : (app : A) (did : List (Done V)) → app ≡ hall.origin.app → AreDone (meaning app) claimed did → IsWorking old now did
+      performs app did same done = record {
+        seated = seated;
+        number = same_number;
+        unjoined = same_unjoined;
+        hand = subst (λ (js : List (Job V)). AreDone (meaning hall.origin.app) js did) (sym are_claimed) (subst (λ (a : A). AreDone (meaning a) claimed did) same done);
+      }
+
+      pub waits : (left : List (Done V)) → claimed ≡ [] → left ≡ [] → IsWorking old now left
+      waits left none empty = record {
+        seated = seated;
+        number = same_number;
+        unjoined = same_unjoined;
+        hand = none_in_hand now.view.jobs left (are_claimed ∙ none) empty;
+      }

@@ -30,12 +30,14 @@ struct Place<'a, A: App> {
 }
 
 /// Runs an execution to its end by workers that share it, none of which waits for the end of a round:
-/// each ends the task that it has performed and claims the next one, in one turn.
+/// each ends what it has performed and claims what it performs next, in one turn.
 ///
 /// The caller is worker 0; for each other worker a thread is started, and where one can't be, its work
-/// is done here. The gate chooses for each worker at each of its claims, counted from 0: a closed one
-/// among all clear tasks, an open one among those that are known, or all where none is. Each task is
-/// performed once the gate lets its worker pass. It may wait. What was handed in is dropped after a fault.
+/// is done here. The gate chooses for each worker at each of its turns, counted from 0. At a closed one a
+/// worker claims one task in a turn, among all clear ones. At an open one it claims among those that are
+/// known, or all where none is, and where tasks are known to be short, as many of them as make up for
+/// the turn, up to its share of those that are pending. Each task is performed once the gate lets its
+/// worker pass. It may wait. What was handed in is dropped after a fault.
 ///
 /// At an open gate, where nobody sees when a task is performed, a single worker shares the execution with
 /// nobody, and runs it in rounds.

@@ -1,8 +1,10 @@
-//! Workers without rounds: each claims the next task as soon as it has performed and ended one.
+//! Workers without rounds: each claims tasks as soon as it has performed and ended others.
 #![tactic(auto)]
 
 mod bell;
 mod free;
+mod hand;
+mod plan;
 mod team;
 mod turns;
 mod worker;

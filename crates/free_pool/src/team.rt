@@ -6,6 +6,7 @@ ghost use Rattle.free_pool.specs.Team.{HasWorked, IsReady, IsTeam, MayWork, up_t
 ghost use Rattle.free_pool.specs.Turns.{IsSeated};
 
 use crate::bell::Bell;
+use crate::plan::Plan;
 use crate::worker::{Post, work};
 use app_laws::App;
 use graph_update::engine_sends;
@@ -36,6 +37,7 @@ pub(crate) fn work_together<'h, 'a, R: Threads + Wait + Sync, A: App + Sync, G: 
 {
     let hall = post.hall;
     let bell = Bell::new();
+    let plan = Plan::new(seed, workers, gate.is_open(), post.app.task_nanos());
     let posts = match posts_of(alloc, workers, post) {
         Ok(posts) => posts,
         Err(post) => {
@@ -43,7 +45,7 @@ pub(crate) fn work_together<'h, 'a, R: Threads + Wait + Sync, A: App + Sync, G: 
             return Err(NoRoom);
         }
     };
-    let posts = work_all(rt, gate, seed, &bell, posts)?;
+    let posts = work_all(rt, alloc, gate, &plan, &bell, posts)?;
     Ok(joined(hall, posts))
 }
 
@@ -103,8 +105,9 @@ fn posts_of<'h, 'a, A: App>(
 /// for some of them, their work is done here, after the others'.
 fn work_all<'h, 'a, R: Threads + Wait + Sync, A: App + Sync, G: Gate + Sync>(
     rt: &R,
+    alloc: Global,
     gate: &G,
-    seed: u64,
+    plan: &Plan,
     bell: &Bell,
     posts: Vec<Post<'h, 'a, A>>,
 ) -> Result<Vec<Post<'h, 'a, A>>, NoRoom>
@@ -118,7 +121,7 @@ fn work_all<'h, 'a, R: Threads + Wait + Sync, A: App + Sync, G: Gate + Sync>(
         &|post: Post<A>| -> Post<A>
             requires { MayWork post.hall.now post.app.now post.seat }
             ensures { HasWorked post.entry.hall.now post.entry.seat result.seat }
-        { work(rt, gate, seed, bell, post) },
+        { work(rt, alloc, gate, plan, bell, post) },
     )?;
     Ok(backs)
 }

@@ -1,7 +1,9 @@
 //! What a worker does in a turn.
 
-ghost use Rattle.std.specs.Prelude.{◌≡◌, ◌≢◌, ℕ, List, [], Some, None, IfOk, IfSome, IsTrue, IsFalse, OnErr};
-ghost use Rattle.graph_update.specs.Engine.{EngineState, IsToRun};
+ghost use Rattle.std.specs.Prelude.{◌≡◌, ◌≢◌, ◌<◌, ◌≤◌, ℕ, List, [], ◌∷◌, drop, length, None, Some, IfOk, IsTrue, IsFalse, OnErr};
+ghost use Rattle.std.specs.List.{AllByRecursion};
+ghost use Rattle.crew.specs.Jobs.{IsPerformed, MayRun};
+ghost use Rattle.graph_update.specs.Engine.{EngineState, FinishStaysSound, IsToRun};
 ghost use Rattle.run_laws.specs.Answers.{IsClaimAnswer};
 ghost use Rattle.run_laws.specs.Jobs.{Job};
 ghost use Rattle.run_laws.specs.Laws.{IsDone};
@@ -9,30 +11,38 @@ ghost use Rattle.run_laws.specs.Moves.{Moved};
 ghost use Rattle.worker_gate.specs.Fits.{drained_count};
 ghost use Rattle.worker_gate.specs.Steps.{left_by};
 ghost use Rattle.worker_gate.specs.Turns.{MayLeave};
-ghost use Rattle.free_pool.specs.Turns.{HasDone, IsNext, IsNextToRun, IsSeated, NotKept, jobs_left, keys_ended, keys_of};
+ghost use Rattle.free_pool.specs.Turns.{AreClaimed, AreDone, AreToPerform, GoesOn, IsAnswer, IsSeated, MayEnd, jobs_left, keys_ended};
 
+use crate::hand::Hand;
+use crate::plan::Plan;
 use app_laws::App;
-use cell_store::Held;
 use graph_update::{Claim, Done, Engine, Job};
 use kdg_text::{NoRoom, Steps};
 use output_log::join_laws;
 use run_laws::move_laws;
+use std::collections::VecDeque;
 use std::marker::Brand;
 use std::sync::Wait;
 use std::sync::ledger::Ledger;
 use worker_gate::{Did, Hall, Seat, Turn};
 
 /// What a turn leads to.
-#[derive(Drop)]
-pub enum Next<V: Held> {
-    /// A task is to be performed.
-    Perform(Job<V>),
+#[derive(Clone, Copy)]
+pub enum Next {
+    /// What was claimed is to be performed.
+    Perform,
     /// No pending task may run now.
     Wait,
     /// Nothing more is to be claimed.
     Stop,
-    /// Nothing more is to be claimed, and the job in hand stays there, since its task wasn't ended.
-    Keep,
+}
+
+/// What came of a turn.
+#[derive(Clone, Copy)]
+pub(crate) struct Turned {
+    /// How many of the tasks that were performed ended, from the first one on.
+    pub(crate) ended: usize,
+    pub(crate) next: Next,
 }
 
 /// Which of the clear tasks a worker claims: in key order the one at the remainder of the gate's number.
@@ -55,30 +65,35 @@ impl Pick {
     }
 }
 
-/// Takes the turn, ends in it the task that was performed, if there is one, and claims another one.
+/// Takes the turn, ends in it the tasks that were performed, and claims others. It goes on only where all
+/// ended.
 pub(crate) fn take_turn<'h, 'a, R: Wait, A: App, L: Ledger>(
     rt: &R,
     hall: &'h Hall<'a, A>,
     seat: Seat<'a, A>,
-    done: Option<Done<A::Val>>,
+    hand: &mut Hand<A::Val>,
     pick: Pick,
+    plan: &Plan,
     steps: &mut Steps<L>,
-) -> (Seat<'a, A>, Next<A::Val>)
+) -> (Seat<'a, A>, Turned)
     requires seated { IsSeated hall.now seat }
-    requires done { HasDone (A.meaning hall.now.origin.app) seat.view.jobs done }
+    requires done { AreDone (A.meaning hall.now.origin.app) seat.view.jobs hand.old.dones.items }
     ensures seated { IsSeated hall.now result.0 }
     ensures number { result.0.view.number ≡ seat.entry.view.number }
     ensures unjoined { result.0.view.unjoined ≡ seat.entry.view.unjoined }
-    ensures jobs { result.0.view.jobs ≡ jobs_left seat.entry.view.jobs result.1 }
-    ensures may_run { IsNextToRun (A.meaning hall.now.origin.app) result.1 }
+    ensures jobs { result.0.view.jobs ≡ jobs_left seat.entry.view.jobs result.1.ended hand.new.jobs.items }
+    ensures may_run { AllByRecursion (MayRun (A.meaning hall.now.origin.app)) hand.new.jobs.items }
+    ensures claimed { AreToPerform hand.new.jobs.items result.1.next }
+    ensures all { GoesOn result.1.next → result.1.ended ≡ length hand.old.dones.items }
+    ensures none { GoesOn result.1.next → hand.new.dones.items ≡ [] }
 {
     let mut turn = hall.enter(rt, seat);
-    let next = work_in_turn(turn.engine(), done, pick, steps);
-    (leave_as(turn, &next), next)
+    let turned = work_in_turn(turn.engine(), hand, pick, plan, steps);
+    (leave_as(turn, turned.ended, &hand.jobs), turned)
 }
 
-/// Takes the turn, and says in it that nothing more is to be claimed for want of memory. The job in hand
-/// stays there.
+/// Takes the turn, and says in it that nothing more is to be claimed for want of memory. The jobs in hand
+/// stay there.
 pub(crate) fn give_up<'h, 'a, R: Wait, A: App>(
     rt: &R,
     hall: &'h Hall<'a, A>,
@@ -92,34 +107,70 @@ pub(crate) fn give_up<'h, 'a, R: Wait, A: App>(
     move_laws::<A>();
     let mut turn = hall.enter(rt, seat);
     turn.engine().give_up();
-    leave_as(turn, &Next::Keep)
+    turn.leave::<Brand>()
 }
 
-/// Ends the task that was performed, if there is one, and claims another one. Where the end is refused
-/// or memory runs out, a mark stands afterwards.
+/// Ends the tasks that were performed, and claims others. Where an end is refused or memory runs out, a
+/// mark stands afterwards.
 fn work_in_turn<A: App, L: Ledger>(
     engine: &mut Engine<'_, A>,
-    done: Option<Done<A::Val>>,
+    hand: &mut Hand<A::Val>,
     pick: Pick,
+    plan: &Plan,
     steps: &mut Steps<L>,
-) -> Next<A::Val>
-    requires done { IfSome done (IsDone (A.meaning engine.old.app) engine.old.progress) }
+) -> Turned
+    requires may_end { MayEnd (A.meaning engine.old.app) engine.old.progress hand.old.dones.items }
     ensures app { engine.new.app ≡ engine.old.app }
-    ensures moved { (had : List (Job A.Val)) → HasDone (A.meaning engine.old.app) had done → Moved (A.meaning engine.old.app) engine.old.progress had engine.new.progress (jobs_left had result) (keys_ended had result) }
+    ensures moved { (had : List (Job A.Val)) → AreDone (A.meaning engine.old.app) had hand.old.dones.items → Moved (A.meaning engine.old.app) engine.old.progress had engine.new.progress (jobs_left had result.ended hand.new.jobs.items) (keys_ended had result.ended) }
     ensures drained { drained_count engine.new.progress ≡ drained_count engine.old.progress }
-    ensures may_run { IsNextToRun (A.meaning engine.old.app) result }
-    ensures next { IsNext (A.meaning engine.old.app) engine.new.progress result }
+    ensures may_run { AllByRecursion (MayRun (A.meaning engine.old.app)) hand.new.jobs.items }
+    ensures claimed { AreToPerform hand.new.jobs.items result.next }
+    ensures answer { IsAnswer (A.meaning engine.old.app) engine.new.progress result.next }
+    ensures all { GoesOn result.next → result.ended ≡ length hand.old.dones.items }
+    ensures none { GoesOn result.next → hand.new.dones.items ≡ [] }
 {
     move_laws::<A>();
-    if let Some(done) = done {
-        if !end_task(engine, done, steps) {
-            return Next::Keep;
-        }
+    hand.jobs.clear();
+    let performed = hand.dones.len();
+    let ended = end_tasks(engine, &mut hand.dones, steps);
+    if ended < performed {
+        return Turned {
+            ended,
+            next: Next::Stop,
+        };
     }
-    claim_next(engine, pick)
+    let most = plan.batch(engine.graph().len());
+    let next = claim_tasks(engine, pick, most, &mut hand.jobs);
+    Turned { ended, next }
 }
 
-/// Ends the task that was performed. Where that is refused a mark stands, and the answer is false.
+/// Ends the tasks that were performed, from the first one on, until an end is refused, and tells how many
+/// ended. Where one is refused a mark stands.
+fn end_tasks<A: App, L: Ledger>(
+    engine: &mut Engine<'_, A>,
+    dones: &mut VecDeque<Done<A::Val>>,
+    steps: &mut Steps<L>,
+) -> usize
+    requires may_end { MayEnd (A.meaning engine.old.app) engine.old.progress dones.old.items }
+    ensures app { engine.new.app ≡ engine.old.app }
+    ensures moved { (had : List (Job A.Val)) → AreDone (A.meaning engine.old.app) had dones.old.items → Moved (A.meaning engine.old.app) engine.old.progress had engine.new.progress (drop result had) (keys_ended had result) }
+    ensures drained { drained_count engine.new.progress ≡ drained_count engine.old.progress }
+    ensures within { result ≤ length dones.old.items }
+    ensures all { result ≡ length dones.old.items → dones.new.items ≡ [] }
+    ensures refused { result < length dones.old.items → engine.new.progress.over ≢ None }
+{
+    move_laws::<A>();
+    let mut ended = 0;
+    while let Some(done) = dones.pop_front() {
+        if !end_task(engine, done, steps) {
+            return ended;
+        }
+        ended += 1;
+    }
+    ended
+}
+
+/// Ends a task that was performed. Where that is refused a mark stands, and the answer is false.
 fn end_task<A: App, L: Ledger>(
     engine: &mut Engine<'_, A>,
     done: Done<A::Val>,
@@ -127,8 +178,9 @@ fn end_task<A: App, L: Ledger>(
 ) -> bool
     requires done { IsDone (A.meaning engine.old.app) engine.old.progress done }
     ensures app { engine.new.app ≡ engine.old.app }
-    ensures ended { (had : List (Job A.Val)) → HasDone (A.meaning engine.old.app) had (Some done) → IsTrue result → Moved (A.meaning engine.old.app) engine.old.progress had engine.new.progress [] (keys_of had) }
-    ensures refused { (had : List (Job A.Val)) → HasDone (A.meaning engine.old.app) had (Some done) → IsFalse result → Moved (A.meaning engine.old.app) engine.old.progress had engine.new.progress had [] }
+    ensures ended { (job : Job A.Val) (jobs others : List (Job A.Val)) → IsPerformed (A.meaning engine.old.app) jobs done job others → IsTrue result → Moved (A.meaning engine.old.app) engine.old.progress jobs engine.new.progress others (done.task.key ∷ []) }
+    ensures refused { (job : Job A.Val) (jobs others : List (Job A.Val)) → IsPerformed (A.meaning engine.old.app) jobs done job others → IsFalse result → Moved (A.meaning engine.old.app) engine.old.progress jobs engine.new.progress jobs [] }
+    ensures sound { IsTrue result → FinishStaysSound (A.meaning engine.old.app) engine.old.progress done engine.new.progress }
     ensures over { IsFalse result → engine.new.progress.over ≢ None }
     ensures drained { drained_count engine.new.progress ≡ drained_count engine.old.progress }
 {
@@ -143,18 +195,58 @@ fn end_task<A: App, L: Ledger>(
     }
 }
 
-/// Claims a task. Where memory runs out, a mark stands afterwards.
-fn claim_next<A: App>(engine: &mut Engine<'_, A>, pick: Pick) -> Next<A::Val>
+/// Claims tasks until there are so many, or none is to be had.
+fn claim_tasks<A: App>(
+    engine: &mut Engine<'_, A>,
+    pick: Pick,
+    most: usize,
+    jobs: &mut VecDeque<Job<A::Val>>,
+) -> Next
+    requires some { 1 ≤ most }
+    requires none { jobs.old.items ≡ [] }
     ensures app { engine.new.app ≡ engine.old.app }
-    ensures moved { Moved (A.meaning engine.old.app) engine.old.progress [] engine.new.progress (jobs_left [] result) [] }
+    ensures moved { Moved (A.meaning engine.old.app) engine.old.progress [] engine.new.progress jobs.new.items [] }
     ensures drained { drained_count engine.new.progress ≡ drained_count engine.old.progress }
-    ensures may_run { IsNextToRun (A.meaning engine.old.app) result }
-    ensures next { IsNext (A.meaning engine.old.app) engine.new.progress result }
-    ensures ended { NotKept result }
+    ensures may_run { AllByRecursion (MayRun (A.meaning engine.old.app)) jobs.new.items }
+    ensures claimed { AreToPerform jobs.new.items result }
+    ensures answer { IsAnswer (A.meaning engine.old.app) engine.new.progress result }
 {
     move_laws::<A>();
+    while jobs.len() < most {
+        let next = claim_next(engine, pick, jobs);
+        if jobs.is_empty() {
+            return next;
+        }
+        let Next::Perform = next else {
+            // What is claimed already comes first.
+            return Next::Perform;
+        };
+    }
+    Next::Perform
+}
+
+/// Claims a task. Where memory runs out, a mark stands afterwards.
+fn claim_next<A: App>(
+    engine: &mut Engine<'_, A>,
+    pick: Pick,
+    jobs: &mut VecDeque<Job<A::Val>>,
+) -> Next
+    ensures app { engine.new.app ≡ engine.old.app }
+    ensures moved { Moved (A.meaning engine.old.app) engine.old.progress jobs.old.items engine.new.progress jobs.new.items [] }
+    ensures drained { drained_count engine.new.progress ≡ drained_count engine.old.progress }
+    ensures claimed { AreClaimed (A.meaning engine.old.app) jobs.old.items result jobs.new.items }
+    ensures answer { IsAnswer (A.meaning engine.old.app) engine.new.progress result }
+{
+    move_laws::<A>();
+    let Ok(()) = jobs.reserve(1) else {
+        engine.give_up();
+        return Next::Stop;
+    };
     match claim_by(engine, pick) {
-        Ok(Claim::Job(job)) => Next::Perform(job),
+        Ok(Claim::Job(job)) => {
+            jobs.push_front_reserved(job);
+            Next::Perform
+        }
         Ok(Claim::NotYet) => Next::Wait,
         Ok(Claim::Over(_) | Claim::Ended) => Next::Stop,
         Err(_) => {
@@ -177,25 +269,30 @@ fn claim_by<A: App>(engine: &mut Engine<'_, A>, pick: Pick) -> Result<Claim<A::V
     }
 }
 
-/// Leaves the turn, which led to this.
-fn leave_as<'h, 'a, A: App>(turn: Turn<'h, 'a, A>, next: &Next<A::Val>) -> Seat<'a, A>
-    requires { MayLeave A.meaning turn (jobs_left turn.view.jobs next.now) (keys_ended turn.view.jobs next.now) }
+/// Leaves the turn, in which so many tasks ended, and these were claimed.
+fn leave_as<'h, 'a, A: App>(
+    turn: Turn<'h, 'a, A>,
+    ended: usize,
+    claimed: &VecDeque<Job<A::Val>>,
+) -> Seat<'a, A>
+    requires { MayLeave A.meaning turn (jobs_left turn.view.jobs ended claimed.now.items) (keys_ended turn.view.jobs ended) }
     ensures hall { result.hall ≡ turn.entry.hall }
-    ensures view { (found : EngineState A A.Val) → turn.entry.view.found ≡ Some found → result.view ≡ left_by (jobs_left turn.entry.view.jobs next.now) (keys_ended turn.entry.view.jobs next.now) turn.entry.view found turn.entry.engine }
+    ensures view { (found : EngineState A A.Val) → turn.entry.view.found ≡ Some found → result.view ≡ left_by (jobs_left turn.entry.view.jobs ended claimed.now.items) (keys_ended turn.entry.view.jobs ended) turn.entry.view found turn.entry.engine }
 {
-    leave_with::<A, Brand>(turn, next)
+    leave_with::<A, Brand>(turn, ended, claimed)
 }
 
 /// Leaves the turn, by what contracts call the jobs and the keys.
 fn leave_with<'h, 'a, A: App, P: Did<A::Val>>(
     turn: Turn<'h, 'a, A>,
-    next: &Next<A::Val>,
+    ended: usize,
+    claimed: &VecDeque<Job<A::Val>>,
 ) -> Seat<'a, A>
-    requires jobs { P.jobs ≡ jobs_left turn.view.jobs next.now }
-    requires ended { P.ended ≡ keys_ended turn.view.jobs next.now }
-    requires may { MayLeave A.meaning turn (jobs_left turn.view.jobs next.now) (keys_ended turn.view.jobs next.now) }
+    requires jobs { P.jobs ≡ jobs_left turn.view.jobs ended claimed.now.items }
+    requires ended { P.ended ≡ keys_ended turn.view.jobs ended }
+    requires may { MayLeave A.meaning turn (jobs_left turn.view.jobs ended claimed.now.items) (keys_ended turn.view.jobs ended) }
     ensures hall { result.hall ≡ turn.entry.hall }
-    ensures view { (found : EngineState A A.Val) → turn.entry.view.found ≡ Some found → result.view ≡ left_by (jobs_left turn.entry.view.jobs next.now) (keys_ended turn.entry.view.jobs next.now) turn.entry.view found turn.entry.engine }
+    ensures view { (found : EngineState A A.Val) → turn.entry.view.found ≡ Some found → result.view ≡ left_by (jobs_left turn.entry.view.jobs ended claimed.now.items) (keys_ended turn.entry.view.jobs ended) turn.entry.view found turn.entry.engine }
 {
     turn.leave::<P>()
 }

@@ -1,15 +1,17 @@
 //! What a worker does from its first turn to its last.
 
-ghost use Rattle.std.specs.Prelude.{◌≡◌, ◌<◌, [], None};
+ghost use Rattle.std.specs.Prelude.{◌≡◌, ◌<◌, []};
 ghost use Rattle.free_pool.specs.Team.{HasWorked, MayWork};
 ghost use Rattle.free_pool.specs.Turns.{IsSeated};
 
 use crate::bell::Bell;
+use crate::hand::{Hand, perform_all};
+use crate::plan::Plan;
 use crate::turns::{Next, Pick, give_up, take_turn};
 use app_laws::App;
-use graph_update::perform;
 use kdg_text::Steps;
 use outer_edge::Gate;
+use std::alloc::Global;
 use std::marker::Brand;
 use std::sync::Wait;
 use std::sync::ledger::{Blank, Ledger};
@@ -29,8 +31,9 @@ pub(crate) struct Post<'h, 'a, A: App> {
 /// stop too.
 pub(crate) fn work<'h, 'a, R: Wait, A: App, G: Gate>(
     rt: &R,
+    alloc: Global,
     gate: &G,
-    seed: u64,
+    plan: &Plan,
     bell: &Bell,
     post: Post<'h, 'a, A>,
 ) -> Post<'h, 'a, A>
@@ -39,7 +42,7 @@ pub(crate) fn work<'h, 'a, R: Wait, A: App, G: Gate>(
 {
     let blank = Blank::new(1);
     let (app, hall, worker) = (post.app, post.hall, post.worker);
-    let seat = work_counted::<R, A, G, Brand>(rt, gate, seed, bell, post, blank);
+    let seat = work_counted::<R, A, G, Brand>(rt, alloc, gate, plan, bell, post, blank);
     Post {
         app,
         hall,
@@ -51,8 +54,9 @@ pub(crate) fn work<'h, 'a, R: Wait, A: App, G: Gate>(
 /// Works until nothing more is to be claimed, with a count of the sets that are asked for.
 fn work_counted<'h, 'a, R: Wait, A: App, G: Gate, L: Ledger>(
     rt: &R,
+    alloc: Global,
     gate: &G,
-    seed: u64,
+    plan: &Plan,
     bell: &Bell,
     post: Post<'h, 'a, A>,
     blank: Blank,
@@ -74,38 +78,34 @@ fn work_counted<'h, 'a, R: Wait, A: App, G: Gate, L: Ledger>(
         worker,
     } = post;
     let mut steps = Steps::<L>::new(blank);
-    let mut done = None;
+    let mut hand = Hand::new(alloc);
     let is_open = gate.is_open();
-    let mut claims = 0u64;
+    let mut turns = 0u64;
     for _ in rt.forever() {
-        // Read before the claim: an end after it is heard.
+        // Read before the claims: an end after them is heard.
         let rung = bell.rung();
-        let pick = Pick::at(is_open, gate.choose(seed, worker, claims));
-        claims = claims.saturating_add(1);
-        let ends = done.is_some();
-        let (back, next) = take_turn(rt, hall, seat, done, pick, &mut steps);
+        let pick = Pick::at(is_open, gate.choose(plan.seed, worker, turns));
+        turns = turns.saturating_add(1);
+        let (back, turned) = take_turn(rt, hall, seat, &mut hand, pick, plan, &mut steps);
         seat = back;
-        if ends {
+        if turned.ended > 0 {
             bell.ring();
         }
-        done = match next {
-            Next::Perform(job) => match perform(app, job, worker, gate) {
-                Ok(done) => Some(done),
-                Err(_) => {
+        match turned.next {
+            Next::Perform => {
+                let jobs = &mut hand.jobs;
+                let Ok(()) = perform_all(app, gate, worker, jobs, &mut hand.dones) else {
                     let seat = give_up(rt, hall, seat);
                     bell.ring();
                     return seat;
-                }
-            },
-            Next::Wait => {
-                bell.wait(rt, rung);
-                None
+                };
             }
-            Next::Stop | Next::Keep => {
+            Next::Wait => bell.wait(rt, rung),
+            Next::Stop => {
                 bell.ring();
                 return seat;
             }
-        };
+        }
     }
     unreachable!()
 }

@@ -1,7 +1,7 @@
 use denote.Param.{param}
 use denote.Param.Send.{IsSend, sendable}
 use denote.Ref.{NamedLft}
-use Rattle.std.proofs.Common.{◌≡◌, ◌<◌, ℕ, List, get_or, length, rules, subst, sym, arith}
+use Rattle.std.proofs.Common.{◌≡◌, List, get_or, length, rules, subst, sym, arith}
 use Rattle.free_pool.specs.declared.worker.Post.{Post}
 use Rattle.free_pool.specs.Team.{HasWorked}
 use Rattle.free_pool.proofs.Seats.{zipped}

@@ -12,8 +12,8 @@ returns-clause-seated g c =
     ap (λ (e : EngineState g.row.A.Denot g.row.A-Val.Denot). drained_count e.progress) c.give_up.ensures.marked
     ∙ ap (λ (e : EngineState g.row.A.Denot g.row.A-Val.Denot). drained_count e.progress) c.engine.ensures.value in
     let found = turn_found c.args.hall.now c.args.seat turn c.requires.seated c.enter-turn.ensures in
-    still_seated c.args.hall.now c.args.seat turn c.requires.seated c.enter-turn.ensures engine turn.view.jobs [] c.leave_as.result
-    drained c.leave_as.ensures.hall (c.leave_as.ensures.view turn.engine found)
+    still_seated c.args.hall.now c.args.seat turn c.requires.seated c.enter-turn.ensures engine turn.view.jobs [] c.leave.result
+    drained c.leave.ensures.hall (c.leave.ensures.view turn.engine found)
 
 pub returns-clause-number : goal.returns-clause-number
 returns-clause-number g c =
@@ -23,8 +23,8 @@ returns-clause-number g c =
     ap (λ (e : EngineState g.row.A.Denot g.row.A-Val.Denot). drained_count e.progress) c.give_up.ensures.marked
     ∙ ap (λ (e : EngineState g.row.A.Denot g.row.A-Val.Denot). drained_count e.progress) c.engine.ensures.value in
     let found = turn_found c.args.hall.now c.args.seat turn c.requires.seated c.enter-turn.ensures in
-    same_number c.args.hall.now c.args.seat turn c.requires.seated c.enter-turn.ensures engine turn.view.jobs [] c.leave_as.result
-    drained c.leave_as.ensures.hall (c.leave_as.ensures.view turn.engine found)
+    same_number c.args.hall.now c.args.seat turn c.requires.seated c.enter-turn.ensures engine turn.view.jobs [] c.leave.result
+    drained c.leave.ensures.hall (c.leave.ensures.view turn.engine found)
 
 pub returns-clause-unjoined : goal.returns-clause-unjoined
 returns-clause-unjoined g c =
@@ -34,5 +34,5 @@ returns-clause-unjoined g c =
     ap (λ (e : EngineState g.row.A.Denot g.row.A-Val.Denot). drained_count e.progress) c.give_up.ensures.marked
     ∙ ap (λ (e : EngineState g.row.A.Denot g.row.A-Val.Denot). drained_count e.progress) c.engine.ensures.value in
     let found = turn_found c.args.hall.now c.args.seat turn c.requires.seated c.enter-turn.ensures in
-    same_unjoined c.args.hall.now c.args.seat turn c.requires.seated c.enter-turn.ensures engine turn.view.jobs [] c.leave_as.result
-    drained c.leave_as.ensures.hall (c.leave_as.ensures.view turn.engine found)
+    same_unjoined c.args.hall.now c.args.seat turn c.requires.seated c.enter-turn.ensures engine turn.view.jobs [] c.leave.result
+    drained c.leave.ensures.hall (c.leave.ensures.view turn.engine found)

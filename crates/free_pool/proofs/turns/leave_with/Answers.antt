@@ -9,4 +9,4 @@ pub leave-requires-after_bounds : goal.leave-requires-after_bounds
 leave-requires-after_bounds g c κs within =
     let had = c.args.turn.view.jobs in
     subst (λ (jobs : List (Job g.row.A-Val.Denot)). MayLeave g.A.App.meaning c.args.turn jobs g.P.Did.ended) (sym c.requires.jobs)
-    (subst (λ (ended : List Key). MayLeave g.A.App.meaning c.args.turn (jobs_left had c.args.next.now) ended) (sym c.requires.ended) c.requires.may)
+    (subst (λ (ended : List Key). MayLeave g.A.App.meaning c.args.turn (jobs_left had c.args.ended c.args.claimed.now.items) ended) (sym c.requires.ended) c.requires.may)

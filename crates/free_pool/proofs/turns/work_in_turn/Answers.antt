@@ -1,24 +1,52 @@
-use Rattle.std.proofs.Common.{◌≡◌, ◌∙◌, List, [], Some, sym, subst, ap}
-use Rattle.graph_update.specs.Engine.{EngineState}
+use Rattle.std.proofs.Common.{◌≤◌, ◌<◌, List, [], length, inl, sym, subst, arith}
+use Rattle.std.specs.List.{AllByRecursion}
+use Rattle.crew.specs.Jobs.{MayRun}
+use Rattle.run_laws.specs.Jobs.{Job}
 use Rattle.run_laws.specs.Moves.{Moved}
-use Rattle.free_pool.specs.Turns.{HasDone, jobs_left}
-use Rattle.free_pool.proofs.Moves.{ended_and_claimed, none_in_hand, only_claimed}
+use Rattle.free_pool.specs.Turns.{IsAnswer, jobs_left, keys_ended}
+use Rattle.free_pool.proofs.EndsInTurn.{then_claimed}
 use Rattle.free_pool.proofs.turns.work_in_turn.Goals as goal
-use Rattle.free_pool.proofs.turns.work_in_turn.Goals.{in-Some+else-not-end_task, in_default}
+
+pub returns-then-ended-performed-clause-moved : goal.returns-then-ended-performed-clause-moved
+returns-then-ended-performed-clause-moved g c had are =
+    let old = c.args.engine.now in
+    let ends = c.end_tasks-ended in
+    subst (λ (jobs : List (Job g.row.A-Val.Denot)). Moved (g.A.App.meaning old.app) old.progress had ends.new.engine.progress (jobs_left had ends.result jobs) (keys_ended had ends.result)) (sym c.clear.ensures.items)
+    (ends.ensures.moved had are)
+
+pub returns-then-ended-performed-clause-may_run : goal.returns-then-ended-performed-clause-may_run
+returns-then-ended-performed-clause-may_run g c =
+    subst (AllByRecursion (MayRun (g.A.App.meaning c.args.engine.now.app))) (sym c.clear.ensures.items) tt
+
+pub returns-then-ended-performed-clause-answer : goal.returns-then-ended-performed-clause-answer
+returns-then-ended-performed-clause-answer g c =
+    let fewer : c.end_tasks-ended.result < length c.args.hand.now.dones.items = omega (arith, c.if-ended-performed.true, c.len-performed.ensures, c.args.hand.now.dones.ok.0) in
+    inl (c.end_tasks-ended.ensures.refused fewer)
 
 pub returns-clause-moved : goal.returns-clause-moved
-returns-clause-moved g c had has =
+returns-clause-moved g c had are =
     let old = c.args.engine.now in
-    let now = c.claim_next.new.engine.progress in
-    let next = c.claim_next.result in
-    elim c.match-done.branch [
-      | in-Some+else-not-end_task w ↦
-          let mid = w.end_task.new.engine in
-          let one = w.end_task.ensures.ended had (subst (HasDone (g.A.App.meaning old.app) had) w.in-Some.is has) w.if-not-end_task.false in
-          let two = subst (λ (e : EngineState g.row.A.Denot g.row.A-Val.Denot). Moved (g.A.App.meaning e.app) e.progress [] now (jobs_left [] next) []) w.engine-is c.claim_next.ensures.moved in
-          let same = subst (λ (app : g.row.A.Denot). Moved (g.A.App.meaning app) mid.progress [] now (jobs_left [] next) []) w.end_task.ensures.app two in
-          ended_and_claimed (c.move_laws.ensures.follow old.app) old.progress mid.progress now had next c.claim_next.ensures.ended one same
-      | in_default w ↦
-          let two = subst (λ (e : EngineState g.row.A.Denot g.row.A-Val.Denot). Moved (g.A.App.meaning e.app) e.progress [] now (jobs_left [] next) []) w.engine-is c.claim_next.ensures.moved in
-          only_claimed old.progress now had next (none_in_hand (g.A.App.meaning old.app) c.args.done had has w.in_default.not-Some) c.claim_next.ensures.ended two
-    ]
+    let ends = c.end_tasks-ended in
+    let claims = c.claim_tasks-next in
+    let long : length c.args.hand.now.dones.items ≤ ends.result = omega (arith, c.if-ended-performed.false, c.len-performed.ensures, c.args.hand.now.dones.ok.0) in
+    let two = subst (λ (app : g.row.A.Denot). Moved (g.A.App.meaning app) ends.new.engine.progress [] claims.new.engine.progress claims.new.jobs.items []) ends.ensures.app claims.ensures.moved in
+    then_claimed (g.A.App.meaning old.app) (c.move_laws.ensures.follow old.app) old.progress ends.new.engine.progress claims.new.engine.progress had claims.new.jobs.items c.args.hand.now.dones.items ends.result are long
+    (ends.ensures.moved had are) two
+
+pub returns-clause-may_run : goal.returns-clause-may_run
+returns-clause-may_run g c =
+    let jobs = c.claim_tasks-next.new.jobs.items in
+    subst (λ (app : g.row.A.Denot). AllByRecursion (MayRun (g.A.App.meaning app)) jobs) c.end_tasks-ended.ensures.app c.claim_tasks-next.ensures.may_run
+
+pub returns-clause-answer : goal.returns-clause-answer
+returns-clause-answer g c =
+    let claims = c.claim_tasks-next in
+    subst (λ (app : g.row.A.Denot). IsAnswer (g.A.App.meaning app) claims.new.engine.progress claims.result) c.end_tasks-ended.ensures.app claims.ensures.answer
+
+pub returns-clause-all : goal.returns-clause-all
+returns-clause-all g c on =
+    omega (arith, c.if-ended-performed.false, c.len-performed.ensures, c.args.hand.now.dones.ok.0, c.end_tasks-ended.ensures.within)
+
+pub returns-clause-none : goal.returns-clause-none
+returns-clause-none g c on =
+    c.end_tasks-ended.ensures.all (omega (arith, c.if-ended-performed.false, c.len-performed.ensures, c.args.hand.now.dones.ok.0, c.end_tasks-ended.ensures.within))

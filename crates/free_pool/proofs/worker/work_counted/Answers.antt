@@ -1,22 +1,26 @@
-use Rattle.std.proofs.Common.{sym, subst}
-use Rattle.free_pool.proofs.Working.{IsWorking, performs, waits}
+use Rattle.std.proofs.Common.{subst, sym}
+use Rattle.free_pool.specs.Turns.{AreToPerform, GoesOn}
+use Rattle.free_pool.proofs.Working.{begins, performs, waits}
 use Rattle.free_pool.proofs.worker.work_counted.Goals as goal
-use Rattle.free_pool.proofs.worker.work_counted.Goals.{in-Perform+in-Ok, in-Wait}
+
+pub loop-init : goal.loop-init
+loop-init g c =
+    begins g.A.App.meaning c.args.post.hall.now c.args.post.seat c.new-hand.result.dones.items c.requires.seated c.requires.idle c.new-hand.ensures
+
+pub loop-preserved-in-Ok-1 : goal.loop-preserved-in-Ok-1
+loop-preserved-in-Ok-1 g c =
+    let now = c.take_turn-back.result.0 in
+    let turned = c.take_turn-back.result.1 in
+    let tells = c.take_turn-back.ensures in
+    let on = subst GoesOn (sym c.in-Perform.is) tt in
+    performs g.A.App.meaning c.args.post.hall.now c.args.post.seat c.loop.seat now c.loop.hand.dones.items c.loop.invariant tells.seated tells.number tells.unjoined
+    turned.ended c.take_turn-back.new.hand.jobs.items tells.jobs (tells.all on) c.args.post.app.now c.perform_all.new.dones.items c.requires.app c.in-Ok.ensures
 
 pub loop-preserved : goal.loop-preserved
 loop-preserved g c =
-    let hall = c.args.post.hall.now in
-    let old = c.args.post.seat in
-    let seat = c.loop.seat in
     let now = c.take_turn-back.result.0 in
-    let after = c.take_turn-back.result.1 in
+    let turned = c.take_turn-back.result.1 in
     let tells = c.take_turn-back.ensures in
-    elim c.match-next-2.branch [
-      | in-Perform+in-Ok w ↦
-          subst (IsWorking g.A.App.meaning hall old now) (sym w.done-is)
-          (performs g.A.App.meaning hall old seat now c.loop.done after c.loop.invariant tells.seated tells.number tells.unjoined tells.jobs
-          c.args.post.app.now w.in-Perform.job w.in-Ok.done c.requires.app w.in-Perform.is w.in-Ok.ensures.node w.in-Ok.ensures.task w.in-Ok.ensures.effect)
-      | in-Wait w ↦
-          subst (IsWorking g.A.App.meaning hall old now) (sym w.done-is)
-          (waits g.A.App.meaning hall old seat now c.loop.done after c.loop.invariant tells.seated tells.number tells.unjoined tells.jobs w.in-Wait.is)
-    ]
+    let on = subst GoesOn (sym c.in-Wait.is) tt in
+    waits g.A.App.meaning c.args.post.hall.now c.args.post.seat c.loop.seat now c.loop.hand.dones.items c.loop.invariant tells.seated tells.number tells.unjoined
+    turned.ended c.take_turn-back.new.hand.jobs.items tells.jobs (tells.all on) c.take_turn-back.new.hand.dones.items (subst (AreToPerform c.take_turn-back.new.hand.jobs.items) c.in-Wait.is tells.claimed) (tells.none on)

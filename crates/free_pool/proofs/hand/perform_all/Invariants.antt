@@ -1,0 +1,14 @@
+use Rattle.std.proofs.Common.{length}
+use Rattle.std.specs.List.{AllByRecursion}
+use Rattle.crew.specs.Jobs.{MayRun}
+use Rattle.free_pool.proofs.PerformedInOrder.{AreDoneBefore}
+use Rattle.free_pool.proofs.hand.perform_all.Given as goal
+
+abbrev pub invariant-loop-job : goal.invariant-loop-job
+invariant-loop-job g l = record {
+  may : AllByRecursion (MayRun (g.A.App.meaning l.app)) l.jobs.items;
+  done : AreDoneBefore (g.A.App.meaning l.app) l.fn.jobs.items l.jobs.items l.dones.items;
+}
+
+abbrev pub decreases-loop-job : goal.decreases-loop-job
+decreases-loop-job g l = length l.jobs.items

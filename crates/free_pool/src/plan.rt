@@ -1,0 +1,48 @@
+//! By what the workers of a run claim.
+
+ghost use Rattle.std.specs.Prelude.{◌≤◌};
+
+/// About how many nanoseconds the tasks that a worker claims in a turn may have to do. A turn takes one
+/// to three microseconds where the engine comes from another processor's cache.
+const BATCH: u64 = 50_000;
+
+/// How many tasks a worker claims in a turn at most. A light task takes a third of a microsecond in the
+/// turn in which it ends, and others wait meanwhile.
+const MOST: u64 = 64;
+
+/// By what the workers of a run claim.
+#[derive(Clone, Copy)]
+pub(crate) struct Plan {
+    /// What the gate chooses by.
+    pub(crate) seed: u64,
+    /// How many workers there are.
+    workers: u32,
+    /// How many tasks a worker claims in a turn at most.
+    most: usize,
+}
+
+impl Plan {
+    /// Where the gate is open, so that nobody sees who performs a task and when, a worker claims as many
+    /// tasks in a turn as make up for it. Where it isn't known how much a task has to do, and at a closed
+    /// gate, it claims one.
+    pub(crate) fn new(seed: u64, workers: u32, is_open: bool, task_nanos: Option<u64>) -> Plan {
+        let most = match task_nanos {
+            Some(nanos) if is_open => (BATCH / nanos.max(1)).min(MOST) as usize,
+            _ => 1,
+        };
+        Plan {
+            seed,
+            workers,
+            most,
+        }
+    }
+
+    /// How many tasks a worker claims in a turn at most, where so many are pending: no more than its share,
+    /// so that others find some.
+    pub(crate) fn batch(&self, pending: usize) -> usize
+        ensures { 1 ≤ result }
+    {
+        let share = pending / (self.workers as usize).max(1);
+        self.most.min(share).max(1)
+    }
+}
