@@ -43,9 +43,10 @@ impl Deed for Mixer {
 
     ghost meaning = { λ mixer. mixing mixer.times };
 
-    // A multiplication waits for the one before it, some nanosecond.
+    // Eight factors are multiplied with each other before the program runs, and such a multiplication waits
+    // some nanosecond for the one before it.
     fn task_nanos(&self) -> Option<u64> {
-        Some(u64::from(self.times))
+        Some(u64::from(self.times / 8))
     }
 }
 
