@@ -1,4 +1,4 @@
-ghost use Rattle.std.specs.Prelude.{◌≡◌, ◌≢◌, ◌+◌, ◌<◌, ◌≤◌, [], length, true, IfSome, List, OnOk};
+ghost use Rattle.std.specs.Prelude.{◌≡◌, ◌≢◌, ◌==◌, ◌+◌, ◌<◌, ◌≤◌, [], length, true, if◌then◌else◌, IfSome, List, OnOk};
 ghost use Rattle.rw_sets.specs.declared.access.Access.TheVariants.{Read, Write};
 ghost use Rattle.rw_sets.specs.declared.access.Access.{Access};
 ghost use Rattle.rw_sets.specs.Accesses.{excludes};
@@ -98,6 +98,8 @@ impl Location {
     #[inline(always)]
     pub(crate) fn reserve(&mut self, reservation: u32) -> Result<(), NoRoom>
         ensures room { OnOk result (reserved_in reservation self.old + 1 ≤ reserved_in reservation self.new) }
+        ensures number { OnOk result (self.new.reservation ≡ reservation) }
+        ensures counted { OnOk result (self.new.reserved ≡ (if self.old.reservation == reservation then self.old.reserved else 0) + 1) }
         ensures named { ids_for Write self.new ≡ ids_for Write self.old }
         ensures writers { ids_for Read self.new ≡ ids_for Read self.old }
     {
