@@ -2,12 +2,11 @@
 
 ghost use Rattle.std.specs.Prelude.{◌≤◌};
 
-/// About how many nanoseconds the tasks that a worker claims in a turn may have to do. A turn takes one
-/// to three microseconds where the engine comes from another processor's cache.
+/// About how many nanoseconds the tasks that a worker claims in a turn may have to do. A turn for a single
+/// task took two to three microseconds where the engine came from another processor's cache.
 const BATCH: u64 = 50_000;
 
-/// How many tasks a worker claims in a turn at most. A light task takes a third of a microsecond in the
-/// turn in which it ends, and others wait meanwhile.
+/// How many tasks a worker claims in a turn at most: others wait while as many end and are claimed.
 const MOST: u64 = 64;
 
 /// By what the workers of a run claim.
