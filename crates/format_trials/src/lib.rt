@@ -5,6 +5,8 @@
 #[cfg(test)]
 mod circuits;
 #[cfg(test)]
+mod covers;
+#[cfg(test)]
 mod decks;
 #[cfg(test)]
 mod eliminations;
