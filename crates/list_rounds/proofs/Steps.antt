@@ -1,17 +1,25 @@
 -- The steps of a round, from its beginning to the next one.
-use Rattle.std.proofs.Common.{◌≡◌, ◌≢◌, ℕ, suc, ◌+◌, ◌<◌, ◌≤◌, List, [], ◌∷◌, length, refl, sym, ap, ◌∙◌, subst, arith}
+use Rattle.std.proofs.Common.{◌≡◌, ◌≢◌, inl, inr, ℕ, suc, ◌+◌, ◌<◌, ◌≤◌, List, [], ◌∷◌, length, refl, sym, ap, ◌∙◌, subst, arith}
 use Rattle.task_order.specs.declared.task.Task.{Task}
 use Rattle.app_laws.specs.Applications.{Application}
 use Rattle.commuting.specs.Clear.{IsReady}
 use Rattle.commuting.specs.Commuting.{AreClear}
 use Rattle.commuting.specs.Rounds.{TakesRounds, after_round, clear_tasks}
 use Rattle.commuting.specs.States.{State, after_tasks, state_of}
+use Rattle.crew.specs.declared.answers.OverCause.{OverCause}
+use Rattle.crew.specs.declared.answers.OverCause.TheVariants as cause
 use Rattle.list_rounds.specs.declared.parts.RunParts.{RunParts}
-use Rattle.list_rounds.specs.Acting.{HasActed}
+use Rattle.list_rounds.specs.Acting.{HasActed, IsTooMany}
 use Rattle.list_rounds.specs.Basis.{Basis}
 use Rattle.list_rounds.specs.Course.{HasCome, IsActing, IsDrained, state_in}
-use Rattle.list_rounds.specs.Rounds.{IsKept}
+use Rattle.list_rounds.specs.Rounds.{IsKept, IsRoundFault, PassesLimit, RoundsState}
 use Rattle.list_rounds.proofs.Course.{acts_keep_course, drains_keep_course, same_state, state_after}
+
+-- where a task makes more tasks than the limit, it is the first that does
+pub passes_here : {A V : Type 0} (whole app : Application V) (run : RoundsState A V) (parts : RunParts V) (task : Task) (left tasks : List Task) (limit : ℕ) (fault : OverCause) → IsTooMany app parts task limit fault
+    → ((created : ℕ) → PassesLimit app (state_in parts) parts.ended limit (task ∷ left) created → PassesLimit whole run.state run.ended run.limit tasks created) → IsRoundFault whole run tasks fault
+passes_here whole app run parts task left tasks limit (cause.Budget created most) many passes = passes created (inl (many.0, many.2))
+passes_here whole app run parts task left tasks limit cause.NoRoom many passes = tt
 
 module _ {V : Type 0} {app : Application V} (basis : Basis app) where
   -- some task is clear, where any is pending
@@ -50,6 +58,17 @@ module _ {V : Type 0} {app : Application V} (basis : Basis app) where
             leads = ap (after_tasks app.act left) after ∙ acting.leads;
             within = within;
           }
+
+      -- where a task makes no more than the limit, one of those behind it is the first
+      pub passes_later : (task : Task) (left : List Task) (now : RunParts V) → IsActing app start limit target parts (task ∷ left) → HasActed app parts task now → now.ended + length now.pending ≤ limit
+          → (created : ℕ) → PassesLimit app (state_in now) now.ended limit left created → PassesLimit app (state_in parts) parts.ended limit (task ∷ left) created
+      passes_later task left now acting acted within created over =
+          let after = state_after basis acting.course task acting.clear.clear.0 now acted in
+          let many = ap (λ (s : State V). length s.pending) after in
+          inr (
+            omega (arith, within, acted.ended, many),
+            subst (λ (s : State V). PassesLimit app s (parts.ended + 1) limit left created) after (subst (λ n. PassesLimit app (state_in now) n limit left created) acted.ended over),
+          )
 
   -- where none is left, a drain leaves the target
   pub rested : {start : State V} {limit : ℕ} {target : State V} {parts : RunParts V} → IsActing app start limit target parts [] → (now : RunParts V) → IsDrained parts now → state_in now ≡ target

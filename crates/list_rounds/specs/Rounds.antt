@@ -1,13 +1,14 @@
 -- Runs in rounds as their callers see them, and what their calls answer.
-use Rattle.std.specs.Prelude.{◌≡◌, ◌<◌, ◌≤◌, ◌+◌, ℕ, List, [], length, None}
+use Rattle.std.specs.Prelude.{◌≡◌, ◌<◌, ◌≤◌, ◌+◌, ◌⊎◌, ℕ, List, [], ◌∷◌, length, None}
 use Rattle.task_order.specs.declared.start.Start.{Start}
+use Rattle.task_order.specs.declared.task.Task.{Task}
 use Rattle.task_order.specs.Key.{end}
 use Rattle.task_order.specs.TaskList.{put_all}
 use Rattle.app_laws.specs.Applications.{Application}
 use Rattle.app_laws.specs.Execution.{first_from}
 use Rattle.commuting.specs.Clear.{IsReady}
 use Rattle.commuting.specs.Rounds.{TakesRounds, after_round}
-use Rattle.commuting.specs.States.{State, run_from, state_of}
+use Rattle.commuting.specs.States.{State, after_task, run_from, state_of}
 use Rattle.crew.specs.declared.answers.OverCause.{OverCause}
 use Rattle.crew.specs.declared.answers.OverCause.TheVariants as cause
 
@@ -44,6 +45,18 @@ module _ {V : Type 0} (app : Application V) where
   abbrev pub IsRunFault : State V → ℕ → OverCause → Type 0
   IsRunFault start limit (cause.Budget created most) = IsOverLimit start limit created most
   IsRunFault start limit cause.NoRoom = Unit {0}
+
+  -- where tasks act in turn from a state, and so many had ended before, this is how many tasks there are when first they are more than the limit
+  abbrev pub PassesLimit : State V → ℕ → ℕ → List Task → ℕ → Type 0
+  PassesLimit state ended limit [] created = ⊥
+  PassesLimit state ended limit (task ∷ tasks) created =
+      let next = after_task app.act task state in
+      ((created ≡ ended + 1 + length next.pending) × (limit < created)) ⊎ ((ended + 1 + length next.pending ≤ limit) × PassesLimit next (ended + 1) limit tasks created)
+
+  -- the fault of a round in which these tasks act in turn; want of memory may come at any time
+  abbrev pub IsRoundFault : {A : Type 0} → RoundsState A V → List Task → OverCause → Type 0
+  IsRoundFault run tasks (cause.Budget created most) = PassesLimit run.state run.ended run.limit tasks created
+  IsRoundFault run tasks cause.NoRoom = Unit {0}
 
   -- what is kept of every run: its state is ready, and no more tasks than the limit have ended or are pending
   pub record IsKept {A : Type 0} (run : RoundsState A V) : Type 0 where

@@ -7,7 +7,7 @@ ghost use Rattle.app_laws.specs.Serial.{IsRun};
 ghost use Rattle.commuting.specs.Rounds.{TakesRounds, clear_tasks};
 ghost use Rattle.commuting.specs.States.{execution_from};
 ghost use Rattle.list_rounds.specs.Renaming.{IsSameRun};
-ghost use Rattle.list_rounds.specs.Rounds.{IsKept, IsNext, IsRunFault, begun, most_tasks, start_state};
+ghost use Rattle.list_rounds.specs.Rounds.{IsKept, IsNext, IsRoundFault, IsRunFault, begun, most_tasks, start_state};
 
 use crate::RunFault;
 use crate::acting::{act_one, within};
@@ -146,7 +146,8 @@ impl<'a, A: App> ListRounds<'a, A> {
     /// One round: the clear tasks act where the cells are, in the order of their keys, and the list has none
     /// of them any more. Before task number `i` of the round acts, the gate lets worker `i mod workers` pass.
     /// The texts that no pending task is before then leave the log for the text of the run. The horizon is
-    /// told which tasks come and go. What was handed in is dropped after a fault.
+    /// told which tasks come and go. It is refused as soon as a task makes more tasks than the limit, and
+    /// tells how many there are then. What was handed in is dropped after a fault.
     pub fn act_round<G: Gate, L: Ledger>(
         self,
         clear: &mut VecDeque<Task>,
@@ -162,6 +163,7 @@ impl<'a, A: App> ListRounds<'a, A> {
         ensures told { IfOk result (λ next. A.tells self.entry.app horizon.new next.state.pending) }
         ensures none { OnOk result (clear.new.items ≡ []) }
         ensures fault { IfErr result (IsRunFault (A.meaning self.entry.app) self.entry.start self.entry.limit) }
+        ensures first { IfErr result (IsRoundFault (A.meaning self.entry.app) self.entry clear.old.items) }
     {
         basis::<A>();
         let ListRounds {

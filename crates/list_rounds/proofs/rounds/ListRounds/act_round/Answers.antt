@@ -3,10 +3,10 @@ use Rattle.std.proofs.lemmas.Result.{err_from_is_err_and}
 use Rattle.task_order.specs.declared.task.Task.{Task}
 use Rattle.commuting.specs.Rounds.{after_round, clear_tasks}
 use Rattle.list_rounds.specs.Course.{IsActing, state_in}
-use Rattle.list_rounds.specs.Rounds.{IsRunFault, RoundsState}
+use Rattle.list_rounds.specs.Rounds.{IsRunFault, PassesLimit, RoundsState}
 use Rattle.list_rounds.proofs.Course.{never_ends, new_entry}
 use Rattle.list_rounds.proofs.Lists.{nothing_left}
-use Rattle.list_rounds.proofs.Steps.{acting_begins, acting_goes_on, rested, round_comes_to_rest, round_has_tasks}
+use Rattle.list_rounds.proofs.Steps.{acting_begins, acting_goes_on, passes_here, passes_later, rested, round_comes_to_rest, round_has_tasks}
 use Rattle.list_rounds.proofs.rounds.ListRounds.act_round.Goals as goal
 
 pub loop-task-init : goal.loop-task-init
@@ -20,6 +20,7 @@ loop-task-init g c =
           (acting_begins (c.basis.ensures c.self.inside.app.now) c.self.inside.rounds parts c.args.clear.now.items c.self.invariant clear);
       told = subst (λ (r : RoundsState g.row.A.Denot g.row.A-Val.Denot). g.A.App.tells r.app c.args.horizon.now r.state.pending) (sym c.self.view_is) c.requires.told;
       ended = ap (λ (r : RoundsState g.row.A.Denot g.row.A-Val.Denot). r.ended + length c.args.clear.now.items) c.self.view_is;
+      passes = λ created over. subst (λ (r : RoundsState g.row.A.Denot g.row.A-Val.Denot). PassesLimit (g.A.App.meaning r.app) r.state r.ended r.limit c.args.clear.now.items created) c.self.view_is over;
     }
 
 pub act_one-requires-clause-new : goal.act_one-requires-clause-new
@@ -39,6 +40,9 @@ loop-task-preserved g c =
       acting = acting_goes_on (c.basis.ensures c.self.inside.app.now) c.in-Some.task rest c.act_one.new.parts acting acted c.in_ok-act_one.ensures.within;
       told = c.in_ok-act_one.ensures.told;
       ended = omega (arith, acted.ended, ap length taken, c.loop-task.invariant.ended);
+      passes = λ created over. c.loop-task.invariant.passes created
+          (subst (λ (tasks : List Task). PassesLimit app (state_in c.loop-task.parts) c.loop-task.parts.ended c.self.inside.limit tasks created) (sym taken)
+          (passes_later (c.basis.ensures c.self.inside.app.now) c.in-Some.task rest c.act_one.new.parts acting acted c.in_ok-act_one.ensures.within created over));
     }
 
 pub returns-in_err-act_one-clause-fault : goal.returns-in_err-act_one-clause-fault
@@ -49,6 +53,16 @@ returns-in_err-act_one-clause-fault g c =
     rw (e.1, e.2)
     (subst (λ (r : RoundsState g.row.A.Denot g.row.A-Val.Denot). IsRunFault (g.A.App.meaning r.app) c.args.self.start r.limit c.in_err-act_one.field-0.0) c.self.view_is
     (never_ends (c.basis.ensures c.self.inside.app.now) acting.course c.in-Some.task acting.clear.clear.0 c.self.inside.limit c.in_err-act_one.field-0.0 acting.within c.in_err-act_one.ensures.fault))
+
+pub returns-in_err-act_one-clause-first : goal.returns-in_err-act_one-clause-first
+returns-in_err-act_one-clause-first g c =
+    let app = g.A.App.meaning c.self.inside.app.now in
+    let rest = c.pop_front.new.self.items in
+    let e = err_from_is_err_and c.from_residual.result c.from_residual.ensures.1 in
+    rw (e.1, e.2)
+    (passes_here (g.A.App.meaning c.args.self.app) app c.args.self c.loop-task.parts c.in-Some.task rest c.args.clear.now.items c.self.inside.limit c.in_err-act_one.field-0.0 c.in_err-act_one.ensures.fault
+    (λ created over. c.loop-task.invariant.passes created
+    (subst (λ (tasks : List Task). PassesLimit app (state_in c.loop-task.parts) c.loop-task.parts.ended c.self.inside.limit tasks created) (sym c.in-Some.ensures.items) over)))
 
 pub invariant_of-result : goal.invariant_of-result
 invariant_of-result g c =
