@@ -3,3 +3,4 @@ pub mod Basis
 pub mod Course
 pub mod Renaming
 pub mod Rounds
+pub mod Runs

@@ -2,6 +2,5 @@ pub mod Basis
 pub mod Board
 pub mod Marked
 pub mod Pending
-pub mod Runs
 pub mod Sources
 pub mod Writers

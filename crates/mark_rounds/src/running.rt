@@ -4,8 +4,8 @@ ghost use Rattle.std.specs.Prelude.{◌≡◌, ◌<◌, ◌≤◌, ◌^◌, leng
 ghost use Rattle.cell_store.specs.Values.{values_of};
 ghost use Rattle.app_laws.specs.Applications.{AreFitStarts};
 ghost use Rattle.list_rounds.specs.Rounds.{IsRunFault, most_tasks, start_state};
+ghost use Rattle.list_rounds.specs.Runs.{IsRoundsEnd};
 ghost use Rattle.mark_rounds.specs.Board.{IsAlone, IsFresh};
-ghost use Rattle.mark_rounds.specs.Runs.{IsRoundsEnd};
 
 use crate::finding::{RoundLists, find_clear};
 use app_laws::{App, Finals};

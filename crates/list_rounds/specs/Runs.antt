@@ -1,4 +1,4 @@
--- What a run by marks answers.
+-- What a whole run in rounds answers.
 use Rattle.std.specs.Prelude.{ℕ}
 use Rattle.app_laws.specs.declared.serial_run.Finals.{Finals}
 use Rattle.app_laws.specs.Applications.{Application}
