@@ -1,0 +1,5 @@
+pub mod Finding
+pub mod Gathered
+pub mod Gathering
+pub mod Meetings
+pub mod RoundLaws

@@ -1,0 +1,5 @@
+pub mod Basis
+pub mod Front
+pub mod Found
+pub mod Sets
+pub mod Waiting
