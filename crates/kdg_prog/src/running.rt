@@ -1,6 +1,9 @@
-ghost use Rattle.std.specs.Prelude.{◌≡◌, ◌≢◌, ◌++◌, IfOk, IfErr, OnOk};
+ghost use Rattle.std.specs.Prelude.{◌≡◌, ◌≢◌, ◌++◌, IfOk, IfErr, OnOk, true};
 ghost use Rattle.cell_store.specs.Values.{AreAllHome, values_of};
-ghost use Rattle.kdg_prog.specs.Problem.{answer_by, figure_line, line_count, made_from, print_of_finals, problem_of, rounds_text, text_shown, whole_print};
+ghost use Rattle.app_laws.specs.Applications.{AreFitStarts};
+ghost use Rattle.list_rounds.specs.Rounds.{start_state};
+ghost use Rattle.mark_rounds.specs.Runs.{IsRoundsEnd};
+ghost use Rattle.kdg_prog.specs.Problem.{answer_by, figure_line, is_in_rounds, line_count, made_from, print_of_finals, problem_of, rounds_text, text_shown, whole_print};
 ghost use Rattle.kdg_prog.specs.Refusals.{IsRunRefusal};
 ghost use Rattle.kdg_prog.specs.Starts.{IsStarted};
 ghost use Rattle.kdg_prog.specs.Words.{IsAllowed};
@@ -127,16 +130,34 @@ fn marks_print<A: Runnable, G: Gate>(
     ensures print { IfOk result (λ bytes. answer_by options.now (problem_of (A.meaning app.now) (A.setting app.now)) ≡ whole_print bytes) }
     ensures refusal { IfErr result (IsRunRefusal options.now (problem_of (A.meaning app.now) (A.setting app.now))) }
 {
+    let cells = app.start_cells()?;
+    let tasks = app.start_tasks()?;
+    let budget = options.budget;
+    let (finals, rounds) = run_marks(alloc, app, cells, tasks, budget, gate, options.workers)?;
+    Ok(listed_print(alloc, options, app, finals, rounds)?)
+}
+
+/// The print of a run in rounds over a list of its pending tasks, which has ended after so many.
+fn listed_print<A: Runnable>(
+    alloc: Global,
+    options: &Options,
+    app: &A,
+    finals: Finals<A::Val>,
+    rounds: u64,
+) -> Result<Text, NoRoom>
+    requires mode { is_in_rounds options.now.mode ≡ true }
+    requires fit_cells { (A.meaning app.now).is_fit_cells (A.setting app.now).cells }
+    requires fit_tasks { AreFitStarts (A.meaning app.now) (A.setting app.now).tasks }
+    requires end { IsRoundsEnd (A.meaning app.now) (start_state (A.setting app.now).cells (A.setting app.now).tasks) options.now.budget finals rounds }
+    requires fit { (A.meaning app.now).is_fit_cells (values_of finals.store) }
+    ensures { IfOk result (λ bytes. answer_by options.now (problem_of (A.meaning app.now) (A.setting app.now)) ≡ whole_print bytes) }
+{
     value_laws::<A::Val>();
     round_laws::<A>();
     standing_laws::<A>();
     round_count_laws::<A>();
-    let cells = app.start_cells()?;
-    let tasks = app.start_tasks()?;
-    let budget = options.budget;
-    let (finals, taken) = run_marks(alloc, app, cells, tasks, budget, gate, options.workers)?;
-    let rounds = options.stats.then_some(taken);
-    Ok(finals_print(alloc, options, app, finals, rounds)?)
+    let told = options.stats.then_some(rounds);
+    finals_print(alloc, options, app, finals, told)
 }
 
 /// Runs an application in mode free, and gives the print, or why there is none.
