@@ -2,7 +2,7 @@ ghost use Rattle.std.specs.Prelude.{◌≡◌, ◌≢◌, ◌++◌, IfOk, IfErr,
 ghost use Rattle.cell_store.specs.Values.{AreAllHome, values_of};
 ghost use Rattle.app_laws.specs.Applications.{AreFitStarts};
 ghost use Rattle.list_rounds.specs.Rounds.{start_state};
-ghost use Rattle.mark_rounds.specs.Runs.{IsRoundsEnd};
+ghost use Rattle.list_rounds.specs.Runs.{IsRoundsEnd};
 ghost use Rattle.kdg_prog.specs.Problem.{answer_by, figure_line, is_in_rounds, line_count, made_from, print_of_finals, problem_of, rounds_text, text_shown, whole_print};
 ghost use Rattle.kdg_prog.specs.Refusals.{IsRunRefusal};
 ghost use Rattle.kdg_prog.specs.Starts.{IsStarted};
@@ -20,6 +20,8 @@ use kdg_text::{NoRoom, Text, push_u64};
 use mark_rounds::run_marks;
 use outer_edge::Gate;
 use output_log::join_laws;
+use resting_rounds::run_resting;
+use resting_tasks::Resting;
 use source_pool::run_rounds;
 use std::alloc::Global;
 use std::sync::Wait;
@@ -137,7 +139,26 @@ fn marks_print<A: Runnable, G: Gate>(
     Ok(listed_print(alloc, options, app, finals, rounds)?)
 }
 
-/// The print of a run in rounds over a list of its pending tasks, which has ended after so many.
+/// The print of a run in rounds whose pending tasks rest, which needs no graph.
+pub(crate) fn resting_print<A: Runnable + Resting, G: Gate>(
+    alloc: Global,
+    options: &Options,
+    app: &A,
+    gate: &G,
+) -> Result<Text, Status>
+    requires allowed { IsAllowed options.now }
+    requires mode { options.now.mode ≡ Mode.Rounds }
+    ensures print { IfOk result (λ bytes. answer_by options.now (problem_of (A.meaning app.now) (A.setting app.now)) ≡ whole_print bytes) }
+    ensures refusal { IfErr result (IsRunRefusal options.now (problem_of (A.meaning app.now) (A.setting app.now))) }
+{
+    let cells = app.start_cells()?;
+    let tasks = app.start_tasks()?;
+    let budget = options.budget;
+    let (finals, rounds) = run_resting(alloc, app, cells, tasks, budget, gate, options.workers)?;
+    Ok(listed_print(alloc, options, app, finals, rounds)?)
+}
+
+/// The print of a run in rounds over a list of its pending tasks, which has ended after that many.
 fn listed_print<A: Runnable>(
     alloc: Global,
     options: &Options,

@@ -1,17 +1,19 @@
 ghost use Rattle.std.specs.Prelude.{◌≡◌, ◌≢◌, ◌<◌, map, string_bytes, IfOk, IfErr};
 ghost use Rattle.outer_edge.specs.Transfers.{transfer_of};
-ghost use Rattle.kdg_prog.specs.Answer.{answer_of, whole_print};
+ghost use Rattle.kdg_prog.specs.Answer.{answer_of, pattern_problem, whole_print};
 ghost use Rattle.kdg_prog.specs.Headline.{CompletesInMemory, IsWritten, Promises, TellsBadWord};
 ghost use Rattle.kdg_prog.specs.Inputs.{read_of};
-ghost use Rattle.kdg_prog.specs.Refusals.{IsRefusal};
+ghost use Rattle.kdg_prog.specs.Problem.{answer_by};
+ghost use Rattle.kdg_prog.specs.Refusals.{IsRefusal, IsRunRefusal};
 ghost use Rattle.kdg_prog.specs.Searches.{PrintsLevels, TellsLevels};
 ghost use Rattle.kdg_prog.specs.Words.{IsAllowed, options_of};
 
 use crate::described::{circuit_for, matrix_for, mesh_for};
 use crate::inputs::read_input;
-use crate::running::{print_of_free_run, print_of_run};
+use crate::running::{print_of_free_run, print_of_run, resting_print};
 use crate::searching::{free_levels_print, levels_print};
 use crate::{Command, Mode, Options, Status, read_words};
+use gf2_eliminate::Matrix;
 use kdg_text::Text;
 use outer_edge::{CleanSink, CleanSource, Gate, Sink, Source, write_whole};
 use std::alloc::Global;
@@ -176,13 +178,33 @@ fn print_of<R: Threads + Sync, G: Gate + Sync>(
         }
         Command::Rank => {
             let matrix = matrix_for(alloc, options, input)?;
-            print_of_run(rt, alloc, options, &matrix, gate)
+            print_of_matrix(rt, alloc, options, &matrix, gate)
         }
         Command::Mesh => {
             let mesh = mesh_for(alloc, options, input)?;
             print_of_run(rt, alloc, options, &mesh, gate)
         }
         Command::Levels => levels_print(rt, alloc, options, input, gate),
+    }
+}
+
+/// The print of an elimination in mode serial, rounds or marks, or why there is none. In rounds its tasks
+/// rest, and no graph is needed, unless the gate is to choose among them.
+fn print_of_matrix<R: Threads + Sync, G: Gate + Sync>(
+    rt: &R,
+    alloc: Global,
+    options: &Options,
+    matrix: &Matrix,
+    gate: &G,
+) -> Result<Text, Status>
+    requires allowed { IsAllowed options.now }
+    requires plain { options.now.mode ≢ Mode.Free }
+    ensures print { IfOk result (λ bytes. answer_by options.now (pattern_problem matrix.now) ≡ whole_print bytes) }
+    ensures refusal { IfErr result (IsRunRefusal options.now (pattern_problem matrix.now)) }
+{
+    match options.mode {
+        Mode::Rounds if gate.is_open() => resting_print(alloc, options, matrix, gate),
+        _ => print_of_run(rt, alloc, options, matrix, gate),
     }
 }
 

@@ -1,7 +1,6 @@
-use Rattle.std.proofs.Common.{◌≡◌, ◌∙◌, refl, subst, sym}
-use Rattle.app_laws.specs.Applications.{AreFitStarts}
+use Rattle.std.proofs.Common.{◌≡◌, ◌∙◌, sym}
 use Rattle.kdg_prog.specs.declared.words.Mode.TheVariants.{Marks, Serial}
-use Rattle.kdg_prog.specs.Problem.{is_in_rounds, problem_of}
+use Rattle.kdg_prog.specs.Problem.{problem_of}
 use Rattle.kdg_prog.specs.Refusals.{AnswersRounds, IsRunRefusal}
 use Rattle.kdg_prog.proofs.Refusing.{refusal_from_list, refused_with}
 use Rattle.kdg_prog.proofs.running.marks_print.Goals as goal
