@@ -25,13 +25,14 @@ use task_order::{Body, Key, Task, TaskList, ascending_laws, put_in_laws, without
 
 /// Has a pending task act on the cells, which are all home: it leaves the pending ones, its children come
 /// in, and its text is logged. It is refused where there would be more tasks than the limit. The horizon
-/// then tells of those that are pending.
+/// then tells of those that are pending. No contract rests on `in_front`, which is where tasks are looked for.
 pub(crate) fn act_one<A: App, L: Ledger>(
     app: &A,
     task: Task,
     limit: u64,
     parts: &mut RunParts<A::Val>,
     horizon: &mut A::Horizon,
+    in_front: &mut bool,
     steps: &mut Steps<L>,
 ) -> Result<(), RunFault>
     requires ready { IsReady (A.meaning app.now) (state_in parts.old) }
@@ -48,7 +49,7 @@ pub(crate) fn act_one<A: App, L: Ledger>(
 {
     basis::<A>();
     let (children, text) = act(app, &task, &mut parts.store, steps)?;
-    leave(&mut parts.pending, &task.key);
+    leave(&mut parts.pending, &task.key, in_front);
     parts.ended += 1;
     let made = children.items();
     within(
@@ -62,20 +63,23 @@ pub(crate) fn act_one<A: App, L: Ledger>(
     Ok(())
 }
 
-/// A task leaves the pending ones. In a round in which all of them are clear it is the earliest, which is
-/// found without a search.
+/// A task leaves the pending ones. As long as each clear task of a round was the earliest, `in_front`, the next
+/// one mostly is, and is found without a search. Once one isn't, the tasks before it stay, and none will be.
 #[inline(always)]
-fn leave(pending: &mut TaskList, key: &Key)
+fn leave(pending: &mut TaskList, key: &Key, in_front: &mut bool)
     ensures { pending.new ≡ without key.now pending.old }
 {
     ascending_laws();
     put_in_laws();
     without_laws();
-    if is_earliest(pending, key) {
-        let _ = pending.take_first();
-    } else {
-        let _ = pending.remove(key);
+    if *in_front {
+        if is_earliest(pending, key) {
+            let _ = pending.take_first();
+            return;
+        }
+        *in_front = false;
     }
+    let _ = pending.remove(key);
 }
 
 /// Whether the key is that of the earliest of the tasks.

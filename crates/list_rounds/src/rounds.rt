@@ -176,10 +176,11 @@ impl<'a, A: App> ListRounds<'a, A> {
             first,
         } = self;
         let mut worker = 0u32;
+        let mut in_front = true;
         while let Some(task) = clear.pop_front() {
             gate.pass(worker, &task.key);
             worker = next_worker(worker, workers);
-            act_one(app, task, limit, &mut parts, horizon, steps)?;
+            act_one(app, task, limit, &mut parts, horizon, &mut in_front, steps)?;
         }
         drain(&mut parts)?;
         Ok(ListRounds {
