@@ -8,7 +8,6 @@ ghost use Rattle.free_pool.specs.Runs.{IsRunEnd};
 ghost use Rattle.free_pool.specs.Turns.{IsSeated};
 
 use crate::team::work_together;
-use crate::worker::Post;
 use app_laws::{App, Finals};
 use cell_store::value_laws;
 use graph_update::{Claim, Engine};
@@ -20,7 +19,7 @@ use source_pool::{RunFault, run_rounds};
 use std::alloc::Global;
 use std::sync::Wait;
 use std::thread::Threads;
-use worker_gate::{Hall, Seat};
+use worker_gate::{Hall, Post, Seat};
 
 /// A hall that is let go where memory runs out.
 #[derive(Drop)]

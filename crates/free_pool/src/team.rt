@@ -7,15 +7,14 @@ ghost use Rattle.free_pool.specs.Turns.{IsSeated};
 
 use crate::bell::Bell;
 use crate::plan::Plan;
-use crate::worker::{Post, work};
+use crate::worker::work;
 use app_laws::App;
-use graph_update::engine_sends;
 use kdg_text::NoRoom;
 use outer_edge::Gate;
 use std::alloc::{AllocFailed, Global};
 use std::sync::Wait;
 use std::thread::{self, Threads};
-use worker_gate::{Hall, Seat};
+use worker_gate::{Hall, Post, Seat, post_sends};
 
 /// Has `workers` workers work until nothing more is to be claimed, the caller among them, who is worker 0
 /// and has the first seat. It comes back when all have stopped, with all seats joined to the first one.
@@ -114,7 +113,7 @@ fn work_all<'h, 'a, R: Threads + Wait + Sync, A: App + Sync, G: Gate + Sync>(
     requires { All (λ post. MayWork post.hall.now post.app.now post.seat) posts.items }
     ensures { IfOk result (λ backs. AllZip (λ post back. HasWorked post.hall.now post.seat back.seat) posts.entry.items backs.items) }
 {
-    engine_sends::<A>();
+    post_sends::<A>();
     let backs = thread::map_vec(
         rt,
         posts,

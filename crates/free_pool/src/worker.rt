@@ -15,17 +15,7 @@ use std::alloc::Global;
 use std::marker::Brand;
 use std::sync::Wait;
 use std::sync::ledger::{Blank, Ledger};
-use worker_gate::{Hall, Seat};
-
-/// Where a worker works.
-#[derive(Drop)]
-pub(crate) struct Post<'h, 'a, A: App> {
-    pub(crate) app: &'a A,
-    pub(crate) hall: &'h Hall<'a, A>,
-    pub(crate) seat: Seat<'a, A>,
-    /// The worker's number.
-    pub(crate) worker: u32,
-}
+use worker_gate::{Post, Seat};
 
 /// Works until nothing more is to be claimed. Where memory runs out it gives up, so that all others
 /// stop too.

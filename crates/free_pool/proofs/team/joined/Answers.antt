@@ -1,5 +1,5 @@
 use Rattle.std.proofs.Common.{arith}
-use Rattle.free_pool.specs.declared.worker.Post.{Post}
+use Rattle.worker_gate.specs.declared.post.Post.{Post}
 use Rattle.free_pool.proofs.Seats.{joining_begins, joining_ends, joining_goes_on, last_here, last_unjoined, nothing_left}
 use Rattle.free_pool.proofs.team.joined.Goals as goal
 

@@ -2,26 +2,23 @@ use denote.Param.{param}
 use denote.Param.Send.{IsSend, sendable}
 use denote.Ref.{NamedLft}
 use Rattle.std.proofs.Common.{◌≡◌, List, get_or, length, rules, subst, sym, arith}
-use Rattle.free_pool.specs.declared.worker.Post.{Post}
+use Rattle.worker_gate.specs.declared.post.Post.{Post}
 use Rattle.free_pool.specs.Team.{HasWorked}
 use Rattle.free_pool.proofs.Seats.{zipped}
-use Rattle.std.proofs.Crossing.{crosses}
-use Rattle.worker_gate.proofs.hall.HallOf.TheSendSync as hall
-use Rattle.worker_gate.proofs.hall.SeatOf.TheSendSync as seat_of
-use Rattle.graph_update.specs.contracts.engine.Engine as engine
+use Rattle.worker_gate.specs.contracts.post.Post as post
 use Rattle.free_pool.proofs.team.work_all.Goals as goal
 
 pub map_vec-requires-send-J : goal.map_vec-requires-send-J
 map_vec-requires-send-J g c κs within =
-    let sends : (ℓ : NamedLft) → IsSend (engine.the_row ℓ (param 1 g.row.A) (param 3 g.row.A-Val) (param 4 g.row.A-Horizon) g.A.App) =
-    λ ℓ. record { owned = (c.engine_sends.ensures ℓ).owned; leaving = (c.engine_sends.ensures ℓ).leaving } in
-    search (sendable, crosses, seat_of.the_send, hall.the_sync, sends) depth 40
+    let posts : (h a : NamedLft) → IsSend (post.the_row h a (param 1 g.row.A) (param 3 g.row.A-Val) (param 4 g.row.A-Horizon) g.A.App g.A.Val.Held) =
+    λ h a. record { owned = (c.post_sends.ensures h a).owned; leaving = (c.post_sends.ensures h a).leaving } in
+    search (sendable, posts) depth 40
 
 pub map_vec-requires-send-X : goal.map_vec-requires-send-X
 map_vec-requires-send-X g c κs within =
-    let sends : (ℓ : NamedLft) → IsSend (engine.the_row ℓ (param 1 g.row.A) (param 3 g.row.A-Val) (param 4 g.row.A-Horizon) g.A.App) =
-    λ ℓ. record { owned = (c.engine_sends.ensures ℓ).owned; leaving = (c.engine_sends.ensures ℓ).leaving } in
-    search (sendable, crosses, seat_of.the_send, hall.the_sync, sends) depth 40
+    let posts : (h a : NamedLft) → IsSend (post.the_row h a (param 1 g.row.A) (param 3 g.row.A-Val) (param 4 g.row.A-Horizon) g.A.App g.A.Val.Held) =
+    λ h a. record { owned = (c.post_sends.ensures h a).owned; leaving = (c.post_sends.ensures h a).leaving } in
+    search (sendable, posts) depth 40
 
 pub returns : goal.returns
 returns g c =

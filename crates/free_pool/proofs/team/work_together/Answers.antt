@@ -1,5 +1,5 @@
 use Rattle.std.proofs.Common.{◌-◌}
-use Rattle.free_pool.specs.declared.worker.Post.{Post}
+use Rattle.worker_gate.specs.declared.post.Post.{Post}
 use Rattle.free_pool.proofs.Seats.{team_after}
 use Rattle.free_pool.proofs.team.work_together.Goals as goal
 
