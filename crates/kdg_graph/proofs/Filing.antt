@@ -1,6 +1,6 @@
 -- The lanes of the locations, while a node is filed at one after another.
 use Rattle.std.proofs.Common.{◌≡◌, ◌≢◌, ℕ, zero, suc, ◌<◌, ◌≤◌, cond, List, [], ◌∷◌, ◌++◌, length, map, take, drop, get_or, set, Some, None, refl, sym, ◌∙◌, ap, subst, arith, ◌==◌, ◌+◌, Bool, true, false, not, Option, inl, inr, IfSome, is_some, ◌-◌, ◌||◌, append-nil, filter, flat_map}
-use Rattle.kdg_graph.proofs.Common.{Access, Accesses, AllBeyond, IsAscendingSet, access_at, absent_beyond, access_first, access_other, ascending_first, ascending_rest, Location, ids_for, lane_of, room_at, room_in, rooms_of, cases_eq, Read, Write, clash, excludes, NodeId, HasRoomFor, HasTakenFor, HasMoreFor, HaveNoLess, times_named, reserved_in, reserved_of, IsLaneAmong, clashes_at, clashing_at, put_if, without_if, Node, IsGraph, ids_of, is_at, node_at, put_node, without, take-length, flat_map-append, map-append, take_more, filter-append, Key, beyond_lower, AreFiledWith, is_same, lacking, midway, fronts_after, AreFiled, front_after, AreRefreshed, MarkedIds, is_unblocked, from_filter}
+use Rattle.kdg_graph.proofs.Common.{Access, Accesses, AllBeyond, IsAscendingSet, access_at, absent_beyond, access_first, access_other, ascending_first, ascending_rest, Location, ids_for, lane_of, room_at, room_in, rooms_of, cases_eq, Read, Write, clash, excludes, NodeId, HasRoomFor, HasTakenFor, HaveNoLess, times_named, reserved_in, reserved_of, IsLaneAmong, clashes_at, clashing_at, put_if, without_if, Node, IsGraph, ids_of, is_at, node_at, put_node, without, take-length, flat_map-append, map-append, take_more, filter-append, Key, beyond_lower, AreFiledWith, is_same, lacking, midway, fronts_after, AreFiled, front_after, AreRefreshed, MarkedIds, is_unblocked, from_filter}
 use Rattle.kdg_graph.proofs.KeyOrder.{filter_with, filters_commute, no_more_kept, same_filter, is_before}
 use Rattle.kdg_graph.proofs.Lanes.{among_filtered, graph_among, length-ids}
 use Rattle.kdg_graph.proofs.LookUps.{ids_find_nodes, is_at-same}

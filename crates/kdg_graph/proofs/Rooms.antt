@@ -3,7 +3,7 @@ use Rattle.std.specs.Prelude.{min}
 use Rattle.std.proofs.Common.{◌≡◌, ℕ, zero, suc, ◌+◌, ◌-◌, ◌^◌, ◌<◌, ◌≤◌, ◌==◌, Bool, true, false, cond, refl, eqb-true, bit_and, List, [], ◌∷◌, ◌++◌, length, map, take, get_or, arith, ◌∙◌, add-one, Result, Ok, Err, OnOk}
 use Rattle.std.proofs.Math.Nat.{min-le_right}
 use Rattle.std.proofs.lemmas.Nat.{and_mask}
-use Rattle.kdg_graph.proofs.Common.{AllByRecursion, Accesses, ids_left, HasMoreFor, HasRoomFor, HasTakenFor, HaveNoLess, HaveSameLanes, Location, times_named, reserved_of, room_at, rooms_of}
+use Rattle.kdg_graph.proofs.Common.{AllByRecursion, Accesses, ids_left, HasMoreFor, HasRoomFor, HasTakenFor, HaveSameLanes, Location, times_named, reserved_of, room_at, rooms_of}
 
 -- ---- each of several
 
