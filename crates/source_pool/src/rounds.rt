@@ -101,13 +101,16 @@ pub fn rounds_to<'a, R: Threads + Sync, A: App + Sync, G: Gate + Sync, K: Sink>(
     let _graph = engine.graph();
     let blank = Blank::new(1);
     let mut outlet = Outlet::new(alloc);
+    let staff = Staff {
+        gate,
+        seed,
+        workers,
+    };
     let run = counted_rounds::<R, A, G, K, Brand>(
         rt,
         alloc,
         engine,
-        gate,
-        seed,
-        workers,
+        staff,
         &mut outlet,
         out,
         blank,
@@ -133,15 +136,21 @@ pub fn rounds_to<'a, R: Threads + Sync, A: App + Sync, G: Gate + Sync, K: Sink>(
     }
 }
 
+/// Who performs a run's jobs, and what chooses among them.
+#[derive(Drop)]
+struct Staff<'g, G: Gate> {
+    gate: &'g G,
+    seed: u64,
+    workers: u32,
+}
+
 /// The rounds from one at whose beginning nothing runs, with a count of the sets that are asked for.
 /// Before each leg but the first the pending tasks get short paths.
 fn counted_rounds<'a, R: Threads + Sync, A: App + Sync, G: Gate + Sync, K: Sink, L: Ledger>(
     rt: &R,
     alloc: Global,
     mut engine: Engine<'a, A>,
-    gate: &G,
-    seed: u64,
-    workers: u32,
+    staff: Staff<'_, G>,
     outlet: &mut Outlet,
     out: &mut K,
     blank: Blank,
@@ -150,7 +159,7 @@ fn counted_rounds<'a, R: Threads + Sync, A: App + Sync, G: Gate + Sync, K: Sink,
     requires name { blank.name ≡ L.name }
     requires parts { blank.parts ≡ L.parts }
     requires some { 0 < blank.parts }
-    requires workers { 1 ≤ workers }
+    requires workers { 1 ≤ staff.workers }
     requires rest { BeginsAtRest (A.meaning engine.app) start }
     requires begins { engine.progress ≡ start }
     requires limited { start.limit < 2 ^ 64 }
@@ -166,7 +175,7 @@ fn counted_rounds<'a, R: Threads + Sync, A: App + Sync, G: Gate + Sync, K: Sink,
     rest_laws::<A>();
     rounds_laws::<A>();
     let mut steps = Steps::<L>::new(blank);
-    let mut picks = Picks::new(gate, seed);
+    let mut picks = Picks::new(staff.gate, staff.seed);
     let mut lists = RoundLists::new(alloc, Work::new(engine.app().task_nanos()));
     let mut rounds = 0u64;
     loop {
@@ -174,7 +183,7 @@ fn counted_rounds<'a, R: Threads + Sync, A: App + Sync, G: Gate + Sync, K: Sink,
             rt,
             &mut engine,
             &mut picks,
-            workers,
+            staff.workers,
             &mut lists,
             &mut steps,
             outlet,
