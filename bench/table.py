@@ -8,8 +8,10 @@ from the first column's is told, and so is a run of more than two minutes."""
 import argparse
 import os
 import shutil
+import signal
 import subprocess
 import tempfile
+import threading
 import time
 
 import inputs
@@ -21,7 +23,7 @@ WORDS = {
     'adder64.bench': ('sim --until 14140', 'an adder of 64 bits, 100 stimuli'),
     'feedback16.bench': ('sim --until 20000', 'a feedback over 16 gates'),
     'counters.bench': ('sim --clock 40 --until 20000', '60 counters of 12 flip-flops'),
-    'stimuli.bench': ('sim', '65,536 stimuli of one input'),
+    'stimuli.bench': ('sim --until 65536', '65,536 stimuli of one input'),
     'pairs2048.mesh': ('mesh', '2,048 pairs of nodes'),
     'cloth32.mesh': ('mesh', 'a cloth of 32 by 32 nodes'),
     'cloth64.mesh': ('mesh', 'a cloth of 64 by 64 nodes'),
@@ -46,11 +48,16 @@ def run(command, file):
     with tempfile.NamedTemporaryFile() as said, tempfile.TemporaryFile() as out, open(file, 'rb') as source:
         measured = [TIME, '-f', '%M', '-o', said.name] if TIME else []
         begun = time.perf_counter()
-        try:
-            subprocess.run(measured + command, stdin=source, stdout=out, check=True, timeout=LIMIT)
-        except subprocess.TimeoutExpired:
-            return None
+        process = subprocess.Popen(measured + command, stdin=source, stdout=out, start_new_session=True)
+        # A wait with a limit would look only now and then.
+        late = threading.Timer(LIMIT, os.killpg, (process.pid, signal.SIGKILL))
+        late.start()
+        code = process.wait()
         seconds = time.perf_counter() - begun
+        late.cancel()
+        if seconds >= LIMIT:
+            return None
+        assert code == 0, (command, file, code)
         out.seek(0)
         return seconds, int(said.read() or 0), out.read()
 
@@ -62,7 +69,8 @@ def shown(runs, plain):
     least = min(seconds for seconds, _, _ in runs)
     ratio = f', {least / plain:.1f}' if plain else ''
     memory = max(kilobytes for _, kilobytes, _ in runs)
-    return f'{least * 1000:.3g} ms{ratio}' + (f', {memory / 1024:.1f} MB' if memory else '')
+    told = f'{least * 1000:.3g} ms' if least < 1 else f'{least:.3g} s'
+    return told + ratio + (f', {memory / 1024:.1f} MB' if memory else '')
 
 
 def columns_of(args, words):
