@@ -139,7 +139,7 @@ fn marks_print<A: Runnable, G: Gate>(
     Ok(listed_print(alloc, options, app, finals, rounds)?)
 }
 
-/// The print of a run in rounds whose pending tasks rest, which needs no graph.
+/// The print of a run in rounds whose pending tasks rest, which needs neither a graph nor a board.
 pub(crate) fn resting_print<A: Runnable + Resting, G: Gate>(
     alloc: Global,
     options: &Options,
@@ -147,7 +147,7 @@ pub(crate) fn resting_print<A: Runnable + Resting, G: Gate>(
     gate: &G,
 ) -> Result<Text, Status>
     requires allowed { IsAllowed options.now }
-    requires mode { options.now.mode ≡ Mode.Rounds }
+    requires mode { is_in_rounds options.now.mode ≡ true }
     ensures print { IfOk result (λ bytes. answer_by options.now (problem_of (A.meaning app.now) (A.setting app.now)) ≡ whole_print bytes) }
     ensures refusal { IfErr result (IsRunRefusal options.now (problem_of (A.meaning app.now) (A.setting app.now))) }
 {

@@ -188,8 +188,8 @@ fn print_of<R: Threads + Sync, G: Gate + Sync>(
     }
 }
 
-/// The print of an elimination in mode serial, rounds or marks, or why there is none. In rounds its tasks
-/// rest, and no graph is needed, unless the gate is to choose among them.
+/// The print of an elimination in mode serial, rounds or marks, or why there is none. In modes rounds and
+/// marks its tasks rest, and neither a graph nor a board is needed, unless the gate is to choose among them.
 fn print_of_matrix<R: Threads + Sync, G: Gate + Sync>(
     rt: &R,
     alloc: Global,
@@ -203,7 +203,7 @@ fn print_of_matrix<R: Threads + Sync, G: Gate + Sync>(
     ensures refusal { IfErr result (IsRunRefusal options.now (pattern_problem matrix.now)) }
 {
     match options.mode {
-        Mode::Rounds if gate.is_open() => resting_print(alloc, options, matrix, gate),
+        Mode::Rounds | Mode::Marks if gate.is_open() => resting_print(alloc, options, matrix, gate),
         _ => print_of_run(rt, alloc, options, matrix, gate),
     }
 }

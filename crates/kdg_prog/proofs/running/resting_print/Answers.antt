@@ -1,6 +1,5 @@
-use Rattle.std.proofs.Common.{◌≡◌, ◌∙◌, sym}
-use Rattle.kdg_prog.specs.declared.words.Mode.TheVariants.{Rounds, Serial}
-use Rattle.kdg_prog.specs.Problem.{problem_of}
+use Rattle.std.proofs.Common.{◌≡◌, ◌∙◌, true, false, ap, sym}
+use Rattle.kdg_prog.specs.Problem.{is_in_rounds, problem_of}
 use Rattle.kdg_prog.specs.Refusals.{AnswersRounds, IsRunRefusal}
 use Rattle.kdg_prog.proofs.Refusing.{refusal_from_list, refused_with}
 use Rattle.kdg_prog.proofs.running.resting_print.Goals as goal
@@ -12,5 +11,5 @@ returns-in_err-finals-clause-refusal g c =
     let fault = c.in_err-finals.field-0.0 in
     refused_with c.from_residual-in_err-finals.result (AnswersRounds fault) (IsRunRefusal options problem)
     (λ answer told. refusal_from_list options problem c.in_ok-cells.cells.items c.in_ok-tasks.tasks c.in_ok-cells.ensures.cells c.in_ok-tasks.ensures.tasks
-    (λ serial. let both : Serial ≡ Rounds = sym serial ∙ c.requires.mode in cc) fault answer c.in_err-finals.ensures.fault told)
+    (λ serial. let both : false ≡ true = sym (ap is_in_rounds serial) ∙ c.requires.mode in cc) fault answer c.in_err-finals.ensures.fault told)
     c.from_residual-in_err-finals.ensures.1
