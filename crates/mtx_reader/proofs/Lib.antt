@@ -3,3 +3,4 @@ pub mod Times
 pub mod Settling
 pub mod Parity
 pub mod Entries
+pub mod PlainEntries
