@@ -12,6 +12,8 @@ use Rattle.std.proofs.lemmas.Option.{same_Some}
 use Rattle.task_order.specs.declared.key.Key.{Key}
 use Rattle.task_order.specs.declared.task.Task.{Task}
 use Rattle.task_order.specs.Key.{Bound, at_key, end, is_before, key_cmp}
+use Rattle.cell_store.specs.Values.{values_of}
+use Rattle.kdg_graph.specs.Nodes.{tasks_of}
 use Rattle.output_log.specs.Entries.{Entry, IsInKeyOrder, ShareNoKey, entries_before, entries_from, is_entry_before, joined_by_key, joined_texts}
 use Rattle.app_laws.specs.Applications.{Application}
 use Rattle.app_laws.specs.Execution.{Execution, Operator, acts, after_steps, is_clear_before, run_until, step, steps_until}
@@ -22,12 +24,14 @@ use Rattle.commuting.specs.Commuting.{entries_of}
 use Rattle.commuting.specs.Rounds.{after_round, clear_tasks}
 use Rattle.commuting.specs.Standing.{AreUnlogged, IsLaterLog}
 use Rattle.commuting.specs.States.{State, execution_from, run_from}
+use Rattle.run_laws.specs.Events.{drainable}
 use Rattle.run_laws.specs.Lists.{all-weaker, all_from, all_in_middle, length-part}
+use Rattle.run_laws.specs.Progress.{whole_state}
 use Rattle.source_pool.specs.Basis.{Basis}
 use Rattle.source_pool.specs.Kept.{acted_in, entries_after, first_pending}
-use Rattle.source_pool.specs.KeptLaws.{KeptTextsAreFronts}
+use Rattle.source_pool.specs.KeptLaws.{DrainedEntriesAreFirst, KeptTextsAreFronts}
 use Rattle.source_pool.specs.Runs.{state_at_rest}
-use Rattle.source_pool.proofs.Kept.{RunTo, none_before_first, not_less, rounds_stand, run_to}
+use Rattle.source_pool.proofs.Kept.{RunTo, bound_is, none_before_first, not_less, rounds_stand, run_to}
 
 -- ---- lists
 
@@ -257,4 +261,36 @@ module _ {V : Type 0} {app : Application V} (basis : Basis app) where
         joined_texts rest,
         ap joined_texts (basis.earlier_first bound whole ordered) ∙ basis.texts_follow (entries_before bound whole) rest
             ∙ ap (λ (front : List ℕ). front ++ joined_texts rest) (ap joined_texts parts ∙ sym keeps.text_is),
+      )
+
+  -- ---- whatever was drained
+
+  pub drained_entries_are_first : DrainedEntriesAreFirst app
+  drained_entries_are_first start now drained entries jobs values sound come =
+      let cells = values_of start.cells in
+      let first = state_at_rest start in
+      let counts = sound.keys_and_counts in
+      let later = come.sound.keys_and_counts in
+      let log = start.log in
+      let most = start.limit - start.ended in
+      let pending = tasks_of now.nodes in
+      let bound = first_pending pending in
+      let clear = none_before_first basis values pending later.graph.ascending in
+      let run = run_to basis first (whole_state now values) entries bound clear come.stands in
+      let few = length-part (is_entry_before bound) entries in
+      let within : length (entries_before bound entries) ≤ most = omega (arith, few, come.ended, come.limit, later.created, later.within) in
+      let sequential = (after_steps app.act most (execution_from first)).log in
+      let same = same_before first sound.ready bound (length (entries_before bound entries)) most entries within run refl in
+      let whole = joined_by_key log sequential in
+      let ordered = basis.joins_in_order log sequential counts.log_ordered (log_in_order first sound.ready most) (new_keys first sound.ready log most counts.unlogged) in
+      let parts : entries_before bound whole ≡ entries_before bound (joined_by_key log entries) =
+      (basis.parts_join bound log sequential).0 ∙ ap (joined_by_key (entries_before bound log)) same ∙ sym (basis.parts_join bound log entries).0 in
+      let more = drainable app now.nodes now.log in
+      let all : entries_before bound (drained ++ now.log) ≡ drained ++ more =
+      subst (λ b. entries_before b (drained ++ now.log) ≡ drained ++ more) (bound_is now.nodes) (sym (basis.next_drain start cells drained entries now jobs values come).all) in
+      let rest = entries_from bound whole in (
+        more ++ rest,
+        basis.earlier_first bound whole ordered
+            ∙ ap (λ (front : List Entry). front ++ rest) (parts ∙ ap (entries_before bound) come.logged ∙ all)
+            ∙ append_assoc drained more rest,
       )

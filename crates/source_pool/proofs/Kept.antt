@@ -37,7 +37,7 @@ not_less Less never = absurd (never refl)
 not_less Equal never = refl
 not_less Greater never = refl
 
-bound_is : (nodes : List Node) → least_bound nodes ≡ first_pending (tasks_of nodes)
+pub bound_is : (nodes : List Node) → least_bound nodes ≡ first_pending (tasks_of nodes)
 bound_is [] = refl
 bound_is (node ∷ nodes) = refl
 

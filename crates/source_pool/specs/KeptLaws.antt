@@ -3,17 +3,19 @@ use Rattle.std.specs.Prelude.{◌≡◌, ◌<◌, ℕ, ◌+◌, List, [], ◌∷
 use Rattle.task_order.specs.TaskList.{IsAscending}
 use Rattle.cell_store.specs.Values.{values_of}
 use Rattle.kdg_graph.specs.declared.node_id.NodeId.{NodeId}
-use Rattle.output_log.specs.Entries.{with_texts}
+use Rattle.output_log.specs.Entries.{Entry, with_texts}
 use Rattle.app_laws.specs.Applications.{Application, PathsAreIgnored}
 use Rattle.commuting.specs.Rounds.{clear_tasks}
 use Rattle.commuting.specs.States.{State}
 use Rattle.run_laws.specs.Acting.{IsTooMany}
+use Rattle.run_laws.specs.Course.{HasCome}
 use Rattle.run_laws.specs.Events.{IsOverLimit, clear_nodes, drainable}
 use Rattle.run_laws.specs.Jobs.{Done, Job}
 use Rattle.run_laws.specs.Progress.{Progress}
 use Rattle.run_laws.specs.Renaming.{IsRenamed}
+use Rattle.run_laws.specs.Sound.{IsSound}
 use Rattle.source_pool.specs.Course.{AreAllDone, IsActing, IsAtRest, IsDrawing, IsEnding, LeadsByRounds, done_tasks}
-use Rattle.source_pool.specs.Kept.{KeepsAfter, KeepsBehind, acted_in, sequential_text}
+use Rattle.source_pool.specs.Kept.{KeepsAfter, KeepsBehind, acted_in, sequential_entries, sequential_text}
 use Rattle.source_pool.specs.Legs.{BeginsAtRest}
 use Rattle.source_pool.specs.Runs.{state_at_rest}
 
@@ -56,3 +58,9 @@ module _ {V : Type 0} (app : Application V) where
       BeginsAtRest app start → IsAtRest app start (values_of start.cells) state text now → LeadsByRounds app rounds (state_at_rest start) state →
       now.ended ≡ start.ended + acted_in app rounds (state_at_rest start) → with_texts now.log ≡ [] → IsRenamed app now next →
       KeepsAfter app next more last kept → KeepsBehind app start text rounds next more last kept
+
+  -- whatever was drained since a sound start in which nothing was running, in whatever order tasks have ended, comes first in the
+  -- sequential run's entries
+  abbrev pub DrainedEntriesAreFirst : Type 0
+  DrainedEntriesAreFirst = (start now : Progress V) (drained entries : List Entry) (jobs : List (Job V)) (values : List V) → IsSound app start [] (values_of start.cells) →
+      HasCome app start (values_of start.cells) drained entries now jobs values → (rest : List Entry) × (sequential_entries app start ≡ drained ++ rest)

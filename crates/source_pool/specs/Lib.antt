@@ -7,4 +7,3 @@ pub mod Legs
 pub mod Performing
 pub mod Runs
 pub mod Streams
-pub mod Told

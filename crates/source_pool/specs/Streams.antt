@@ -1,8 +1,7 @@
 -- What a run in rounds writes to a sink while it goes on, and what it answers.
-use Rattle.std.specs.Prelude.{◌≡◌, ◌≤◌, ◌+◌, ℕ, Bool, true, false, List, [], ◌++◌, Option}
-use Rattle.std.specs.Io.KnownBytes.{Appends}
+use Rattle.std.specs.Prelude.{◌≡◌, ◌+◌, ℕ, Bool, true, false, List, [], ◌++◌}
 use Rattle.cell_store.specs.Values.{values_of}
-use Rattle.outer_edge.specs.Transfers.{HasFailed, Transfer, transfer_of}
+use Rattle.outer_edge.specs.Transfers.{HasFailed, Transfer}
 use Rattle.outer_edge.specs.Writing.{AppendsFront}
 use Rattle.output_log.specs.Entries.{joined_texts}
 use Rattle.app_laws.specs.Applications.{Application}
@@ -14,40 +13,16 @@ use Rattle.crew.specs.declared.answers.OverCause.{OverCause}
 use Rattle.crew.specs.declared.answers.OverCause.TheVariants as cause
 use Rattle.source_pool.specs.declared.flow.Flow.{Flow}
 use Rattle.source_pool.specs.declared.flow.Flow.TheVariants as flow
-use Rattle.source_pool.specs.declared.outlet.Outlet.{Outlet}
+use Rattle.text_outlet.specs.Sending.{IsWritten}
 use Rattle.source_pool.specs.Course.{IsAtRest, LeadsByRounds}
 use Rattle.source_pool.specs.Kept.{IsLastAfter, KeepsAfter, acted_in, sequential_text}
 use Rattle.source_pool.specs.Legs.{IsEndBehind}
 use Rattle.source_pool.specs.Runs.{IsOverLimit, IsRoundsEnd, state_at_rest}
 
--- a sink took all of the text, and no write failed; or some write did, and the sink took a front of it
-abbrev pub IsWritten : Transfer → Bool → List ℕ → Type 0
-IsWritten transfer false text = Appends transfer.before transfer.after text × (transfer.faults_after ≡ transfer.faults_before)
-IsWritten transfer true text = HasFailed transfer × AppendsFront transfer.before transfer.after text
-
--- Of a text a sink took all but the end, which is held back, and no write failed; or a write failed, and it took a front of the text.
-pub record IsSent (transfer : Transfer) (failed : Bool) (held text : List ℕ) : Type 0 where
-  pub so_far : failed ≡ false → (front : List ℕ) × (text ≡ front ++ held) × IsWritten transfer false front
-  pub since : failed ≡ true → IsWritten transfer true text
-  pub never_falls : transfer.faults_before ≤ transfer.faults_after
-
 -- the run was cut short since the limit was passed
 abbrev pub IsPassed : OverCause → Type 0
 IsPassed (cause.Budget created limit) = Unit {0}
 IsPassed cause.NoRoom = ⊥
-
--- since the sink was so at the beginning, the outlet has told it this text
-abbrev pub HasTold : {K : Type 0} → (K → Option (List ℕ)) → (K → ℕ) → K → Outlet → K → List ℕ → Type 0
-HasTold known faults begin outlet sink text = IsSent (transfer_of known faults begin sink) outlet.has_failed outlet.held text
-
--- from one state of an outlet and its sink to another this text was told, behind whatever was told before
-abbrev pub TellsMore : {K : Type 0} → (K → Option (List ℕ)) → (K → ℕ) → Outlet → K → Outlet → K → List ℕ → Type 0
-TellsMore {K} known faults outlet sink next next_sink told =
-    (begin : K) (text : List ℕ) → HasTold known faults begin outlet sink text → HasTold known faults begin next next_sink (text ++ told)
-
--- what was told then comes behind what the outlet had told in this leg
-abbrev pub TellsOn : {K : Type 0} → (K → Option (List ℕ)) → (K → ℕ) → Outlet → K → Outlet → K → Type 0
-TellsOn known faults outlet sink next next_sink = (told : List ℕ) × (next.told ≡ outlet.told ++ told) × TellsMore known faults outlet sink next next_sink told
 
 -- what may be drained is told, unless a write has failed
 abbrev pub told_by : {V : Type 0} → Application V → Bool → Progress V → List ℕ

@@ -1,5 +1,5 @@
 ghost use Rattle.source_pool.specs.Basis.{Basis};
-ghost use Rattle.source_pool.specs.KeptLaws.{ActsAreTheRound, ActsPassWithTheRound, DrainedTextsAreKept, EndsAreTheRound, EndsPassWithTheRound, KeptTextsAreFronts, RenamingsKeepTexts};
+ghost use Rattle.source_pool.specs.KeptLaws.{ActsAreTheRound, ActsPassWithTheRound, DrainedEntriesAreFirst, DrainedTextsAreKept, EndsAreTheRound, EndsPassWithTheRound, KeptTextsAreFronts, RenamingsKeepTexts};
 ghost use Rattle.source_pool.specs.Legs.{LegsBegin, LegsGoOn, RenamingsGoOn};
 ghost use Rattle.source_pool.specs.Laws.{ActsBegin, ActsComeToRest, ActsGoOn, ClaimsGoOn, ClaimsLeaveFewer, DrainsKeepRest, DrawingsBegin, DrawnJobsAreTheRound, DrawnJobsDiffer, EndsComeToRest, EndsGoOn, FirstMayAct, FirstMayEnd, RestWithoutNodesIsTheEnd, RoundsAdd, RoundsAreTaken, RoundsHaveActs, RoundsHaveJobs, StartsAreAtRest, TooManyActsNeverEnd, TooManyNeverEnd, WholeIsHome};
 
@@ -139,6 +139,14 @@ pub fn kept_laws<A: App>()
     ensures acts_pass { (app : A) → ActsPassWithTheRound (A.meaning app) }
     ensures ends_pass { (app : A) → EndsPassWithTheRound (A.meaning app) }
     ensures renamed { (app : A) → RenamingsKeepTexts (A.meaning app) }
+{
+    basis::<A>();
+}
+
+/// Whatever was drained since a start in which nothing was running, in whatever order tasks have ended since,
+/// comes first in what the sequential run logs.
+pub fn drained_laws<A: App>()
+    ensures { (app : A) → DrainedEntriesAreFirst (A.meaning app) }
 {
     basis::<A>();
 }

@@ -3,16 +3,14 @@
 
 mod acting;
 mod claiming;
+mod draining;
 mod finishing;
 mod flow;
 mod hands;
 pub mod laws;
-mod outlet;
 mod performing;
 mod round_lists;
 mod rounds;
-mod text_sink;
-mod told_text;
 mod work;
 
 pub use flow::Flow;

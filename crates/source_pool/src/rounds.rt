@@ -11,16 +11,16 @@ ghost use Rattle.source_pool.specs.Course.{IsAtRest, LeadsByRounds, RunPoint};
 ghost use Rattle.source_pool.specs.Kept.{PassesWith};
 ghost use Rattle.source_pool.specs.Legs.{BeginsAtRest};
 ghost use Rattle.source_pool.specs.Runs.{IsRoundsEnd, IsRunFault};
-ghost use Rattle.source_pool.specs.Streams.{IsCutShort, IsFitFlow, IsFlow, IsOnLeg, IsToldEnd, TellsMore, TellsOn};
+ghost use Rattle.source_pool.specs.Streams.{IsCutShort, IsFitFlow, IsFlow, IsOnLeg, IsToldEnd};
+ghost use Rattle.text_outlet.specs.Sending.{TellsMore, TellsOn};
 
 use crate::acting::act_round;
 use crate::claiming::Picks;
+use crate::draining::tell;
 use crate::finishing::end_all;
 use crate::laws::{draining_laws, drawing_laws, kept_laws, leg_laws, rounds_laws};
-use crate::outlet::{Outlet, tell};
 use crate::performing::perform_round;
 use crate::round_lists::RoundLists;
-use crate::text_sink::TextSink;
 use crate::work::Work;
 use crate::{Flow, RunFault};
 use app_laws::{App, Finals, new_paths_pay};
@@ -32,6 +32,7 @@ use std::alloc::Global;
 use std::marker::Brand;
 use std::sync::ledger::{Blank, Ledger};
 use std::thread::Threads;
+use text_outlet::{Outlet, TextSink};
 
 /// Runs an execution to its end in rounds, and counts them: all tasks that are clear are claimed and
 /// performed, each by its worker, and then ended in the order of their keys. Only rounds with a task are

@@ -1,6 +1,6 @@
 use Rattle.std.proofs.Common.{◌≡◌, ◌+◌, ◌-◌, ◌≤◌, true, List, [], ℕ}
 use Rattle.source_pool.specs.Legs.{BeginsAtRest, GoesOnFrom}
-use Rattle.source_pool.specs.Streams.{TellsMore}
+use Rattle.text_outlet.specs.Sending.{TellsMore}
 use Rattle.source_pool.proofs.rounds.counted_rounds.Given as goal
 
 abbrev pub ghost-play_leg : goal.ghost-play_leg

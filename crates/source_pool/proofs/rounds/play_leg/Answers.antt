@@ -8,10 +8,11 @@ use Rattle.run_laws.specs.Progress.{Progress}
 use Rattle.source_pool.specs.Course.{IsAtRest}
 use Rattle.source_pool.specs.Kept.{PassesWith}
 use Rattle.source_pool.specs.Runs.{state_at_rest}
-use Rattle.source_pool.specs.Streams.{IsOnLeg, TellsMore, told_by}
-use Rattle.source_pool.specs.declared.outlet.Outlet.{Outlet}
+use Rattle.source_pool.specs.Streams.{IsOnLeg, told_by}
+use Rattle.text_outlet.specs.Sending.{TellsMore}
+use Rattle.text_outlet.specs.declared.outlet.Outlet.{Outlet}
 use Rattle.source_pool.proofs.EngineAtRest.{some_node}
-use Rattle.source_pool.proofs.Sending.{tells_on, tells_same}
+use Rattle.text_outlet.proofs.Sending.{tells_on, tells_same}
 use Rattle.source_pool.proofs.Telling.{cut_at_start, cut_by_round, round_told, told_first}
 use Rattle.source_pool.proofs.rounds.play_leg.Goals as goal
 

@@ -1,6 +1,7 @@
 use Rattle.std.proofs.Common.{◌≡◌, ◌+◌, ◌-◌, ◌≤◌}
 use Rattle.source_pool.specs.Runs.{state_at_rest}
-use Rattle.source_pool.specs.Streams.{IsOnLeg, TellsMore}
+use Rattle.source_pool.specs.Streams.{IsOnLeg}
+use Rattle.text_outlet.specs.Sending.{TellsMore}
 use Rattle.source_pool.proofs.rounds.play_leg.Given as goal
 
 abbrev pub ghost-play_round : goal.ghost-play_round

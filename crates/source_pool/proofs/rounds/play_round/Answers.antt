@@ -5,7 +5,7 @@ use Rattle.commuting.specs.Rounds.{after_round}
 use Rattle.run_laws.specs.Events.{drained}
 use Rattle.source_pool.specs.Course.{IsAtRest}
 use Rattle.source_pool.specs.Streams.{told_by}
-use Rattle.source_pool.specs.declared.outlet.Outlet.{Outlet}
+use Rattle.text_outlet.specs.declared.outlet.Outlet.{Outlet}
 use Rattle.source_pool.proofs.Telling.{ended_same, none_after, rest_told, same_told}
 use Rattle.source_pool.proofs.rounds.play_round.Goals as goal
 

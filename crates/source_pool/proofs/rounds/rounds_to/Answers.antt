@@ -8,8 +8,9 @@ use Rattle.app_laws.specs.declared.serial_run.Finals.{Finals}
 use Rattle.crew.specs.declared.answers.OverCause.{OverCause}
 use Rattle.crew.specs.declared.answers.OverCause.TheVariants as cause
 use Rattle.source_pool.specs.Runs.{IsOverLimit, IsRunFault}
-use Rattle.source_pool.specs.Streams.{IsCutShort, IsSent, TellsMore}
-use Rattle.source_pool.proofs.Sending.{first_told}
+use Rattle.source_pool.specs.Streams.{IsCutShort}
+use Rattle.text_outlet.specs.Sending.{IsSent, TellsMore}
+use Rattle.text_outlet.proofs.Sending.{first_told}
 use Rattle.source_pool.proofs.rounds.rounds_to.Goals as goal
 
 pub counted_rounds-run-requires : goal.counted_rounds-run-requires

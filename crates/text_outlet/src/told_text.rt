@@ -32,7 +32,7 @@ impl Model for ToldText {
 impl Model for Past {
     ghost use Rattle.std.specs.Option.{option_map};
     ghost use Rattle.std.proofs.Common.{arith};
-    ghost use Rattle.source_pool.specs.Told.{PastText, text_after};
+    ghost use Rattle.text_outlet.specs.Told.{PastText, text_after};
 
     ghost Value = { PastText };
 

@@ -10,14 +10,14 @@ use std::marker::Model;
 
 /// A text that is written piece by piece. A write fails where no memory is to be had.
 #[derive(Drop)]
-pub(crate) struct TextSink {
+pub struct TextSink {
     text: Text,
     faults: u64,
 }
 
 impl TextSink {
     /// Nothing is written yet.
-    pub(crate) fn new(alloc: Global) -> TextSink
+    pub fn new(alloc: Global) -> TextSink
         ensures text { result.text ≡ [] }
     {
         TextSink {
@@ -27,7 +27,7 @@ impl TextSink {
     }
 
     /// What was written.
-    pub(crate) fn into_text(self) -> Text
+    pub fn into_text(self) -> Text
         ensures { result ≡ self.text }
     {
         self.text

@@ -1,12 +1,9 @@
 //! How a run tells its text while it goes on.
 
 ghost use Rattle.std.specs.Prelude.{◌≡◌, ◌++◌, [], true, false, List, ℕ, OnErr, OnOk};
-ghost use Rattle.run_laws.specs.Events.{drained};
-ghost use Rattle.source_pool.specs.Streams.{HasTold, TellsMore, told_by};
+ghost use Rattle.text_outlet.specs.Sending.{HasTold, TellsMore};
 
 use crate::told_text::ToldText;
-use app_laws::App;
-use graph_update::Engine;
 use kdg_text::{NoRoom, Text};
 use outer_edge::{Sink, write_whole};
 use std::alloc::Global;
@@ -20,19 +17,19 @@ const TASKS: u64 = 4_096;
 
 /// Text on its way to a sink. It is held until a write pays, and after a write has failed there is none.
 #[derive(Drop)]
-pub(crate) struct Outlet {
+pub struct Outlet {
     /// What was told and isn't written yet.
     held: Text,
     has_failed: bool,
     /// How many tasks had ended when it was last written.
     ended: u64,
     /// What was told in this leg of the run.
-    pub(crate) told: ToldText,
+    told: ToldText,
 }
 
 impl Outlet {
     /// Nothing is told yet.
-    pub(crate) fn new(alloc: Global) -> Outlet
+    pub fn new(alloc: Global) -> Outlet
         ensures held { result.held ≡ [] }
         ensures told { result.told ≡ [] }
         ensures no_fault { result.has_failed ≡ false }
@@ -46,17 +43,38 @@ impl Outlet {
     }
 
     /// A leg of the run begins.
-    pub(crate) fn begin_leg(&mut self)
+    pub fn begin_leg(&mut self)
         ensures { self.new ≡ record self.old { told = [] } }
     {
         self.told = ToldText::new();
     }
 
     /// Whether a write has failed.
-    pub(crate) fn has_failed(&self) -> bool
+    pub fn has_failed(&self) -> bool
         ensures { result ≡ self.now.has_failed }
     {
         self.has_failed
+    }
+
+    /// Tells a text more while no write has failed: it is written where that pays, or where it is to be written
+    /// at once. So many tasks have ended then. After `NoRoom` it isn't told.
+    pub fn tell<K: Sink>(
+        &mut self,
+        out: &mut K,
+        more: &Text,
+        ended: u64,
+        at_once: bool,
+    ) -> Result<(), NoRoom>
+        requires no_fault { self.old.has_failed ≡ false }
+        ensures tells { OnOk result (TellsMore K.contents K.faults self.old out.old self.new out.new more.now) }
+        ensures told { OnOk result (self.new.told ≡ self.old.told ++ more.now) }
+        ensures nothing_told { OnErr result ((self.new ≡ self.old) × (out.new ≡ out.old)) }
+        ensures same_room { K.room out.new ≡ K.room out.old }
+    {
+        self.held.push_all(more.bytes())?;
+        self.told.push(more);
+        self.send(out, ended, at_once);
+        Ok(())
     }
 
     /// Writes what is held where that pays, or where it is to be written at once, unless a write has failed.
@@ -73,7 +91,7 @@ impl Outlet {
     }
 
     /// Writes what is held, unless a write has failed.
-    pub(crate) fn flush<K: Sink>(&mut self, out: &mut K)
+    pub fn flush<K: Sink>(&mut self, out: &mut K)
         ensures tells { (begin : K) (text : List ℕ) → HasTold K.contents K.faults begin self.old out.old text → HasTold K.contents K.faults begin self.new out.new text }
         ensures nothing_held { self.new.held ≡ [] }
         ensures told { self.new.told ≡ self.old.told }
@@ -87,31 +105,4 @@ impl Outlet {
         self.has_failed = write_whole(out, self.held.bytes()).is_err();
         self.held.clear();
     }
-}
-
-/// Tells what comes before every pending task, unless a write has failed: it leaves the log, and is written
-/// where that pays, or where it is to be written at once. After `NoRoom` nothing more is told.
-pub(crate) fn tell<A: App, K: Sink>(
-    engine: &mut Engine<'_, A>,
-    outlet: &mut Outlet,
-    out: &mut K,
-    at_once: bool,
-) -> Result<(), NoRoom>
-    ensures app { engine.new.app ≡ engine.old.app }
-    ensures drains { OnOk result (outlet.old.has_failed ≡ false → engine.new.progress ≡ drained (A.meaning engine.old.app) engine.old.progress) }
-    ensures stands { outlet.old.has_failed ≡ true → engine.new.progress ≡ engine.old.progress }
-    ensures tells { OnOk result (TellsMore K.contents K.faults outlet.old out.old outlet.new out.new (told_by (A.meaning engine.old.app) outlet.old.has_failed engine.old.progress)) }
-    ensures told { OnOk result (outlet.new.told ≡ outlet.old.told ++ told_by (A.meaning engine.old.app) outlet.old.has_failed engine.old.progress) }
-    ensures nothing_told { OnErr result ((outlet.new ≡ outlet.old) × (out.new ≡ out.old)) }
-    ensures stays { outlet.old.has_failed ≡ true → outlet.new.has_failed ≡ true }
-    ensures same_room { K.room out.new ≡ K.room out.old }
-{
-    if outlet.has_failed {
-        return Ok(());
-    }
-    let more = engine.drain()?;
-    outlet.held.push_all(more.bytes())?;
-    outlet.told.push(&more);
-    outlet.send(out, engine.ended(), at_once);
-    Ok(())
 }

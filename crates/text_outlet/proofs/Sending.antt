@@ -8,8 +8,8 @@ use Rattle.std.specs.Result.{is_err}
 use Rattle.std.specs.Io.KnownBytes.{Appends}
 use Rattle.outer_edge.specs.Transfers.{HasFailed, Transfer, transfer_of}
 use Rattle.outer_edge.specs.Writing.{AppendsFront}
-use Rattle.source_pool.specs.declared.outlet.Outlet.{Outlet}
-use Rattle.source_pool.specs.Streams.{HasTold, IsSent, IsWritten, TellsMore}
+use Rattle.text_outlet.specs.declared.outlet.Outlet.{Outlet}
+use Rattle.text_outlet.specs.Sending.{HasTold, IsSent, IsWritten, TellsMore}
 
 -- bytes appended after others
 appends_both : (a b c : Option (List ℕ)) (xs ys : List ℕ) → Appends a b xs → Appends b c ys → Appends a c (xs ++ ys)

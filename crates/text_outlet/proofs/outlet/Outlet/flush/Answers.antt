@@ -3,9 +3,9 @@ use Rattle.std.specs.Prelude.{OnErr, OnOk}
 use Rattle.std.specs.Io.KnownBytes.{Appends}
 use Rattle.outer_edge.specs.Transfers.{transfer_of}
 use Rattle.outer_edge.specs.Writing.{AppendsFront}
-use Rattle.source_pool.specs.Streams.{IsSent}
-use Rattle.source_pool.proofs.Sending.{flushed}
-use Rattle.source_pool.proofs.outlet.Outlet.flush.Goals as goal
+use Rattle.text_outlet.specs.Sending.{IsSent}
+use Rattle.text_outlet.proofs.Sending.{flushed}
+use Rattle.text_outlet.proofs.outlet.Outlet.flush.Goals as goal
 
 pub returns-clause-tells : goal.returns-clause-tells
 returns-clause-tells g c = λ begin text told.
