@@ -1,0 +1,7 @@
+//! Desks by their calls, with one thread and with two. There is no code here but tests.
+#![tactic(auto)]
+
+#[cfg(test)]
+mod doubling;
+#[cfg(test)]
+mod tests;

@@ -1,0 +1,24 @@
+use crate::doubling::{Doubling, serve, sum_of_doubles};
+use std::test::Fail;
+use std::thread::join;
+use work_desk::Desk;
+
+#[test]
+fn a_kept_worker_performs_round_after_round(rt: HostRuntime) -> Result<(), Fail> {
+    let (desk, giver, worker) = Desk::<u64, u32, Doubling>::new(rt.alloc(), &0)?;
+    let desk = &desk;
+    let (sum, ()) = join(
+        &rt,
+        move || sum_of_doubles(desk, giver, 900),
+        move || serve(desk, worker),
+    );
+    assert_eq!(rt; sum, Some(809_100));
+    Ok(())
+}
+
+#[test]
+fn work_that_nobody_takes_comes_back(rt: HostRuntime) -> Result<(), Fail> {
+    let (desk, giver, _worker) = Desk::<u64, u32, Doubling>::new(rt.alloc(), &0)?;
+    assert_eq!(rt; sum_of_doubles(&desk, giver, 10), Some(90));
+    Ok(())
+}

@@ -1,0 +1,41 @@
+//! How a giver and a worker look at a desk while they wait.
+
+use crate::desk::{CLOSED, Desk, LAID, TAKEN};
+use crate::steps::Deed;
+use std::hint::spin_loop;
+use std::thread::yield_now;
+
+/// At so many looks one spins between two looks; at later ones one lets another thread run.
+const SPINS: u32 = 200;
+
+impl<T: Drop, K, D: Deed<T, K>> Desk<T, K, D> {
+    /// Looks until there is work or none will come, so many times at most. A look is a plain load.
+    pub fn look_for_work(&self, looks: u32) {
+        for look in 0..looks {
+            let word = self.table.shared.peek(0);
+            if word == LAID || word == CLOSED {
+                return;
+            }
+            pause(look);
+        }
+    }
+
+    /// Looks until no worker has the work in hand, so many times at most.
+    pub fn look_for_end(&self, looks: u32) {
+        for look in 0..looks {
+            if self.table.shared.peek(0) != TAKEN {
+                return;
+            }
+            pause(look);
+        }
+    }
+}
+
+/// What one does between two looks.
+fn pause(look: u32) {
+    if look < SPINS {
+        spin_loop();
+    } else {
+        yield_now();
+    }
+}
