@@ -1,5 +1,5 @@
 -- Each kind of step keeps the rule of a desk.
-use Rattle.std.proofs.Common.{◌≡◌, ◌≢◌, ℕ, List, [], ◌∷◌, ◌++◌, Option, Some, None, refl, sym, ap, subst, arith}
+use Rattle.std.proofs.Common.{◌≡◌, ℕ, List, [], ◌∷◌, ◌++◌, Option, Some, None, refl, sym, ap, subst, arith}
 use Rattle.std.specs.Prelude.{◌==◌, slice_index, slice_set}
 use mathlib.Core.Option.{none, some}
 use lib.ListN.{get_elem?}
@@ -9,7 +9,7 @@ use Rattle.atomic_table.specs.Table.{Act, Allows, Splits, State, Valid, carried_
 use Rattle.work_desk.specs.declared.view.View.{View}
 use Rattle.work_desk.specs.declared.view.Part.{Part}
 use Rattle.work_desk.specs.declared.view.Part.TheVariants.{Shut, Open, Giver, Worker}
-use Rattle.work_desk.specs.Desk.{Stand, unopened, opened, idle, laid, taken, finished, Fits, DeskRule, Seat, seen, state_of, givers, workers, giving, waiting, resting, working, Opens, Lays, HasTaken, Takes, Finishes, HasCollected, Collects, Revokes, Closes}
+use Rattle.work_desk.specs.Desk.{Stand, unopened, opened, idle, laid, taken, finished, Fits, DeskRule, Seat, seen, state_of, givers, workers, giving, waiting, resting, working, Opens, Lays, Takes, Finishes, Collects, Revokes, Closes}
 use Rattle.work_desk.proofs.Places.{first_held, is_there, part_of, place_of}
 
 module _ {T K : Type 0} (may : K → T → Type 0) (done : K → T → T → Type 0) (key : K) where

@@ -1,6 +1,6 @@
 -- Where a seat is among the views of a desk, and how the desk then stands.
 use Rattle.std.proofs.Common.{◌≡◌, ℕ, zero, suc, List, [], ◌∷◌, Option, Some, None, refl, sym, ap, subst}
-use mathlib.Core.Option.{none, some, some-injective, some-ne-none}
+use mathlib.Core.Option.{some, some-injective, some-ne-none}
 use lib.ListN.{get_elem?}
 use Rattle.work_desk.specs.declared.view.View.{View}
 use Rattle.work_desk.specs.declared.view.Part.{Part}

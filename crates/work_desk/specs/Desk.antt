@@ -1,5 +1,5 @@
 -- What holds of a desk between any two steps, and what each kind of step makes of a seat.
-use Rattle.std.specs.Prelude.{◌≡◌, ◌≢◌, ℕ, List, [], ◌∷◌, Option, Some, None}
+use Rattle.std.specs.Prelude.{◌≡◌, ◌≢◌, ℕ, [], ◌∷◌, Option, Some, None}
 use mathlib.Core.Option as optional
 use Rattle.atomic_table.specs.Table.{State, Me, Step}
 use Rattle.work_desk.specs.declared.view.View.{View}
