@@ -5,12 +5,15 @@
 
 ghost use Rattle.std.specs.Prelude.{◌≤◌, IfSome};
 
+#[cfg(test)]
+mod choices;
 mod mixing;
 mod setting;
 
 use app_laws::Finals;
 use cell_store::Seen;
 use mixing::run;
+use outer_edge::Seeded;
 use setting::{Setting, read_setting};
 use std::env;
 use std::env::Env;
@@ -21,7 +24,7 @@ fn main(rt: HostRuntime) -> ExitCode {
         let _ = eprintln!(rt; "usage: own_operator serial|rounds|free WORKERS LENGTH");
         return ExitCode::from(2);
     };
-    let Ok(finals) = run(&rt, rt.alloc(), &setting) else {
+    let Ok(finals) = run(&rt, rt.alloc(), &setting, &Seeded) else {
         let _ = eprintln!(rt; "no memory");
         return ExitCode::from(1);
     };

@@ -13,7 +13,7 @@ use free_pool::run_free;
 use graph_update::Engine;
 use hook_app::{Deed, Hook, HookApp};
 use kdg_text::{NoRoom, Text};
-use outer_edge::Seeded;
+use outer_edge::Gate;
 use rw_sets::{Access, RwSet};
 use source_pool::run_rounds;
 use std::alloc::Global;
@@ -145,11 +145,12 @@ fn first_tasks(alloc: Global) -> Result<StartList, NoRoom>
     Ok(first)
 }
 
-/// Runs the operator to its end: 4,096 tasks.
-pub fn run<R: Threads + Wait + Sync>(
+/// Runs the operator to its end, with the gate's choices by the seed 1: 4,096 tasks.
+pub fn run<R: Threads + Wait + Sync, G: Gate + Sync>(
     rt: &R,
     alloc: Global,
     setting: &Setting,
+    gate: &G,
 ) -> Result<Finals<u64>, NoRoom>
     requires { (1 ≤ setting.now.workers) × (setting.now.workers ≤ 64) }
 {
@@ -158,14 +159,15 @@ pub fn run<R: Threads + Wait + Sync>(
         requires { IsAsked (mixing times) group_sets task.now bundle }
         ensures { IsAnswered (mixing times) group_sets task.now bundle result }
     { mix(alloc, times, task, bundle) };
-    run_by(rt, alloc, setting, &Mixer { times }, act)
+    run_by(rt, alloc, setting, gate, &Mixer { times }, act)
 }
 
 /// Runs an operator that keeps the mixer's deed.
-fn run_by<R: Threads + Wait + Sync, H: Hook<u64> + Sync>(
+fn run_by<R: Threads + Wait + Sync, G: Gate + Sync, H: Hook<u64> + Sync>(
     rt: &R,
     alloc: Global,
     setting: &Setting,
+    gate: &G,
     mixer: &Mixer,
     hook: H,
 ) -> Result<Finals<u64>, NoRoom>
@@ -179,9 +181,9 @@ fn run_by<R: Threads + Wait + Sync, H: Hook<u64> + Sync>(
     }
     let engine = Engine::begin_uncounted(alloc, &app, cells, first, 10_000).map_err(|_| NoRoom)?;
     if let Mode::Free = setting.mode {
-        return run_free(rt, alloc, engine, &Seeded, 1, setting.workers).map_err(|_| NoRoom);
+        return run_free(rt, alloc, engine, gate, 1, setting.workers).map_err(|_| NoRoom);
     }
-    let ended = run_rounds(rt, alloc, engine, &Seeded, 1, setting.workers);
+    let ended = run_rounds(rt, alloc, engine, gate, 1, setting.workers);
     let (finals, _) = ended.map_err(|_| NoRoom)?;
     Ok(finals)
 }
