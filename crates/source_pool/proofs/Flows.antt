@@ -13,7 +13,7 @@ use Rattle.source_pool.specs.Legs.{BeginsAtRest}
 use Rattle.source_pool.specs.Runs.{IsOverLimit, IsRoundsEnd}
 use Rattle.source_pool.specs.Streams.{IsCutShort, IsStreamEnd, IsStreamOver, IsToldEnd, TakesFront}
 use Rattle.text_outlet.specs.Sending.{IsSent, IsWritten}
-use Rattle.text_outlet.proofs.Sending.{all_written, front_written}
+use Rattle.source_pool.proofs.Sending.{all_written, front_written}
 
 not_before : (had failed : Bool) → (had ≡ true → failed ≡ true) → failed ≡ false → had ≡ false
 not_before false failed stays none = refl

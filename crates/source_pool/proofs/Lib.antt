@@ -24,4 +24,5 @@ pub mod Passing
 pub mod PerformedInOrder
 pub mod RoundNumbers
 pub mod RunsBeside
+pub mod Sending
 pub mod Telling

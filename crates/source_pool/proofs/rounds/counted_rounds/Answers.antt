@@ -12,7 +12,7 @@ use Rattle.source_pool.specs.Runs.{IsRunFault, state_at_rest}
 use Rattle.source_pool.specs.Streams.{IsCutShort, IsOnLeg}
 use Rattle.source_pool.proofs.EngineAtRest.{no_node, some_node}
 use Rattle.source_pool.proofs.LegRounds.{leg_fails, next_begins}
-use Rattle.text_outlet.proofs.Sending.{tells_both, tells_none}
+use Rattle.source_pool.proofs.Sending.{tells_both, tells_none}
 use Rattle.source_pool.proofs.Telling.{cut_behind, cut_for_room, told_ends}
 use Rattle.source_pool.proofs.rounds.counted_rounds.Goals as goal
 

@@ -12,7 +12,7 @@ use Rattle.source_pool.specs.Streams.{IsOnLeg, told_by}
 use Rattle.text_outlet.specs.Sending.{TellsMore}
 use Rattle.text_outlet.specs.declared.outlet.Outlet.{Outlet}
 use Rattle.source_pool.proofs.EngineAtRest.{some_node}
-use Rattle.text_outlet.proofs.Sending.{tells_on, tells_same}
+use Rattle.source_pool.proofs.Sending.{tells_on, tells_same}
 use Rattle.source_pool.proofs.Telling.{cut_at_start, cut_by_round, round_told, told_first}
 use Rattle.source_pool.proofs.rounds.play_leg.Goals as goal
 

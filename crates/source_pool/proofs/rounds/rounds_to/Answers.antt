@@ -10,7 +10,7 @@ use Rattle.crew.specs.declared.answers.OverCause.TheVariants as cause
 use Rattle.source_pool.specs.Runs.{IsOverLimit, IsRunFault}
 use Rattle.source_pool.specs.Streams.{IsCutShort}
 use Rattle.text_outlet.specs.Sending.{IsSent, TellsMore}
-use Rattle.text_outlet.proofs.Sending.{first_told}
+use Rattle.source_pool.proofs.Sending.{first_told}
 use Rattle.source_pool.proofs.rounds.rounds_to.Goals as goal
 
 pub counted_rounds-run-requires : goal.counted_rounds-run-requires
