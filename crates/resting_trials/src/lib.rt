@@ -1,0 +1,5 @@
+//! Rounds of resting tasks.
+#![tactic(auto)]
+
+#[cfg(test)]
+mod resting;
