@@ -14,7 +14,7 @@ use Rattle.mtx_reader.specs.Ascending.{all_in}
 use Rattle.gf2_eliminate.specs.declared.cover.LineCover.{LineCover}
 use Rattle.gf2_eliminate.specs.declared.line.Line2.{Line2}
 use Rattle.gf2_eliminate.specs.declared.line.Line2.TheVariants.{Row, Col}
-use Rattle.gf2_eliminate.specs.Covers.{covers, IsAtHome, IsCommon, IsFirstCommon, IsLeastCommon, IsSharedAmong}
+use Rattle.gf2_eliminate.specs.Covers.{covers, IsAtHome, IsCommon, IsFirstBeyond, IsFirstCommon, IsLeastBeyond, IsLeastCommon, IsSharedAmong}
 use Rattle.gf2_eliminate.specs.Elimination.{is_shared, set_of}
 use Rattle.gf2_eliminate.specs.Lines.{no_line, numbers_in, has, line_at, holds, IsListTo, IsRow, IsColumn}
 use Rattle.gf2_eliminate.specs.Membership.{in_has, same_tests}
@@ -111,23 +111,26 @@ module _ (pattern : Pattern) (column : ℕ) (cells : List (Cell Line2)) (at-home
       only = λ other below there. inl there;
     }
 
-    pub added_more : (start columns more : List ℕ) (from number words : ℕ) (row : Line2) → pattern.cols < 64 * words → AreAdded pattern column cells start columns from
-        → IsLeastCommon (numbers_in line) (numbers_in line) from number → cell_at cells (number - 1) ≡ Home row
+    -- the columns of a row are added, where those of each row that was passed are there
+    row_added : (start columns more : List ℕ) (from number words : ℕ) (row : Line2) → pattern.cols < 64 * words → AreAdded pattern column cells start columns from
+        → has (numbers_in line) number ≡ true
+        → ((r other : ℕ) → r < pattern.rows → r + 1 < number + 1 → other < pattern.cols → holds (values_of cells) r column ≡ true → holds (values_of cells) r other ≡ true → (has columns (suc other) ≡ true) ⊎ (r ≡ number - 1))
+        → cell_at cells (number - 1) ≡ Home row
         → ((n : ℕ) → has more n ≡ (has columns n || (nat_lt n (64 * words) && has (numbers_in row) n))) → AreAdded pattern column cells start more (number + 1)
-    added_more start columns more from number words row enough added least row-is each = record {
+    row_added start columns more from number words row enough added in-line passed row-is each = record {
       some = omega arith;
-      few = omega (arith, (row_within number least.in_set).1);
+      few = omega (arith, (row_within number in-line).1);
       kept = λ other below there. was other (added.kept other below there);
-      found = λ r other r-below before below held has-it. elim (passed_or_here from number r least r-below before held) [
-        | inl passed ↦ was other (added.found r other r-below passed below held has-it)
+      found = λ r other r-below before below held has-it. elim (passed r other r-below before below held has-it) [
+        | inl there ↦ was other there
         | inr here ↦
             each (suc other)
             ∙ or_right (has columns (suc other)) (nat_lt (suc other) (64 * words) && has (numbers_in row) (suc other))
-            (fits other below ∙ sym (holds_is number least.in_set row row-is other) ∙ ap (λ k. holds (values_of cells) k other) (sym here) ∙ has-it)
+            (fits other below ∙ sym (holds_is number in-line row row-is other) ∙ ap (λ k. holds (values_of cells) k other) (sym here) ∙ has-it)
       ];
       only = λ other below there. elim (or_cases (has columns (suc other)) (nat_lt (suc other) (64 * words) && has (numbers_in row) (suc other)) (sym (each (suc other)) ∙ there)) [
         | inl before ↦ added.only other below before
-        | inr new ↦ inr (shares_through number least.in_set row row-is other (sym (fits other below) ∙ new))
+        | inr new ↦ inr (shares_through number in-line row row-is other (sym (fits other below) ∙ new))
       ];
     }
       where
@@ -136,6 +139,31 @@ module _ (pattern : Pattern) (column : ℕ) (cells : List (Cell Line2)) (at-home
 
         fits : (other : ℕ) → other < pattern.cols → (nat_lt (suc other) (64 * words) && has (numbers_in row) (suc other)) ≡ has (numbers_in row) (suc other)
         fits other below = ap (λ b. b && has (numbers_in row) (suc other)) (lt-ltb (suc other) (64 * words) (omega (arith, below, enough)))
+
+    pub added_more : (start columns more : List ℕ) (from number words : ℕ) (row : Line2) → pattern.cols < 64 * words → AreAdded pattern column cells start columns from
+        → IsLeastCommon (numbers_in line) (numbers_in line) from number → cell_at cells (number - 1) ≡ Home row
+        → ((n : ℕ) → has more n ≡ (has columns n || (nat_lt n (64 * words) && has (numbers_in row) n))) → AreAdded pattern column cells start more (number + 1)
+    added_more start columns more from number words row enough added least = row_added start columns more from number words row enough added least.in_set
+        (λ r other r-below before below held has-it. elim (passed_or_here from number r least r-below before held) [
+          | inl passed ↦ inl (added.found r other r-below passed below held has-it)
+          | inr here ↦ inr here
+        ])
+
+    -- where the columns of these rows are there already, the next row that isn't one of them
+    pub added_beyond : (rows start columns more : List ℕ) (from number words : ℕ) (row : Line2)
+        → ((r other : ℕ) → r < pattern.rows → other < pattern.cols → has rows (suc r) ≡ true → holds (values_of cells) r other ≡ true → has start (suc other) ≡ true)
+        → pattern.cols < 64 * words → AreAdded pattern column cells start columns from
+        → IsLeastBeyond (numbers_in line) rows from number → cell_at cells (number - 1) ≡ Home row
+        → ((n : ℕ) → has more n ≡ (has columns n || (nat_lt n (64 * words) && has (numbers_in row) n))) → AreAdded pattern column cells start more (number + 1)
+    added_beyond rows start columns more from number words row closed enough added least = row_added start columns more from number words row enough added least.in_set
+        (λ r other r-below before below held has-it. elim (cases_lt (r + 1) from) [
+          | inl passed ↦ inl (added.found r other r-below passed below held has-it)
+          | inr ahead ↦ elim (cases_lt (suc r) number) [
+            | inl earlier ↦
+                inl (added.kept other below (closed r other r-below below (least.least (suc r) (omega (arith, ahead)) earlier (sym (held_is r r-below) ∙ held)) has-it))
+            | inr here ↦ inr (omega (arith, here, before))
+          ]
+        ])
 
     -- no row is left
     all_passed : (from row : ℕ) → IsFirstCommon (numbers_in line) (numbers_in line) from None → row < pattern.rows → holds (values_of cells) row column ≡ true → row + 1 < from
@@ -146,9 +174,11 @@ module _ (pattern : Pattern) (column : ℕ) (cells : List (Cell Line2)) (at-home
           absurd (true≢false (sym there ∙ none (suc row) (omega (arith, ahead)) there))
     ]
 
-    pub added_all : (start columns : List ℕ) (from : ℕ) → AreAdded pattern column cells start columns from → IsFirstCommon (numbers_in line) (numbers_in line) from None
+    -- where the columns of each row of the column are there
+    all_added : (start columns : List ℕ) (from : ℕ) → AreAdded pattern column cells start columns from
+        → ((row other : ℕ) → row < pattern.rows → other < pattern.cols → holds (values_of cells) row column ≡ true → holds (values_of cells) row other ≡ true → has columns (suc other) ≡ true)
         → (other : ℕ) → other < pattern.cols → has columns (suc other) ≡ (has start (suc other) || is_shared pattern.rows pattern.cols (values_of cells) column other)
-    added_all start columns from added none other below =
+    all_added start columns from added each other below =
         same_tests (has columns (suc other)) (has start (suc other) || is_shared pattern.rows pattern.cols (values_of cells) column other)
         (λ there. elim (added.only other below there) [
           | inl before ↦ or_left (has start (suc other)) (is_shared pattern.rows pattern.cols (values_of cells) column other) before
@@ -158,8 +188,21 @@ module _ (pattern : Pattern) (column : ℕ) (cells : List (Cell Line2)) (at-home
           | inl before ↦ added.kept other below before
           | inr shared ↦
               let shares = shared_found pattern.rows pattern.cols (values_of cells) column other shared in
-              added.found shares.0 other shares.1 (all_passed from shares.0 none shares.1 shares.2) below shares.2 shares.3
+              each shares.0 other shares.1 below shares.2 shares.3
         ])
+
+    pub added_all : (start columns : List ℕ) (from : ℕ) → AreAdded pattern column cells start columns from → IsFirstCommon (numbers_in line) (numbers_in line) from None
+        → (other : ℕ) → other < pattern.cols → has columns (suc other) ≡ (has start (suc other) || is_shared pattern.rows pattern.cols (values_of cells) column other)
+    added_all start columns from added none = all_added start columns from added (λ row other row-below below held. added.found row other row-below (all_passed from row none row-below held) below held)
+
+    pub beyond_all : (rows start columns : List ℕ) (from : ℕ)
+        → ((r other : ℕ) → r < pattern.rows → other < pattern.cols → has rows (suc r) ≡ true → holds (values_of cells) r other ≡ true → has start (suc other) ≡ true)
+        → AreAdded pattern column cells start columns from → IsFirstBeyond (numbers_in line) rows from None
+        → (other : ℕ) → other < pattern.cols → has columns (suc other) ≡ (has start (suc other) || is_shared pattern.rows pattern.cols (values_of cells) column other)
+    beyond_all rows start columns from closed added none = all_added start columns from added (λ row other row-below below held has-it. elim (cases_lt (row + 1) from) [
+      | inl passed ↦ added.found row other row-below passed below held has-it
+      | inr ahead ↦ added.kept other below (closed row other row-below below (none (suc row) (omega (arith, ahead)) (sym (held_is row row-below) ∙ held)) has-it)
+    ])
 
     pub none_yet : (columns : List ℕ) → HasNone pattern column cells columns 1
     none_yet columns = record { some = omega arith; few = omega arith; none = λ row other below before held has-it. absurd (omega (arith, before)) }

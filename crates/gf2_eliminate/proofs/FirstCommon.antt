@@ -50,7 +50,7 @@ pub record IsPassed (words others : List ℕ) (from at bit : ℕ) : Type 0 where
 pub no_bit_past : (words : List ℕ) (n : ℕ) → length words ≤ n / 64 → has_bit words n ≡ false
 no_bit_past words n past = ap (λ word. bit_at word (n % 64) == 1) (get_or_past words (n / 64) 0 past) ∙ ap (λ b. b == 1) (bit_at-zero (n % 64))
 
-bit_here : (words : List ℕ) (at bit n : ℕ) → bit < 64 → n ≡ 64 * at + bit → has_bit words n ≡ (bit_at (get_or words at 0) bit == 1)
+pub bit_here : (words : List ℕ) (at bit n : ℕ) → bit < 64 → n ≡ 64 * at + bit → has_bit words n ≡ (bit_at (get_or words at 0) bit == 1)
 bit_here words at bit n low is =
     let word : n / 64 ≡ at = omega (arith, low, is) in
     let place : n % 64 ≡ bit = omega (arith, low, is) in

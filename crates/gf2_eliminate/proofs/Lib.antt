@@ -11,5 +11,7 @@ pub mod Printing
 pub mod FirstCells
 pub mod Diagonal
 pub mod FirstCommon
+pub mod FirstBeyond
 pub mod Including
 pub mod Covering
+pub mod Gathering

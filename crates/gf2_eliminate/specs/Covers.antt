@@ -7,7 +7,7 @@ use Rattle.mtx_reader.specs.Patterns.{IsPattern}
 use Rattle.gf2_eliminate.specs.declared.cover.LineCover.{LineCover}
 use Rattle.gf2_eliminate.specs.declared.line.Line2.{Line2}
 use Rattle.gf2_eliminate.specs.Elimination.{is_shared}
-use Rattle.gf2_eliminate.specs.Lines.{has, AreLines}
+use Rattle.gf2_eliminate.specs.Lines.{has, holds, AreLines}
 
 -- the least place from one on that both sets have
 pub record IsLeastCommon (set other : List ℕ) (from place : ℕ) : Type 0 where
@@ -21,6 +21,18 @@ abbrev pub IsFirstCommon : List ℕ → List ℕ → ℕ → Option ℕ → Type
 IsFirstCommon set other from None = (n : ℕ) → from ≤ n → has set n ≡ true → has other n ≡ false
 IsFirstCommon set other from (Some place) = IsLeastCommon set other from place
 
+-- the least place from one on that a set has and another lacks
+pub record IsLeastBeyond (set other : List ℕ) (from place : ℕ) : Type 0 where
+  pub beyond : from ≤ place
+  pub in_set : has set place ≡ true
+  pub not_in_other : has other place ≡ false
+  pub least : (n : ℕ) → from ≤ n → n < place → has set n ≡ true → has other n ≡ true
+
+-- that place, or none where there is none
+abbrev pub IsFirstBeyond : List ℕ → List ℕ → ℕ → Option ℕ → Type 0
+IsFirstBeyond set other from None = (n : ℕ) → from ≤ n → has set n ≡ true → has other n ≡ true
+IsFirstBeyond set other from (Some place) = IsLeastBeyond set other from place
+
 -- a location that passes both tests, or none where there is none
 abbrev pub IsCommon : (ℕ → Bool) → (ℕ → Bool) → Option ℕ → Type 0
 IsCommon one other None = (loc : ℕ) → one loc ≡ true → other loc ≡ false
@@ -31,6 +43,10 @@ abbrev pub covers : Pattern → LineCover → ℕ → Bool
 covers pattern cover loc =
     if nat_lt loc pattern.rows then has cover.rows (suc loc)
     else nat_lt loc (pattern.rows + pattern.cols) && has cover.columns (suc (loc - pattern.rows))
+
+-- each row of a cover came with the columns in which it has a one
+abbrev pub IsClosed : Pattern → List Line2 → LineCover → Type 0
+IsClosed pattern cells cover = (row other : ℕ) → row < pattern.rows → other < pattern.cols → has cover.rows (suc row) ≡ true → holds cells row other ≡ true → has cover.columns (suc other) ≡ true
 
 -- the place of a column of the matrix that shares a row with this one and is among these, or none where there is none
 abbrev pub IsSharedAmong : Pattern → List Line2 → ℕ → List ℕ → Option ℕ → Type 0

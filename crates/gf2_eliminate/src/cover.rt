@@ -1,10 +1,10 @@
-ghost use Rattle.std.specs.Prelude.{◌≡◌, ℕ, suc, ◌+◌, ◌<◌, ◌/◌, ◌||◌, ◌==◌, [], OnOk};
+ghost use Rattle.std.specs.Prelude.{◌≡◌, ℕ, suc, ◌+◌, ◌<◌, ◌/◌, ◌||◌, ◌==◌, true, [], OnOk};
 ghost use Rattle.rw_sets.specs.Accesses.{writes};
 ghost use Rattle.cell_store.specs.Values.{values_of};
 ghost use Rattle.mtx_reader.specs.Patterns.{IsPattern};
-ghost use Rattle.gf2_eliminate.specs.Covers.{covers, IsAtHome, IsCommon, IsSharedAmong};
+ghost use Rattle.gf2_eliminate.specs.Covers.{covers, IsAtHome, IsClosed, IsCommon, IsSharedAmong};
 ghost use Rattle.gf2_eliminate.specs.Elimination.{is_shared, set_of};
-ghost use Rattle.gf2_eliminate.specs.Lines.{has};
+ghost use Rattle.gf2_eliminate.specs.Lines.{has, holds};
 
 use crate::{Line2, OneSet};
 use cell_store::Store;
@@ -82,6 +82,25 @@ impl LineCover {
         include_columns(&mut self.columns, pattern, column, store)
     }
 
+    /// Puts the set of the task of a column in, where each row that is in came with its columns. These needn't
+    /// be gone over again.
+    pub(crate) fn gather_set(
+        &mut self,
+        pattern: &Pattern,
+        column: u32,
+        store: &Store<Line2>,
+    ) -> Result<(), NoRoom>
+        requires home { IsAtHome pattern.now column store.now }
+        requires closed { IsClosed pattern.now (values_of store.now) self.old }
+        ensures { OnOk result ((loc : ℕ) → covers pattern.now self.new loc ≡
+            (covers pattern.now self.old loc || writes (set_of pattern.now.rows pattern.now.cols column (values_of store.now)) loc)) }
+    {
+        self.columns.insert(column + 1)?;
+        include_new_columns(&mut self.columns, &self.rows, pattern, column, store)?;
+        let holders = store.value(pattern.rows + column).ones();
+        self.rows.include_first(holders, words_to(pattern.rows))
+    }
+
     /// A location of the set of the task of a column that is in.
     pub(crate) fn common(&self, pattern: &Pattern, column: u32, store: &Store<Line2>) -> Option<u32>
         requires { IsAtHome pattern.now column store.now }
@@ -151,6 +170,29 @@ fn include_columns(
     let words = words_to(pattern.cols);
     let mut from = 1;
     while let Some(row) = holders.first_common(holders, from) {
+        columns.include_first(store.value(row - 1).ones(), words)?;
+        from = row + 1;
+    }
+    Ok(())
+}
+
+/// Adds the columns in which a row of a column has a one, where those of these rows are in already.
+fn include_new_columns(
+    columns: &mut OneSet,
+    rows: &OneSet,
+    pattern: &Pattern,
+    column: u32,
+    store: &Store<Line2>,
+) -> Result<(), NoRoom>
+    requires home { IsAtHome pattern.now column store.now }
+    requires in_already { (row other : ℕ) → row < pattern.now.rows → other < pattern.now.cols → has rows.now (suc row) ≡ true → holds (values_of store.now) row other ≡ true → has columns.old (suc other) ≡ true }
+    ensures { OnOk result ((other : ℕ) → other < pattern.now.cols → has columns.new (suc other) ≡
+        (has columns.old (suc other) || is_shared pattern.now.rows pattern.now.cols (values_of store.now) column other)) }
+{
+    let holders = store.value(pattern.rows + column).ones();
+    let words = words_to(pattern.cols);
+    let mut from = 1;
+    while let Some(row) = holders.first_beyond(rows, from) {
         columns.include_first(store.value(row - 1).ones(), words)?;
         from = row + 1;
     }

@@ -33,7 +33,7 @@ impl OneSet {
     ghost use Rattle.mtx_reader.specs.Ascending.{IsAscendingBy};
     ghost use Rattle.gf2_eliminate.specs.Lines.{has, IsListTo};
     ghost use Rattle.gf2_eliminate.specs.Plans.{sum_to};
-    ghost use Rattle.gf2_eliminate.specs.Covers.{IsFirstCommon};
+    ghost use Rattle.gf2_eliminate.specs.Covers.{IsFirstBeyond, IsFirstCommon};
 
     /// No place, which takes no memory.
     pub fn new(alloc: Global) -> OneSet
@@ -141,6 +141,20 @@ impl OneSet {
         None
     }
 
+    /// The least place from one on that this set has and the other lacks.
+    pub(crate) fn first_beyond(&self, other: &OneSet, from: u32) -> Option<u32>
+        ensures { IsFirstBeyond self.now other.now from result }
+    {
+        let mut bit = from % u64::BITS;
+        for at in (from / u64::BITS) as usize..self.words.len() {
+            if let Some(found) = first_bit(self.words[at] & !word_at(&other.words, at), bit) {
+                return Some(at as u32 * u64::BITS + found);
+            }
+            bit = 0;
+        }
+        None
+    }
+
     /// Adds places over two elements, where they are: the set then has those that exactly one of the two
     /// had. It has a place before, and so enough words.
     pub(crate) fn add(&mut self, added: &Addend)
@@ -210,6 +224,13 @@ impl Addend {
         let end = end_of_words(&words);
         Addend { words, first, end }
     }
+}
+
+/// The word at a place, which has no bit behind the last one.
+fn word_at(words: &[u64], at: usize) -> u64
+    ensures { result ≡ slice_index words.now at }
+{
+    if at < words.len() { words[at] } else { 0 }
 }
 
 /// The first word that has a bit, or the end where none has one.

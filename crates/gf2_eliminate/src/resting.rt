@@ -44,6 +44,15 @@ impl Resting for Matrix {
         cover.include_set(&self.pattern, body.at, store)
     }
 
+    fn gather(
+        &self,
+        body: &Body,
+        store: &Store<Line2>,
+        cover: &mut LineCover,
+    ) -> Result<(), NoRoom> {
+        cover.gather_set(&self.pattern, body.at, store)
+    }
+
     fn join(&self, cover: &mut LineCover, other: &LineCover) -> Result<(), NoRoom> {
         cover.join(&self.pattern, other)
     }

@@ -19,6 +19,12 @@ holds_there P [] place x all at = absurd cc
 holds_there P (first ∷ xs) zero x all at = let same : first ≡ x = cc in subst P same all.0
 holds_there P (first ∷ xs) (suc place) x all at = holds_there P xs place x all.1 at
 
+-- what holds for all holds for the first ones
+pub first_hold : {X : Type 0} (P : X → Type 0) (xs : List X) (count : ℕ) → AllByRecursion P xs → AllByRecursion P (take count xs)
+first_hold P xs zero all = tt
+first_hold P [] (suc count) all = tt
+first_hold P (first ∷ xs) (suc count) all = (all.0, first_hold P xs count all.1)
+
 pub within : {X : Type 0} (xs : List X) (place : ℕ) (x : X) → slice_get xs place ≡ Some x → place < length xs
 within [] place x at = absurd cc
 within (first ∷ xs) zero x at = omega arith

@@ -166,7 +166,7 @@ fn meeting_of_own<A: Resting>(
     let mut met = app.shared(&front.own, &front.sets.cover);
     while met.is_none() && front.sets.count < place {
         let task = waiting[front.sets.count].task;
-        app.cover(&task.body, store, &mut front.sets.cover)?;
+        app.gather(&task.body, store, &mut front.sets.cover)?;
         front.sets.count += 1;
         met = app.shared(&front.own, &front.sets.cover);
     }

@@ -1,10 +1,19 @@
 -- Applications whose tasks can rest.
-use Rattle.std.specs.Prelude.{◌≡◌, ℕ, true, false, List, [], IsSome, IsTrue}
+use Rattle.std.specs.Prelude.{◌≡◌, ℕ, Bool, true, false, List, [], IsSome, IsTrue}
+use Rattle.std.specs.List.{list_any}
 use Rattle.task_order.specs.declared.task.Task.{Task}
 use Rattle.rw_sets.specs.Accesses.{access_at, writes}
 use Rattle.app_laws.specs.Applications.{Application, IsFitTask, AreFitTasks, set_in}
 
 module _ {V : Type 0} (app : Application V) where
+  -- whether the declared set of one of the tasks has the location
+  abbrev pub any_has : List V → List Task → ℕ → Bool
+  any_has cells tasks loc = list_any (λ task. writes (set_in app cells task) loc) tasks
+
+  -- these are just the locations of the declared sets of the tasks
+  abbrev pub HasSets : (ℕ → Bool) → List V → List Task → Type 0
+  HasSets has cells tasks = (loc : ℕ) → has loc ≡ any_has cells tasks loc
+
   -- a declared set writes each location that it names
   abbrev pub SetsAreWritten : Type 0
   SetsAreWritten = (task : Task) (cells : List V) (loc : ℕ) → app.is_fit_cells cells → IsFitTask app task →

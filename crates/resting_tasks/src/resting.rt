@@ -1,7 +1,9 @@
-ghost use Rattle.std.specs.Prelude.{◌≡◌, ℕ, ◌<◌, ◌&&◌, ◌||◌, ◌==◌, false, IsTrue, IfSome, IfNone, IfOk, OnOk};
+ghost use Rattle.std.specs.Prelude.{◌≡◌, ℕ, List, ◌<◌, ◌&&◌, ◌||◌, ◌==◌, false, IsTrue, IfSome, IfNone, IfOk, OnOk};
 ghost use Rattle.rw_sets.specs.Accesses.{writes};
 ghost use Rattle.cell_store.specs.Values.{homes, values_of};
-ghost use Rattle.resting_tasks.specs.Resting.{IsResting};
+ghost use Rattle.task_order.specs.declared.task.Task.{Task};
+ghost use Rattle.app_laws.specs.Applications.{AreFitTasks};
+ghost use Rattle.resting_tasks.specs.Resting.{HasSets, IsResting};
 
 use app_laws::App;
 use cell_store::Store;
@@ -16,7 +18,7 @@ use task_order::Body;
 /// So a task that meets an earlier pending one at a location needn't be looked at again before a task
 /// acts whose set has that location.
 pub trait Resting: App {
-    ghost use Rattle.std.specs.Prelude.{Bool, List};
+    ghost use Rattle.std.specs.Prelude.{Bool};
 
     /// A set of locations.
     type Cover: Drop;
@@ -58,6 +60,21 @@ pub trait Resting: App {
         requires fit { (prio : ℕ) × (Self.meaning self.now).is_fit_task prio body.now }
         requires home { store.now ≡ homes (values_of store.now) }
         requires cells { (Self.meaning self.now).is_fit_cells (values_of store.now) }
+        ensures { OnOk result ((loc : ℕ) → covers self.now cover.new loc ≡ (covers self.now cover.old loc || writes ((Self.meaning self.now).set_of body.now (values_of store.now)) loc)) };
+
+    /// Puts the declared set of a task with this body into a cover that has just those of other tasks, so that
+    /// what it has of them needn't be found again. All cells are home. After `NoRoom` a part of the set may be
+    /// in.
+    fn gather(
+        &self,
+        body: &Body,
+        store: &Store<Self::Val>,
+        cover: &mut Self::Cover,
+    ) -> Result<(), NoRoom>
+        requires fit { (prio : ℕ) × (Self.meaning self.now).is_fit_task prio body.now }
+        requires home { store.now ≡ homes (values_of store.now) }
+        requires cells { (Self.meaning self.now).is_fit_cells (values_of store.now) }
+        requires others { (tasks : List Task) × AreFitTasks (Self.meaning self.now) tasks × HasSets (Self.meaning self.now) (covers self.now cover.old) (values_of store.now) tasks }
         ensures { OnOk result ((loc : ℕ) → covers self.now cover.new loc ≡ (covers self.now cover.old loc || writes ((Self.meaning self.now).set_of body.now (values_of store.now)) loc)) };
 
     /// Puts all locations of another cover in. After `NoRoom` a part of them may be in.
