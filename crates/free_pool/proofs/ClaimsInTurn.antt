@@ -40,6 +40,7 @@ module _ {V : Type 0} (app : Application V) where
 
   all_run : (old now : List (Job V)) (after : Next) → AreClaimed app old after now → AllByRecursion (MayRun app) old → AllByRecursion (MayRun app) now
   all_run old now next.Perform claimed all = subst (AllByRecursion (MayRun app)) (sym claimed.2) (claimed.1, all)
+  all_run old now next.Again none all = absurd none
   all_run old now next.Wait same all = subst (AllByRecursion (MayRun app)) (sym same) all
   all_run old now next.Stop same all = subst (AllByRecursion (MayRun app)) (sym same) all
 
@@ -58,6 +59,7 @@ module _ {V : Type 0} (app : Application V) where
   -- where nothing is claimed after it, a claim gave no job
   pub none_to_perform : (jobs more : List (Job V)) (after : Next) → AreClaimed app jobs after more → more ≡ [] → AreToPerform more after
   none_to_perform jobs more next.Perform claimed none = absurd (no_cons (sym none ∙ claimed.2))
+  none_to_perform jobs more next.Again claimed none = absurd claimed
   none_to_perform jobs more next.Wait claimed none = none
   none_to_perform jobs more next.Stop claimed none = none
 

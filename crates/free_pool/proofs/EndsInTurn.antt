@@ -3,6 +3,7 @@ use Rattle.std.proofs.Common.{◌≡◌, ℕ, ◌+◌, ◌≤◌, List, [], ◌�
 use Rattle.std.proofs.Math.ListN.{drop_of_length-le}
 use Rattle.std.proofs.Math.Seq.{drop-append_seam, take-append_seam}
 use Rattle.std.proofs.lemmas.Slice.Zip.{AllZip-long}
+use Rattle.std.specs.declared.snapshot.Snapshot.{Snapshot}
 use Rattle.task_order.specs.declared.key.Key.{Key}
 use Rattle.task_order.specs.declared.task.Task.{Task}
 use Rattle.app_laws.specs.Applications.{Application}
@@ -14,6 +15,7 @@ use Rattle.run_laws.specs.Progress.{Progress}
 use Rattle.graph_update.specs.Engine.{FinishStaysSound}
 use Rattle.source_pool.specs.Course.{IsJobDone}
 use Rattle.worker_gate.specs.Fits.{drained_count}
+use Rattle.free_pool.specs.Acted.{keys_acted}
 use Rattle.free_pool.specs.Turns.{AreDone, MayEnd, jobs_left, keys_ended, keys_of}
 
 keys_of_one_more : {V : Type 0} (jobs : List (Job V)) (job : Job V) → keys_of (jobs ++ job ∷ []) ≡ keys_of jobs ++ job.task.key ∷ []
@@ -162,3 +164,24 @@ module _ {V : Type 0} (app : Application V) where
       subst (λ (jobs : List (Job V)). Moved app old had now jobs (keys_ended had ended)) left
       (subst (Moved app old had now claimed) (append-nil (keys_ended had ended))
       (follow old mid now had [] claimed (keys_ended had ended) [] (subst (λ (jobs : List (Job V)). Moved app old had mid jobs (keys_ended had ended)) none one) two))
+
+  -- where no task acts
+  pub no_act : (old now : Progress V) (had have : List (Job V)) (ended : ℕ) (acted : List (Snapshot Key)) → acted ≡ []
+      → Moved app old had now have (keys_ended had ended) → Moved app old had now have (keys_ended had ended ++ keys_acted acted)
+  no_act old now had have ended acted idle moved =
+      subst (λ (keys : List (Snapshot Key)). Moved app old had now have (keys_ended had ended ++ keys_acted keys)) (sym idle)
+      (subst (Moved app old had now have) (sym (append-nil (keys_ended had ended))) moved)
+
+  -- where nothing is claimed and no task acts besides
+  pub unacted : (old now : Progress V) (had : List (Job V)) (ended : ℕ) (claimed : List (Job V)) (acted : List (Snapshot Key)) → claimed ≡ [] → acted ≡ []
+      → Moved app old had now (drop ended had) (keys_ended had ended) → Moved app old had now (jobs_left had ended claimed) (keys_ended had ended ++ keys_acted acted)
+  unacted old now had ended claimed acted none idle moved =
+      subst (λ (jobs : List (Job V)). Moved app old had now (jobs_left had ended jobs) (keys_ended had ended ++ keys_acted acted)) (sym none) (no_act old now had (drop ended had) ended acted idle moved)
+
+  -- where light tasks act then
+  pub then_acted : MovesFollow app → (old mid now : Progress V) (had claimed stuck : List (Job V)) (ended : ℕ) (keys : List Key) → claimed ≡ []
+      → Moved app old had mid (drop ended had) (keys_ended had ended) → ((jobs : List (Job V)) → Moved app mid jobs now (stuck ++ jobs) keys)
+      → Moved app old had now (stuck ++ jobs_left had ended claimed) (keys_ended had ended ++ keys)
+  then_acted follow old mid now had claimed stuck ended keys none one two =
+      subst (λ (jobs : List (Job V)). Moved app old had now (stuck ++ jobs_left had ended jobs) (keys_ended had ended ++ keys)) (sym none)
+      (follow old mid now had (drop ended had) (stuck ++ drop ended had) (keys_ended had ended) keys one (two (drop ended had)))

@@ -1,3 +1,5 @@
+pub mod Acts
+pub mod ActsInTurn
 pub mod ClaimsInTurn
 pub mod Ends
 pub mod EndsInTurn

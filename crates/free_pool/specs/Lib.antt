@@ -1,3 +1,4 @@
+pub mod Acted
 pub mod Runs
 pub mod Team
 pub mod Turns

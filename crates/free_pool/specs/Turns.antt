@@ -30,12 +30,14 @@ keys_ended had ended = keys_of (take ended had)
 -- the worker goes on after a turn
 abbrev pub GoesOn : Next → Type 0
 GoesOn next.Perform = Unit {0}
+GoesOn next.Again = Unit {0}
 GoesOn next.Wait = Unit {0}
 GoesOn next.Stop = ⊥
 
 -- there is something to perform just where that is what the turn leads to
 abbrev pub AreToPerform : {V : Type 0} → List (Job V) → Next → Type 0
 AreToPerform claimed next.Perform = claimed ≢ []
+AreToPerform claimed next.Again = claimed ≡ []
 AreToPerform claimed next.Wait = claimed ≡ []
 AreToPerform claimed next.Stop = claimed ≡ []
 
@@ -55,6 +57,7 @@ module _ {V : Type 0} (app : Application V) where
   -- what a claim adds to the jobs: one that may run, where it gave one, and else nothing
   abbrev pub AreClaimed : List (Job V) → Next → List (Job V) → Type 0
   AreClaimed old next.Perform now = (job : Job V) × MayRun app job × (now ≡ job ∷ old)
+  AreClaimed old next.Again now = ⊥
   AreClaimed old next.Wait now = now ≡ old
   AreClaimed old next.Stop now = now ≡ old
 
@@ -62,6 +65,7 @@ module _ {V : Type 0} (app : Application V) where
   -- stands or no task is pending.
   abbrev pub IsAnswer : Progress V → Next → Type 0
   IsAnswer now next.Perform = Unit {0}
+  IsAnswer now next.Again = Unit {0}
   IsAnswer now next.Wait = (now.over ≡ None) × (now.nodes ≢ []) × (clear_nodes app now.nodes ≡ [])
   IsAnswer now next.Stop = (now.over ≢ None) ⊎ (now.nodes ≡ [])
 

@@ -33,10 +33,10 @@ struct Place<'a, A: App> {
 ///
 /// The caller is worker 0; for each other worker a thread is started, and where one can't be, its work
 /// is done here. The gate chooses for each worker at each of its turns, counted from 0. At a closed one a
-/// worker claims one task in a turn, among all clear ones. At an open one it claims among those that are
-/// known, or all where none is, and where tasks are known to be short, as many of them as make up for
-/// the turn, up to its share of those that are pending. Each task is performed once the gate lets its
-/// worker pass. It may wait. What was handed in is dropped after a fault.
+/// worker claims one task in a turn, among all clear ones. At an open one tasks of at most a microsecond
+/// act within the turn; of longer ones a worker claims, among those that are known or all where none is,
+/// as many as make up for the turn, up to its share of those that are pending. Each claimed task is
+/// performed once the gate lets its worker pass. It may wait. What was handed in is dropped after a fault.
 ///
 /// At an open gate, where nobody sees when a task is performed, a single worker shares the execution with
 /// nobody, and runs it in rounds.

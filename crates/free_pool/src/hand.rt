@@ -12,6 +12,8 @@ use kdg_text::NoRoom;
 use outer_edge::Gate;
 use std::alloc::Global;
 use std::collections::VecDeque;
+use std::snapshot::Snapshot;
+use task_order::Key;
 
 /// The jobs of a worker. Each turn fills the lists anew, in the room that earlier turns took.
 #[derive(Drop)]
@@ -20,6 +22,8 @@ pub(crate) struct Hand<V: Held> {
     pub(crate) jobs: VecDeque<Job<V>>,
     /// What is performed and has not yet ended.
     pub(crate) dones: VecDeque<Done<V>>,
+    /// The keys of the tasks that acted in the last turn, for contracts alone.
+    pub(crate) acted: Vec<Snapshot<Key>>,
 }
 
 impl<V: Held> Hand<V> {
@@ -30,6 +34,7 @@ impl<V: Held> Hand<V> {
         Hand {
             jobs: VecDeque::new(alloc),
             dones: VecDeque::new(alloc),
+            acted: Vec::new(alloc),
         }
     }
 }

@@ -1,6 +1,7 @@
 //! Workers without rounds: each claims tasks as soon as it has performed and ended others.
 #![tactic(auto)]
 
+mod acting;
 mod bell;
 mod free;
 mod hand;

@@ -1,6 +1,6 @@
 //! By what the workers of a run claim.
 
-ghost use Rattle.std.specs.Prelude.{◌≤◌};
+ghost use Rattle.std.specs.Prelude.{◌≡◌, ◌≤◌, IsFalse};
 
 /// About how many nanoseconds the tasks that a worker claims in a turn may have to do. A turn for a single
 /// task took two to three microseconds where the engine came from another processor's cache.
@@ -8,6 +8,14 @@ const BATCH: u64 = 50_000;
 
 /// How many tasks a worker claims in a turn at most: others wait while as many end and are claimed.
 const MOST: u64 = 64;
+
+/// A task that has no more nanoseconds to do acts within the turn: it is done sooner than it is claimed there
+/// and ended in another one.
+const LIGHT: u64 = 1_000;
+
+/// How many light tasks act in a turn at most: so many make up for the engine's way from another processor's
+/// cache.
+const ACTS: usize = 4_096;
 
 /// By what the workers of a run claim.
 #[derive(Clone, Copy)]
@@ -18,21 +26,30 @@ pub(crate) struct Plan {
     workers: u32,
     /// How many tasks a worker claims in a turn at most.
     most: usize,
+    /// How many tasks act in a turn at most. Where some may, none is claimed.
+    pub(crate) acts: usize,
 }
 
 impl Plan {
-    /// Where the gate is open, so that nobody sees who performs a task and when, a worker claims as many
-    /// tasks in a turn as make up for it. Where it isn't known how much a task has to do, and at a closed
-    /// gate, it claims one.
-    pub(crate) fn new(seed: u64, workers: u32, is_open: bool, task_nanos: Option<u64>) -> Plan {
+    /// Where the gate is open, so that nobody sees who performs a task and when, light tasks act within the
+    /// turn, and of others a worker claims as many in a turn as make up for it. Where it isn't known how
+    /// much a task has to do, and at a closed gate, it claims one.
+    pub(crate) fn new(seed: u64, workers: u32, is_open: bool, task_nanos: Option<u64>) -> Plan
+        ensures closed { IsFalse is_open → result.acts ≡ 0 }
+    {
         let most = match task_nanos {
             Some(nanos) if is_open => (BATCH / nanos.max(1)).min(MOST) as usize,
             _ => 1,
+        };
+        let acts = match task_nanos {
+            Some(nanos) if is_open && nanos <= LIGHT => ACTS,
+            _ => 0,
         };
         Plan {
             seed,
             workers,
             most,
+            acts,
         }
     }
 

@@ -1,6 +1,6 @@
 //! What a worker does in a turn.
 
-ghost use Rattle.std.specs.Prelude.{◌≡◌, ◌≢◌, ◌<◌, ◌≤◌, ℕ, List, [], ◌∷◌, drop, length, None, Some, IfOk, IsTrue, IsFalse, OnErr};
+ghost use Rattle.std.specs.Prelude.{◌≡◌, ◌≢◌, ◌<◌, ◌≤◌, ℕ, List, [], ◌∷◌, ◌++◌, drop, length, None, Some, IfOk, IsTrue, IsFalse, OnErr};
 ghost use Rattle.std.specs.List.{AllByRecursion};
 ghost use Rattle.crew.specs.Jobs.{IsPerformed, MayRun};
 ghost use Rattle.graph_update.specs.Engine.{EngineState, FinishStaysSound, IsToRun};
@@ -11,8 +11,10 @@ ghost use Rattle.run_laws.specs.Moves.{Moved};
 ghost use Rattle.worker_gate.specs.Fits.{drained_count};
 ghost use Rattle.worker_gate.specs.Steps.{left_by};
 ghost use Rattle.worker_gate.specs.Turns.{MayLeave};
+ghost use Rattle.free_pool.specs.Acted.{jobs_stuck, keys_acted};
 ghost use Rattle.free_pool.specs.Turns.{AreClaimed, AreDone, AreToPerform, GoesOn, IsAnswer, IsSeated, MayEnd, jobs_left, keys_ended};
 
+use crate::acting::{Acting, Stuck, act_tasks};
 use crate::hand::Hand;
 use crate::plan::Plan;
 use app_laws::App;
@@ -31,6 +33,8 @@ use worker_gate::{Did, Hall, Seat, Turn};
 pub enum Next {
     /// What was claimed is to be performed.
     Perform,
+    /// Nothing was claimed, and another turn is to be taken.
+    Again,
     /// No pending task may run now.
     Wait,
     /// Nothing more is to be claimed.
@@ -65,8 +69,8 @@ impl Pick {
     }
 }
 
-/// Takes the turn, ends in it the tasks that were performed, and claims others. It goes on only where all
-/// ended.
+/// Takes the turn, ends in it the tasks that were performed, and lets light tasks act there, or claims
+/// others. It goes on only where all ended.
 pub(crate) fn take_turn<'h, 'a, R: Wait, A: App, L: Ledger>(
     rt: &R,
     hall: &'h Hall<'a, A>,
@@ -81,15 +85,15 @@ pub(crate) fn take_turn<'h, 'a, R: Wait, A: App, L: Ledger>(
     ensures seated { IsSeated hall.now result.0 }
     ensures number { result.0.view.number ≡ seat.entry.view.number }
     ensures unjoined { result.0.view.unjoined ≡ seat.entry.view.unjoined }
-    ensures jobs { result.0.view.jobs ≡ jobs_left seat.entry.view.jobs result.1.ended hand.new.jobs.items }
+    ensures jobs { GoesOn result.1.next → result.0.view.jobs ≡ jobs_left seat.entry.view.jobs result.1.ended hand.new.jobs.items }
     ensures may_run { AllByRecursion (MayRun (A.meaning hall.now.origin.app)) hand.new.jobs.items }
     ensures claimed { AreToPerform hand.new.jobs.items result.1.next }
     ensures all { GoesOn result.1.next → result.1.ended ≡ length hand.old.dones.items }
     ensures none { GoesOn result.1.next → hand.new.dones.items ≡ [] }
 {
     let mut turn = hall.enter(rt, seat);
-    let turned = work_in_turn(turn.engine(), hand, pick, plan, steps);
-    (leave_as(turn, turned.ended, &hand.jobs), turned)
+    let (turned, stuck) = work_in_turn(turn.engine(), hand, pick, plan, steps);
+    (leave_as(turn, turned.ended, hand, &stuck), turned)
 }
 
 /// Takes the turn, and says in it that nothing more is to be claimed for want of memory. The jobs in hand
@@ -110,38 +114,43 @@ pub(crate) fn give_up<'h, 'a, R: Wait, A: App>(
     turn.leave::<Brand>()
 }
 
-/// Ends the tasks that were performed, and claims others. Where an end is refused or memory runs out, a
-/// mark stands afterwards.
-fn work_in_turn<A: App, L: Ledger>(
-    engine: &mut Engine<'_, A>,
+/// Ends the tasks that were performed, and lets light tasks act, or claims others. Where an end is refused
+/// or memory runs out, a mark stands afterwards. A task that was to act and didn't end comes back.
+fn work_in_turn<'a, A: App, L: Ledger>(
+    engine: &mut Engine<'a, A>,
     hand: &mut Hand<A::Val>,
     pick: Pick,
     plan: &Plan,
     steps: &mut Steps<L>,
-) -> Turned
+) -> (Turned, Option<Stuck<Engine<'a, A>>>)
     requires may_end { MayEnd (A.meaning engine.old.app) engine.old.progress hand.old.dones.items }
     ensures app { engine.new.app ≡ engine.old.app }
-    ensures moved { (had : List (Job A.Val)) → AreDone (A.meaning engine.old.app) had hand.old.dones.items → Moved (A.meaning engine.old.app) engine.old.progress had engine.new.progress (jobs_left had result.ended hand.new.jobs.items) (keys_ended had result.ended) }
+    ensures moved { (had : List (Job A.Val)) → AreDone (A.meaning engine.old.app) had hand.old.dones.items → Moved (A.meaning engine.old.app) engine.old.progress had engine.new.progress (jobs_stuck result.1 ++ jobs_left had result.0.ended hand.new.jobs.items) (keys_ended had result.0.ended ++ keys_acted hand.new.acted.items) }
     ensures drained { drained_count engine.new.progress ≡ drained_count engine.old.progress }
     ensures may_run { AllByRecursion (MayRun (A.meaning engine.old.app)) hand.new.jobs.items }
-    ensures claimed { AreToPerform hand.new.jobs.items result.next }
-    ensures answer { IsAnswer (A.meaning engine.old.app) engine.new.progress result.next }
-    ensures all { GoesOn result.next → result.ended ≡ length hand.old.dones.items }
-    ensures none { GoesOn result.next → hand.new.dones.items ≡ [] }
+    ensures claimed { AreToPerform hand.new.jobs.items result.0.next }
+    ensures answer { IsAnswer (A.meaning engine.old.app) engine.new.progress result.0.next }
+    ensures all { GoesOn result.0.next → result.0.ended ≡ length hand.old.dones.items }
+    ensures none { GoesOn result.0.next → hand.new.dones.items ≡ [] }
+    ensures goes_on { GoesOn result.0.next → result.1 ≡ None }
+    ensures none_acts { plan.now.acts ≡ 0 → hand.new.acted.items ≡ [] }
 {
     move_laws::<A>();
     hand.jobs.clear();
+    hand.acted.clear();
     let performed = hand.dones.len();
     let ended = end_tasks(engine, &mut hand.dones, steps);
     if ended < performed {
-        return Turned {
-            ended,
-            next: Next::Stop,
-        };
+        let next = Next::Stop;
+        return (Turned { ended, next }, None);
+    }
+    if plan.acts > 0 {
+        let Acting { next, stuck } = act_tasks(engine, plan.acts, &mut hand.acted, steps);
+        return (Turned { ended, next }, stuck);
     }
     let most = plan.batch(engine.graph().len());
     let next = claim_tasks(engine, pick, most, &mut hand.jobs);
-    Turned { ended, next }
+    (Turned { ended, next }, None)
 }
 
 /// Ends the tasks that were performed, from the first one on, until an end is refused, and tells how many
@@ -269,30 +278,33 @@ fn claim_by<A: App>(engine: &mut Engine<'_, A>, pick: Pick) -> Result<Claim<A::V
     }
 }
 
-/// Leaves the turn, in which so many tasks ended, and these were claimed.
+/// Leaves the turn, in which so many of the tasks that were performed ended, those in the hand were claimed
+/// or acted, and one may be stuck.
 fn leave_as<'h, 'a, A: App>(
     turn: Turn<'h, 'a, A>,
     ended: usize,
-    claimed: &VecDeque<Job<A::Val>>,
+    hand: &Hand<A::Val>,
+    stuck: &Option<Stuck<Engine<'a, A>>>,
 ) -> Seat<'a, A>
-    requires { MayLeave A.meaning turn (jobs_left turn.view.jobs ended claimed.now.items) (keys_ended turn.view.jobs ended) }
+    requires { MayLeave A.meaning turn (jobs_stuck stuck.now ++ jobs_left turn.view.jobs ended hand.now.jobs.items) (keys_ended turn.view.jobs ended ++ keys_acted hand.now.acted.items) }
     ensures hall { result.hall ≡ turn.entry.hall }
-    ensures view { (found : EngineState A A.Val) → turn.entry.view.found ≡ Some found → result.view ≡ left_by (jobs_left turn.entry.view.jobs ended claimed.now.items) (keys_ended turn.entry.view.jobs ended) turn.entry.view found turn.entry.engine }
+    ensures view { (found : EngineState A A.Val) → turn.entry.view.found ≡ Some found → result.view ≡ left_by (jobs_stuck stuck.now ++ jobs_left turn.entry.view.jobs ended hand.now.jobs.items) (keys_ended turn.entry.view.jobs ended ++ keys_acted hand.now.acted.items) turn.entry.view found turn.entry.engine }
 {
-    leave_with::<A, Brand>(turn, ended, claimed)
+    leave_with::<A, Brand>(turn, ended, hand, stuck)
 }
 
 /// Leaves the turn, by what contracts call the jobs and the keys.
 fn leave_with<'h, 'a, A: App, P: Did<A::Val>>(
     turn: Turn<'h, 'a, A>,
     ended: usize,
-    claimed: &VecDeque<Job<A::Val>>,
+    hand: &Hand<A::Val>,
+    stuck: &Option<Stuck<Engine<'a, A>>>,
 ) -> Seat<'a, A>
-    requires jobs { P.jobs ≡ jobs_left turn.view.jobs ended claimed.now.items }
-    requires ended { P.ended ≡ keys_ended turn.view.jobs ended }
-    requires may { MayLeave A.meaning turn (jobs_left turn.view.jobs ended claimed.now.items) (keys_ended turn.view.jobs ended) }
+    requires jobs { P.jobs ≡ jobs_stuck stuck.now ++ jobs_left turn.view.jobs ended hand.now.jobs.items }
+    requires ended { P.ended ≡ keys_ended turn.view.jobs ended ++ keys_acted hand.now.acted.items }
+    requires may { MayLeave A.meaning turn (jobs_stuck stuck.now ++ jobs_left turn.view.jobs ended hand.now.jobs.items) (keys_ended turn.view.jobs ended ++ keys_acted hand.now.acted.items) }
     ensures hall { result.hall ≡ turn.entry.hall }
-    ensures view { (found : EngineState A A.Val) → turn.entry.view.found ≡ Some found → result.view ≡ left_by (jobs_left turn.entry.view.jobs ended claimed.now.items) (keys_ended turn.entry.view.jobs ended) turn.entry.view found turn.entry.engine }
+    ensures view { (found : EngineState A A.Val) → turn.entry.view.found ≡ Some found → result.view ≡ left_by (jobs_stuck stuck.now ++ jobs_left turn.entry.view.jobs ended hand.now.jobs.items) (keys_ended turn.entry.view.jobs ended ++ keys_acted hand.now.acted.items) turn.entry.view found turn.entry.engine }
 {
     turn.leave::<P>()
 }

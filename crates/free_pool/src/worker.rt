@@ -78,7 +78,7 @@ fn work_counted<'h, 'a, R: Wait, A: App, G: Gate, L: Ledger>(
         turns = turns.saturating_add(1);
         let (back, turned) = take_turn(rt, hall, seat, &mut hand, pick, plan, &mut steps);
         seat = back;
-        if turned.ended > 0 {
+        if turned.ended > 0 || !hand.acted.is_empty() {
             bell.ring();
         }
         match turned.next {
@@ -90,6 +90,7 @@ fn work_counted<'h, 'a, R: Wait, A: App, G: Gate, L: Ledger>(
                     return seat;
                 };
             }
+            Next::Again => {}
             Next::Wait => bell.wait(rt, rung),
             Next::Stop => {
                 bell.ring();

@@ -1,18 +1,16 @@
-use Rattle.std.proofs.Common.{◌≤◌, ◌<◌, List, [], length, inl, sym, subst, arith}
+use Rattle.std.proofs.Common.{◌≤◌, ◌<◌, [], length, inl, sym, subst, arith}
 use Rattle.std.specs.List.{AllByRecursion}
 use Rattle.crew.specs.Jobs.{MayRun}
-use Rattle.run_laws.specs.Jobs.{Job}
 use Rattle.run_laws.specs.Moves.{Moved}
-use Rattle.free_pool.specs.Turns.{IsAnswer, jobs_left, keys_ended}
-use Rattle.free_pool.proofs.EndsInTurn.{then_claimed}
+use Rattle.free_pool.specs.Turns.{IsAnswer, jobs_left}
+use Rattle.free_pool.proofs.EndsInTurn.{no_act, then_claimed, unacted}
 use Rattle.free_pool.proofs.turns.work_in_turn.Goals as goal
 
 pub returns-then-ended-performed-clause-moved : goal.returns-then-ended-performed-clause-moved
 returns-then-ended-performed-clause-moved g c had are =
     let old = c.args.engine.now in
     let ends = c.end_tasks-ended in
-    subst (λ (jobs : List (Job g.row.A-Val.Denot)). Moved (g.A.App.meaning old.app) old.progress had ends.new.engine.progress (jobs_left had ends.result jobs) (keys_ended had ends.result)) (sym c.clear.ensures.items)
-    (ends.ensures.moved had are)
+    unacted (g.A.App.meaning old.app) old.progress ends.new.engine.progress had ends.result c.clear.new.self.items c.clear-2.new.self.items c.clear.ensures.items c.clear-2.ensures.items (ends.ensures.moved had are)
 
 pub returns-then-ended-performed-clause-may_run : goal.returns-then-ended-performed-clause-may_run
 returns-then-ended-performed-clause-may_run g c =
@@ -30,8 +28,9 @@ returns-clause-moved g c had are =
     let claims = c.claim_tasks-next in
     let long : length c.args.hand.now.dones.items ≤ ends.result = omega (arith, c.if-ended-performed.false, c.len-performed.ensures, c.args.hand.now.dones.ok.0) in
     let two = subst (λ (app : g.row.A.Denot). Moved (g.A.App.meaning app) ends.new.engine.progress [] claims.new.engine.progress claims.new.jobs.items []) ends.ensures.app claims.ensures.moved in
-    then_claimed (g.A.App.meaning old.app) (c.move_laws.ensures.follow old.app) old.progress ends.new.engine.progress claims.new.engine.progress had claims.new.jobs.items c.args.hand.now.dones.items ends.result are long
-    (ends.ensures.moved had are) two
+    no_act (g.A.App.meaning old.app) old.progress claims.new.engine.progress had (jobs_left had ends.result claims.new.jobs.items) ends.result c.clear-2.new.self.items c.clear-2.ensures.items
+    (then_claimed (g.A.App.meaning old.app) (c.move_laws.ensures.follow old.app) old.progress ends.new.engine.progress claims.new.engine.progress had claims.new.jobs.items c.args.hand.now.dones.items ends.result are long
+    (ends.ensures.moved had are) two)
 
 pub returns-clause-may_run : goal.returns-clause-may_run
 returns-clause-may_run g c =

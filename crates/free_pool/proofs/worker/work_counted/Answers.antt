@@ -14,7 +14,7 @@ loop-preserved-in-Ok-1 g c =
     let tells = c.take_turn-back.ensures in
     let on = subst GoesOn (sym c.in-Perform.is) tt in
     performs g.A.App.meaning c.args.post.hall.now c.args.post.seat c.loop.seat now c.loop.hand.dones.items c.loop.invariant tells.seated tells.number tells.unjoined
-    turned.ended c.take_turn-back.new.hand.jobs.items tells.jobs (tells.all on) c.args.post.app.now c.perform_all.new.dones.items c.requires.app c.in-Ok.ensures
+    turned.ended c.take_turn-back.new.hand.jobs.items (tells.jobs on) (tells.all on) c.args.post.app.now c.perform_all.new.dones.items c.requires.app c.in-Ok.ensures
 
 pub loop-preserved : goal.loop-preserved
 loop-preserved g c =
@@ -23,4 +23,13 @@ loop-preserved g c =
     let tells = c.take_turn-back.ensures in
     let on = subst GoesOn (sym c.in-Wait.is) tt in
     waits g.A.App.meaning c.args.post.hall.now c.args.post.seat c.loop.seat now c.loop.hand.dones.items c.loop.invariant tells.seated tells.number tells.unjoined
-    turned.ended c.take_turn-back.new.hand.jobs.items tells.jobs (tells.all on) c.take_turn-back.new.hand.dones.items (subst (AreToPerform c.take_turn-back.new.hand.jobs.items) c.in-Wait.is tells.claimed) (tells.none on)
+    turned.ended c.take_turn-back.new.hand.jobs.items (tells.jobs on) (tells.all on) c.take_turn-back.new.hand.dones.items (subst (AreToPerform c.take_turn-back.new.hand.jobs.items) c.in-Wait.is tells.claimed) (tells.none on)
+
+pub loop-preserved-in-Again : goal.loop-preserved-in-Again
+loop-preserved-in-Again g c =
+    let now = c.take_turn-back.result.0 in
+    let turned = c.take_turn-back.result.1 in
+    let tells = c.take_turn-back.ensures in
+    let on = subst GoesOn (sym c.in-Again.is) tt in
+    waits g.A.App.meaning c.args.post.hall.now c.args.post.seat c.loop.seat now c.loop.hand.dones.items c.loop.invariant tells.seated tells.number tells.unjoined
+    turned.ended c.take_turn-back.new.hand.jobs.items (tells.jobs on) (tells.all on) c.take_turn-back.new.hand.dones.items (subst (AreToPerform c.take_turn-back.new.hand.jobs.items) c.in-Again.is tells.claimed) (tells.none on)
