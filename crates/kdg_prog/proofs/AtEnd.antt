@@ -33,7 +33,7 @@ use Rattle.kdg_prog.specs.RoundCount.{RoundsToTheEndAreCounted}
 use Rattle.kdg_prog.specs.Starts.{IsStarted}
 use Rattle.kdg_prog.proofs.Refusing.{refusal_when_endless}
 
-ascends : (entries : List Entry) → Pairwise (λ entry other. key_cmp entry.0 other.0 ≡ Less) entries → IsInKeyOrder entries
+pub ascends : (entries : List Entry) → Pairwise (λ entry other. key_cmp entry.0 other.0 ≡ Less) entries → IsInKeyOrder entries
 unfolding IsStrictlySortedBy
 ascends [] each = tt
 ascends (entry ∷ entries) each = (each.0, ascends entries each.1)
@@ -64,16 +64,19 @@ rounds_to_end {V} options problem last rounds ends takes counted one_number read
 
 module _ {V : Type 0} (options : Options) (problem : Problem V) (progress : Progress V) (values : HomesAreValues V) (begun : IsBegun problem.app problem.cells problem.tasks options.budget progress) where
   -- it begins where the sequential run does
-  begins : state_at_rest progress ≡ first_state problem
+  pub begins : state_at_rest progress ≡ first_state problem
   begins =
       let cells : values_of progress.cells ≡ problem.cells = ap values_of begun.cells_are ∙ values.values_of_homes problem.cells in
       (λ i. state_of (cells i) (begun.tasks_are i))
 
+  -- with the whole budget
+  pub left_of_limit : progress.limit - progress.ended ≡ options.budget
+  left_of_limit = omega (arith, begun.limit_is, begun.none_ended)
+
   -- and the rest of the sequential run from there is the whole
   pub rest_is_whole : rest_of_run problem.app progress ≡ end_of options problem
   rest_is_whole =
-      let limit : progress.limit - progress.ended ≡ options.budget = omega (arith, begun.limit_is, begun.none_ended) in
-      (λ i. run_from problem.app.act (limit i) end (begins i))
+      (λ i. run_from problem.app.act (left_of_limit i) end (begins i))
 
   pub refusal_of_run : options.mode ≢ Serial → (fault : OverCause) (answer : Status) → IsRunFault problem.app progress fault → AnswersRounds fault answer → IsRunRefusal options problem answer
   refusal_of_run not_serial (faults.Budget created limit) answer over told =

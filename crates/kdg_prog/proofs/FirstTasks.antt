@@ -14,7 +14,7 @@ use Rattle.kdg_prog.specs.declared.status.Status.{Status}
 use Rattle.kdg_prog.specs.declared.status.Status.TheVariants as status
 use Rattle.kdg_prog.specs.declared.words.Options.{Options}
 use Rattle.kdg_prog.specs.Problem.{Problem}
-use Rattle.kdg_prog.specs.Refusals.{AnswersBegin, IsRunRefusal}
+use Rattle.kdg_prog.specs.Refusals.{AnswersBegin, IsAtStart, IsRunRefusal}
 use Rattle.kdg_prog.proofs.Refusing.{refusal_when_over}
 
 length-put_all : PutsAddOne → (new tasks : List Task) → length (put_all new tasks) ≡ length new + length tasks
@@ -28,13 +28,18 @@ length-first_from : (number : ℕ) (starts : List Start) → length (first_from 
 length-first_from number [] = refl
 length-first_from number (start ∷ starts) = ap suc (length-first_from (suc number) starts)
 
-after_none : {V : Type 0} (act : Operator V) (e : Execution V) → after_steps act 0 e ≡ e
+pub after_none : {V : Type 0} (act : Operator V) (e : Execution V) → after_steps act 0 e ≡ e
 unfolding after_steps
 after_none act e = refl
 
+-- where the first tasks are counted, Budget comes before any has acted
+pub counted_at_start : {V : Type 0} (options : Options) (problem : Problem V) (tasks : List Start) → tasks ≡ problem.tasks → (fault : BeginFault) (answer : Status) → IsBeginFault tasks options.budget fault → AnswersBegin fault answer → IsAtStart options problem answer
+counted_at_start options problem tasks is-tasks (fault.Budget asked limit) answer over told = λ created most answered. omega (arith, over.0, over.2, ap length is-tasks)
+counted_at_start options problem tasks is-tasks fault.NoRoom answer over told = λ created most answered. absurd (let never : status.NoMemory ≡ status.Budget created most = sym told ∙ answered in cc)
+
 module _ {V : Type 0} (adds_one : PutsAddOne) where
   -- before a task has acted, the first ones are created
-  created_at_start : (act : Operator V) (cells : List V) (first : List Start) → created_after act 0 (start_of cells first) ≡ length first
+  pub created_at_start : (act : Operator V) (cells : List V) (first : List Start) → created_after act 0 (start_of cells first) ≡ length first
   created_at_start act cells first =
       let pending = length-put_all adds_one (first_from 0 first) [] in
       let numbered = length-first_from 0 first in

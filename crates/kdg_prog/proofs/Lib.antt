@@ -1,6 +1,7 @@
 pub mod Allowed
 pub mod AtEnd
 pub mod ByCommand
+pub mod Childless
 pub mod Digits
 pub mod FirstBad
 pub mod FirstTasks
@@ -12,3 +13,5 @@ pub mod Reading
 pub mod Refusing
 pub mod RoundCounting
 pub mod Searched
+pub mod Serving
+pub mod Streaming

@@ -20,12 +20,13 @@ use Rattle.spring_mesh.specs.Pairs as pairs
 use Rattle.app_laws.specs.Execution.{Execution}
 use Rattle.kdg_prog.specs.declared.words.Command.{Command}
 use Rattle.kdg_prog.specs.declared.words.Command.TheVariants.{Sim, Rank, Mesh, Levels}
-use Rattle.kdg_prog.specs.Answer.{input_fault, whole_print, answer_for, answer_of, deck_problem, graph_problem, pattern_problem, mesh_problem, FirstPassesBudget}
+use Rattle.kdg_prog.specs.Answer.{input_fault, whole_print, answer_for, answer_of, deck_problem, graph_problem, log_of, pattern_problem, mesh_problem, FirstPassesBudget, KeepsOf}
 use Rattle.kdg_prog.specs.Inputs.{Offers, TakesAll, TakesInput}
 use Rattle.kdg_prog.specs.Problem.{Problem, answer_by, answer_by_end, answer_read, end_of, rounds_told}
 use Rattle.kdg_prog.specs.Bounds.{input_bound}
-use Rattle.kdg_prog.specs.Headline.{IsAnswered, IsWritten, Completes, Promises, TellsOfReading}
+use Rattle.kdg_prog.specs.Headline.{IsAnswered, Completes, Promises, TellsOfReading}
 use Rattle.kdg_prog.specs.Refusals.{IsRefusal, AnswersRead}
+use Rattle.kdg_prog.specs.Serving.{IsServed, LeavesLog, WritesNothing}
 use Rattle.kdg_prog.specs.Status.{status_of_fault}
 
 -- the bytes of a source that tells them are the text that was read of it
@@ -49,7 +50,7 @@ completes options source sink text answer taken answered no_fault room input tol
       (λ small. subst (λ t. IsAnswered options sink (answer_of options t) answer) same answered),
     )
 
-fault_kinds : (fault : Fault) → (status_of_fault fault ≡ status.BadInput fault.line fault.kind) ⊎ (status_of_fault fault ≡ status.TooLarge fault.line fault.bound)
+pub fault_kinds : (fault : Fault) → (status_of_fault fault ≡ status.BadInput fault.line fault.kind) ⊎ (status_of_fault fault ≡ status.TooLarge fault.line fault.bound)
 fault_kinds fault = elim (cases_Bool (nat_eq fault.bound 0)) as (λ _. (status_of_fault fault ≡ status.BadInput fault.line fault.kind) ⊎ (status_of_fault fault ≡ status.TooLarge fault.line fault.bound)) [
   | inl none ↦ inl (cond-true _ _ _ none)
   | inr some ↦ inr (cond-false _ _ _ some)
@@ -117,9 +118,10 @@ module _ (options : Options) (source sink : Transfer) (text : List ℕ) (takes :
       write_fault = λ e. absurd cc;
       made = λ some tells. tells;
       reads_told = λ e. read;
-      writes_told = λ e. same_sink;
+      writes_told = λ e never. same_sink;
     };
     written = λ e. absurd cc;
+    memory = λ e. absurd cc;
     complete = completes options source sink text status.Ok taken (subst (λ a. IsAnswered options sink a status.Ok) (sym is) (inl refl));
   }
 
@@ -136,15 +138,16 @@ module _ (options : Options) (source sink : Transfer) (text : List ℕ) (takes :
       write_fault = λ e. failed;
       made = λ some tells. tells;
       reads_told = λ e. read;
-      writes_told = λ e. absurd (e refl);
+      writes_told = λ e never. absurd (e refl);
     };
     written = λ e. (bytes, (text, taken, is), front);
+    memory = λ e. absurd cc;
     complete = completes options source sink text status.WriteFault taken (subst (λ a. IsAnswered options sink a status.WriteFault) (sym is) (inr (refl, failed)));
   }
 
   -- no print for the input
-  when_refused : (answer : Status) → IsRefusal options text answer → sink.faults_after ≡ sink.faults_before → Promises options source sink answer
-  when_refused answer (inl (fault, is, told)) same_sink = elim (fault_kinds fault) as (λ _. Promises options source sink answer) [
+  when_refused : (answer : Status) → IsRefusal options text answer → LeavesLog (log_of options text) (KeepsOf options text) options sink answer → Promises options source sink answer
+  when_refused answer (inl (fault, is, told)) left = elim (fault_kinds fault) as (λ _. Promises options source sink answer) [
     | inl kind ↦
         let bad : answer ≡ status.BadInput fault.line fault.kind = told ∙ kind in record {
           print = λ e. absurd cc;
@@ -157,9 +160,10 @@ module _ (options : Options) (source sink : Transfer) (text : List ℕ) (takes :
             write_fault = λ e. absurd cc;
             made = λ some tells. no_input_fault options text fault some is;
             reads_told = λ e. read;
-            writes_told = λ e. same_sink;
+            writes_told = λ e never. left.told never;
           };
           written = λ e. absurd cc;
+          memory = λ e. inr (text, taken, left.front);
           complete = completes options source sink text answer taken (subst (λ a. IsAnswered options sink a answer) (sym is) told);
         }
     | inr kind ↦
@@ -174,13 +178,14 @@ module _ (options : Options) (source sink : Transfer) (text : List ℕ) (takes :
             write_fault = λ e. absurd cc;
             made = λ some tells. no_input_fault options text fault some is;
             reads_told = λ e. read;
-            writes_told = λ e. same_sink;
+            writes_told = λ e never. left.told never;
           };
           written = λ e. absurd cc;
+          memory = λ e. inr (text, taken, left.front);
           complete = completes options source sink text answer taken (subst (λ a. IsAnswered options sink a answer) (sym is) told);
         }
   ]
-  when_refused answer (inr (inl exceeded)) same_sink =
+  when_refused answer (inr (inl exceeded)) left =
       let told = exceeded.told in record {
         print = λ e. absurd cc;
         budget = λ created limit e.
@@ -193,6 +198,8 @@ module _ (options : Options) (source sink : Transfer) (text : List ℕ) (takes :
               read = taken;
               over = exceeded.over;
               first = λ serial. subst (λ n. FirstPassesBudget options text n) number (exceeded.first serial);
+              front = left.front;
+              kept = λ streams fine. left.kept created limit e streams fine;
             };
         causes = record {
           good_words = λ word e. cc;
@@ -202,12 +209,13 @@ module _ (options : Options) (source sink : Transfer) (text : List ℕ) (takes :
           write_fault = λ e. absurd cc;
           made = λ some tells. tells_else answer (status.Budget exceeded.created options.budget) told (λ t. t) tells;
           reads_told = λ e. read;
-          writes_told = λ e. same_sink;
+          writes_told = λ e never. left.told never;
         };
         written = λ e. absurd cc;
+        memory = λ e. inr (text, taken, left.front);
         complete = completes options source sink text answer taken (subst (λ a. IsAnswered options sink a answer) (sym exceeded.over) (exceeded.created, told));
       }
-  when_refused answer (inr (inr told)) same_sink = record {
+  when_refused answer (inr (inr told)) left = record {
     print = λ e. absurd cc;
     budget = λ created limit e. absurd cc;
     causes = record {
@@ -218,18 +226,18 @@ module _ (options : Options) (source sink : Transfer) (text : List ℕ) (takes :
       write_fault = λ e. absurd cc;
       made = λ some tells. tells_else answer status.NoMemory told (λ t. t) tells;
       reads_told = λ e. read;
-      writes_told = λ e. same_sink;
+      writes_told = λ e never. left.told never;
     };
     written = λ e. absurd cc;
+    memory = λ e. inr (text, taken, left.front);
     complete = λ no_fault room. absurd (room told);
   }
 
-  -- the print, or why there is none, was told
-  pub when_written : (print : Result (List ℕ) Status) (answer : Status) → IfOk print (λ bytes. answer_of options text ≡ whole_print bytes) → IfErr print (IsRefusal options text) → IsWritten print sink answer
-      → Promises options source sink answer
-  when_written (Ok bytes) answer is refusal (inl (told, appends, same_sink)) = subst (Promises options source sink) (sym told) (when_printed bytes is appends same_sink)
-  when_written (Ok bytes) answer is refusal (inr (told, front, failed)) = subst (Promises options source sink) (sym told) (when_cut bytes is front failed)
-  when_written (Err refusal) answer none is (told, same_sink) = subst (Promises options source sink) (sym told) (when_refused refusal is same_sink)
+  -- a run came to its end, or there was none
+  pub when_served : {T : Type 0} (end : Result T Status) (answer : Status) → IfOk end (λ _. answer ≡ status.Ok) → IfErr end (λ refusal. answer ≡ refusal) → IsServed options text sink end → Promises options source sink answer
+  when_served (Ok done) answer ok refused served = subst (Promises options source sink) (sym ok) (when_printed served.0 served.1 served.2 served.3)
+  when_served (Err refusal) answer ok refused (inl cut) = subst (Promises options source sink) (sym (refused ∙ cut.1)) (when_cut cut.0.0 cut.0.1 cut.0.2 cut.0.3)
+  when_served (Err refusal) answer ok refused (inr left) = subst (Promises options source sink) (sym refused) (when_refused refusal left.0 left.1)
 
 -- bytes that came are among those that a source had
 came_within : (before after : Option (List ℕ)) (came input : List ℕ) → before ≡ Some input → Consumes before after came → length came ≤ length input
@@ -241,9 +249,9 @@ came_within before after came input told consumed =
     by_after after (subst (λ b. Consumes b after came) told consumed)
 
 -- the reads that end a run without a text
-when_not_read : (options : Options) (source sink : Transfer) (fault : ReadAllFault) (answer : Status) → options.big ≡ 0 → ReadsAll input_bound source (Err fault) → AnswersRead fault answer → sink.faults_after ≡ sink.faults_before
+when_not_read : (options : Options) (source sink : Transfer) (fault : ReadAllFault) (answer : Status) → options.big ≡ 0 → ReadsAll input_bound source (Err fault) → AnswersRead fault answer → WritesNothing sink → sink.faults_after ≡ sink.faults_before
     → Promises options source sink answer
-when_not_read options source sink faults.ReadFault answer reading reads told same_sink = record {
+when_not_read options source sink faults.ReadFault answer reading reads told nothing same_sink = record {
   print = λ e. absurd cc;
   budget = λ created limit e. absurd cc;
   causes = record {
@@ -254,12 +262,13 @@ when_not_read options source sink faults.ReadFault answer reading reads told sam
     write_fault = λ e. absurd cc;
     made = λ some tells. absurd (omega (arith, some, reading));
     reads_told = λ e. absurd (e told);
-    writes_told = λ e. same_sink;
+    writes_told = λ e never. same_sink;
   };
   written = λ e. absurd cc;
+  memory = λ e. inl nothing;
   complete = λ no_fault room. absurd (no_fault (reads.read_fault refl));
 }
-when_not_read options source sink faults.TooLarge answer reading reads told same_sink =
+when_not_read options source sink faults.TooLarge answer reading reads told nothing same_sink =
     let read : source.faults_after ≡ source.faults_before = elim reads.no_fault [
       | inl e ↦ absurd cc
       | inr same ↦ same
@@ -274,16 +283,17 @@ when_not_read options source sink faults.TooLarge answer reading reads told same
         write_fault = λ e. absurd cc;
         made = λ some tells. absurd (omega (arith, some, reading));
         reads_told = λ e. read;
-        writes_told = λ e. same_sink;
+        writes_told = λ e never. same_sink;
       };
       written = λ e. absurd cc;
+      memory = λ e. inl nothing;
       complete = λ no_fault room input known.
           let more = reads.too_large refl in (
             (λ large. told),
             (λ small. absurd (omega (arith, small, more.1, came_within source.before source.after more.0 input (subst (λ big. Offers big source input) reading known) more.2))),
           );
     }
-when_not_read options source sink faults.NoRoom answer reading reads told same_sink =
+when_not_read options source sink faults.NoRoom answer reading reads told nothing same_sink =
     let read : source.faults_after ≡ source.faults_before = elim reads.no_fault [
       | inl e ↦ absurd cc
       | inr same ↦ same
@@ -298,14 +308,15 @@ when_not_read options source sink faults.NoRoom answer reading reads told same_s
         write_fault = λ e. absurd cc;
         made = λ some tells. absurd (omega (arith, some, reading));
         reads_told = λ e. read;
-        writes_told = λ e. same_sink;
+        writes_told = λ e never. same_sink;
       };
       written = λ e. absurd cc;
+      memory = λ e. inl nothing;
       complete = λ no_fault room. absurd (room told);
     }
 
-pub when_unread : (options : Options) (source sink : Transfer) (fault : ReadAllFault) (answer : Status) → TakesAll options.big source (Err fault) → AnswersRead fault answer → sink.faults_after ≡ sink.faults_before
+pub when_unread : (options : Options) (source sink : Transfer) (fault : ReadAllFault) (answer : Status) → TakesAll options.big source (Err fault) → AnswersRead fault answer → WritesNothing sink → sink.faults_after ≡ sink.faults_before
     → Promises options source sink answer
-when_unread options source sink fault answer takes told same_sink =
+when_unread options source sink fault answer takes told nothing same_sink =
     let reads = read_from_all options.big source fault takes in
-    when_not_read options source sink fault answer reads.1 reads.0 told same_sink
+    when_not_read options source sink fault answer reads.1 reads.0 told nothing same_sink

@@ -14,13 +14,15 @@ use Rattle.outer_edge.specs.declared.whole_input.ReadAllFault.TheVariants as fau
 use Rattle.kdg_prog.specs.declared.status.Status.{Status}
 use Rattle.kdg_prog.specs.declared.status.Status.TheVariants as status
 use Rattle.kdg_prog.specs.declared.words.Options.{Options}
-use Rattle.kdg_prog.specs.Answer.{graph_problem, search_problem}
+use Rattle.kdg_prog.specs.declared.words.Command.{Command}
+use Rattle.kdg_prog.specs.declared.words.Command.TheVariants.{Levels}
+use Rattle.kdg_prog.specs.Answer.{answer_for, graph_problem}
 use Rattle.outer_edge.specs.Transfers.{Transfer}
-use Rattle.kdg_prog.specs.Headline.{IsWritten}
 use Rattle.kdg_prog.specs.Inputs.{TakesAll, pattern_for}
-use Rattle.kdg_prog.specs.Problem.{answer_by, answer_by_end, end_of, print_of, rounds_text, rounds_told, whole_print}
+use Rattle.kdg_prog.specs.Problem.{answer_by_end, answer_read, end_of, print_of, rounds_text, rounds_told, whole_print}
 use Rattle.kdg_prog.specs.Refusals.{AnswersRead, IsRefusal}
-use Rattle.kdg_prog.specs.Searches.{PrintsLevels, WritesLevels}
+use Rattle.kdg_prog.specs.Searches.{AnswersLevels, PrintsLevels, WritesLevels}
+use Rattle.kdg_prog.specs.Serving.{IsServed, IsWritten}
 use Rattle.kdg_prog.specs.Status.{status_of_fault}
 use Rattle.kdg_prog.proofs.Promising.{taken_from_all}
 
@@ -43,12 +45,11 @@ module _ (options : Options) (input : List ℕ) (pattern : Pattern) (shortest : 
         is = sym same ∙ ap (λ (text : List ℕ). text ++ rounds_text told) whole;
       }
 
-  -- the print of a run of the search
-  pub levels_when_read : (search : Search) → search ≡ record { pattern = pattern; from = options.from } → (result : Result (List ℕ) Status) → IfOk result (λ bytes. answer_by options (search_problem search) ≡ whole_print bytes)
-      → IfOk result (PrintsLevels options input)
-  levels_when_read search is (Ok bytes) print =
-      print_from_end bytes (end_of options (graph_problem options pattern)) refl (subst (λ (s : Search). answer_by options (search_problem s) ≡ whole_print bytes) is print)
-  levels_when_read search is (Err answer) print = tt
+  -- where there is a print, it is that of the search
+  pub answers_levels : AnswersLevels options input
+  answers_levels bytes printed =
+      print_from_end bytes (end_of options (graph_problem options pattern)) refl
+      (subst (λ (found : Result Pattern Fault). answer_read (graph_problem options) options found ≡ whole_print bytes) spelled printed)
 
 -- ---- what is refused isn't Ok
 
@@ -59,7 +60,7 @@ fault_status fault = by_test (fault.bound == 0)
     by_test true is = cc
     by_test false is = cc
 
-pub refused_not_ok : (options : Options) (input : List ℕ) (answer : Status) → IsRefusal options input answer → answer ≡ status.Ok → ⊥
+refused_not_ok : (options : Options) (input : List ℕ) (answer : Status) → IsRefusal options input answer → answer ≡ status.Ok → ⊥
 refused_not_ok options input answer (inl (fault, is, told)) ok = fault_status fault (sym told ∙ ok)
 refused_not_ok options input answer (inr (inl over)) ok = let told = over.told in cc
 refused_not_ok options input answer (inr (inr told)) ok = cc
@@ -69,15 +70,26 @@ unread_not_ok faults.ReadFault answer told ok = cc
 unread_not_ok faults.TooLarge answer told ok = cc
 unread_not_ok faults.NoRoom answer told ok = cc
 
+-- what is so is so of an end
+pub ok_of : {T E : Type 0} (P : Type 0) → P → (end : Result T E) → IfOk end (λ _. P)
+ok_of P is (Ok done) = is
+ok_of P is (Err fault) = tt
+
+-- what is so where the print was made is so where it was written
+pub levels_when_made : {T : Type 0} (P : Type 0) (print : Result (List ℕ) Status) (sink : Transfer) (end : Result T Status) → IfOk print (λ _. P) → IsWritten print sink end → IfOk end (λ _. P)
+levels_when_made P (Ok bytes) sink (Ok done) is written = is
+levels_when_made P (Err refusal) sink (Ok done) is written = absurd written
+levels_when_made P print sink (Err answer) is written = tt
+
 -- where a print was written whole, it is that of the search
-pub levels_when_written : (options : Options) (source sink : Transfer) (input : List ℕ) → TakesAll options.big source (Ok input) → (print : Result (List ℕ) Status) (answer : Status) → IfOk print (PrintsLevels options input)
-    → IfErr print (IsRefusal options input) → IsWritten print sink answer → answer ≡ status.Ok → WritesLevels options source sink
-levels_when_written options source sink input takes (Ok bytes) answer prints none (inl whole) ok = record {
+pub levels_when_served : {T : Type 0} (options : Options) (source sink : Transfer) (input : List ℕ) → TakesAll options.big source (Ok input) → (end : Result T Status) (answer : Status) → options.command ≡ Levels
+    → IfOk end (λ _. AnswersLevels options input) → IfErr end (λ refusal. answer ≡ refusal) → IsServed options input sink end → answer ≡ status.Ok → WritesLevels options source sink
+levels_when_served options source sink input takes (Ok done) answer is levels refused served ok = record {
   input = input;
   read = (taken_from_all options.big source input takes).0;
-  bytes = bytes;
-  prints = prints;
-  written = whole.1;
+  bytes = served.0;
+  prints = levels served.0 (subst (λ (command : Command). answer_for command options input ≡ whole_print served.0) is served.1);
+  written = served.2;
 }
-levels_when_written options source sink input takes (Ok bytes) answer prints none (inr cut) ok = absurd (let told = sym cut.0 ∙ ok in cc)
-levels_when_written options source sink input takes (Err refusal) answer none refused told ok = absurd (refused_not_ok options input refusal refused (sym told.0 ∙ ok))
+levels_when_served options source sink input takes (Err refusal) answer is levels told (inl cut) ok = absurd (let wrong : status.Ok ≡ status.WriteFault = sym ok ∙ told ∙ cut.1 in cc)
+levels_when_served options source sink input takes (Err refusal) answer is levels told (inr left) ok = absurd (refused_not_ok options input refusal left.0 (sym told ∙ ok))

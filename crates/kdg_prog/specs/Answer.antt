@@ -19,7 +19,7 @@ use Rattle.kdg_prog.specs.declared.words.Command.{Command}
 use Rattle.kdg_prog.specs.declared.words.Command.TheVariants.{Sim, Rank, Mesh, Levels}
 use Rattle.kdg_prog.specs.declared.words.Options.{Options}
 use Rattle.kdg_prog.specs.Inputs.{deck_for, pattern_for, mesh_for}
-use Rattle.kdg_prog.specs.Problem.{Problem, Setting, answer_read, problem_of, FirstPassesRead}
+use Rattle.kdg_prog.specs.Problem.{Problem, Setting, answer_read, log_read, problem_of, FirstPassesRead, KeepsRead}
 pub use Rattle.kdg_prog.specs.Problem.{Answer, input_fault, over_budget, whole_print}
 
 -- ---- the command sim
@@ -99,6 +99,20 @@ FirstPassesFor Mesh options input = FirstPassesRead mesh_problem options (mesh_f
 FirstPassesFor Levels options input = FirstPassesRead (graph_problem options) options (pattern_for options.big input)
 FirstPassesFor Sim options input = FirstPassesRead (deck_problem options) options (deck_for options.big input)
 
+-- the texts of the first tasks of its sequential execution, as many as the budget; none where it has a fault
+abbrev pub log_for : Command → Options → List ℕ → List ℕ
+log_for Rank options input = log_read pattern_problem options (pattern_for options.big input)
+log_for Mesh options input = log_read mesh_problem options (mesh_for options.big input)
+log_for Levels options input = log_read (graph_problem options) options (pattern_for options.big input)
+log_for Sim options input = log_read (deck_problem options) options (deck_for options.big input)
+
+-- what is kept of them in rounds after the last one within the budget
+abbrev pub KeepsFor : Command → Options → List ℕ → List ℕ → Type 0
+KeepsFor Rank options input = KeepsRead pattern_problem options (pattern_for options.big input)
+KeepsFor Mesh options input = KeepsRead mesh_problem options (mesh_for options.big input)
+KeepsFor Levels options input = KeepsRead (graph_problem options) options (pattern_for options.big input)
+KeepsFor Sim options input = KeepsRead (deck_problem options) options (deck_for options.big input)
+
 -- what an input is answered
 abbrev pub answer_of : Options → List ℕ → Answer
 answer_of options input = answer_for options.command options input
@@ -106,3 +120,11 @@ answer_of options input = answer_for options.command options input
 -- this many tasks have been created when first there are more than the budget
 abbrev pub FirstPassesBudget : Options → List ℕ → ℕ → Type 0
 FirstPassesBudget options input = FirstPassesFor options.command options input
+
+-- the texts of the first tasks, as many as the budget
+abbrev pub log_of : Options → List ℕ → List ℕ
+log_of options input = log_for options.command options input
+
+-- what is kept of them in rounds after the last one within the budget
+abbrev pub KeepsOf : Options → List ℕ → List ℕ → Type 0
+KeepsOf options input = KeepsFor options.command options input

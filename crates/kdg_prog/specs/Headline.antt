@@ -1,5 +1,5 @@
 -- What a run promises of its answer, for the words and the input that it is given.
-use Rattle.std.specs.Prelude.{ℕ, ◌≡◌, ◌≢◌, ◌+◌, ◌<◌, ◌≤◌, ◌⊎◌, ◌↔◌, List, ◌++◌, length, Result, Ok, Err}
+use Rattle.std.specs.Prelude.{ℕ, ◌≡◌, ◌≢◌, ◌+◌, ◌<◌, ◌≤◌, ◌⊎◌, ◌↔◌, List, ◌++◌, length, Result, Err}
 use Rattle.std.specs.Io.KnownBytes.{Appends}
 use Rattle.kdg_text.specs.declared.fault.Fault.{Fault}
 use Rattle.outer_edge.specs.Transfers.{Transfer, HasFailed, BringsMore, BringsAtMost}
@@ -9,9 +9,11 @@ use Rattle.kdg_prog.specs.declared.status.Status.{Status}
 use Rattle.kdg_prog.specs.declared.status.Status.TheVariants as status
 use Rattle.kdg_prog.specs.declared.words.Mode.TheVariants.{Serial}
 use Rattle.kdg_prog.specs.declared.words.Options.{Options}
-use Rattle.kdg_prog.specs.Answer.{Answer, input_fault, over_budget, whole_print, answer_of, FirstPassesBudget}
+use Rattle.kdg_prog.specs.Answer.{Answer, input_fault, over_budget, whole_print, answer_of, log_of, FirstPassesBudget, KeepsOf}
 use Rattle.kdg_prog.specs.Bounds.{input_bound}
 use Rattle.kdg_prog.specs.Inputs.{Offers, TakesInput}
+use Rattle.kdg_prog.specs.Problem.{MayStream}
+use Rattle.kdg_prog.specs.Serving.{MayLeaveLog, WritesNothing}
 use Rattle.kdg_prog.specs.Status.{status_of_fault}
 
 -- the answer where the words are bad
@@ -38,8 +40,12 @@ WritesPrint options source sink = (bytes : List ℕ) × ReadsInput options sourc
 abbrev pub WritesFront : Options → Transfer → Transfer → Type 0
 WritesFront options source sink = (bytes : List ℕ) × ReadsInput options source (whole_print bytes) × AppendsFront sink.before sink.after bytes
 
+-- NoMemory: nothing was written, or a whole input was read, and a front of its log was written
+abbrev pub WritesFrontOfLog : Options → Transfer → Transfer → Type 0
+WritesFrontOfLog options source sink = WritesNothing sink ⊎ ((input : List ℕ) × TakesInput options.big source input × AppendsFront sink.before sink.after (log_of options input))
+
 -- Budget: the execution of a whole input creates more tasks than the limit
-pub record ExceedsBudget (options : Options) (source : Transfer) (created limit : ℕ) : Type 0 where
+pub record ExceedsBudget (options : Options) (source sink : Transfer) (created limit : ℕ) : Type 0 where
   pub limit_is : limit ≡ options.budget
   pub above : limit < created
   pub input : List ℕ
@@ -47,6 +53,10 @@ pub record ExceedsBudget (options : Options) (source : Transfer) (created limit 
   pub over : answer_of options input ≡ over_budget
   -- in mode serial the number is that of the moment when first there are more
   pub first : options.mode ≡ Serial → FirstPassesBudget options input created
+  -- no more than a front of the log was written
+  pub front : AppendsFront sink.before sink.after (log_of options input)
+  -- in mode rounds, unless a write failed or the input is made from a number, it is just what is kept after the last round within the limit
+  pub kept : MayStream options → ¬ HasFailed sink → (text : List ℕ) × KeepsOf options input text × Appends sink.before sink.after text
 
 -- what an answer tells is of an input that is read
 abbrev pub TellsOfReading : Status → Type 0
@@ -65,9 +75,9 @@ pub record HasCause (options : Options) (source sink : Transfer) (answer : Statu
   pub write_fault : answer ≡ status.WriteFault → HasFailed sink
   -- an input that is made from a number has no fault
   pub made : 0 < options.big → ¬ TellsOfReading answer
-  -- no failed read or write goes untold
+  -- no failed read goes untold, nor a failed write, but before one of the answers to which a run whose log goes out may go on
   pub reads_told : answer ≢ status.ReadFault → source.faults_after ≡ source.faults_before
-  pub writes_told : answer ≢ status.WriteFault → sink.faults_after ≡ sink.faults_before
+  pub writes_told : answer ≢ status.WriteFault → ¬ MayLeaveLog options answer → sink.faults_after ≡ sink.faults_before
 
 -- an input's answer is the run's, but for a failed write of a print
 abbrev pub IsAnswered : Options → Transfer → Answer → Status → Type 0
@@ -85,17 +95,11 @@ Completes options source sink answer = ¬ HasFailed source → answer ≢ status
 -- what a run with these options promises of its answer, by what it made of the source and of the sink
 pub record Promises (options : Options) (source sink : Transfer) (answer : Status) : Type 0 where
   pub print : answer ≡ status.Ok → WritesPrint options source sink
-  pub budget : (created limit : ℕ) → answer ≡ status.Budget created limit → ExceedsBudget options source created limit
+  pub budget : (created limit : ℕ) → answer ≡ status.Budget created limit → ExceedsBudget options source sink created limit
   pub causes : HasCause options source sink answer
   pub written : answer ≡ status.WriteFault → WritesFront options source sink
+  pub memory : answer ≡ status.NoMemory → WritesFrontOfLog options source sink
   pub complete : Completes options source sink answer
-
--- what is written of a print, and how it is answered: the whole, or a front of it where a write fails; nothing where there is none
-abbrev pub IsWritten : Result (List ℕ) Status → Transfer → Status → Type 0
-IsWritten (Ok bytes) sink answer =
-    ((answer ≡ status.Ok) × Appends sink.before sink.after bytes × (sink.faults_after ≡ sink.faults_before))
-    ⊎ ((answer ≡ status.WriteFault) × AppendsFront sink.before sink.after bytes × HasFailed sink)
-IsWritten (Err refusal) sink answer = (answer ≡ refusal) × (sink.faults_after ≡ sink.faults_before)
 
 -- over devices in memory that never fail: a print is written whole where there is room for more than it
 abbrev pub IsAnsweredInMemory : Options → CleanWriter → CleanWriter → Answer → Status → Type 0

@@ -7,6 +7,7 @@ pub mod Problem
 pub mod Refusals
 pub mod RoundCount
 pub mod Searches
+pub mod Serving
 pub mod Starts
 pub mod Status
 pub mod Telling

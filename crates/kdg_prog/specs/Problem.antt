@@ -1,5 +1,5 @@
 -- What a run of any application needs, and what it is answered.
-use Rattle.std.specs.Prelude.{ℕ, List, [], ◌++◌, ◌&&◌, ◌==◌, Bool, true, false, if◌then◌else◌, length, count_by, codes, Option, Some, None, Result, Ok, Err, IfOk}
+use Rattle.std.specs.Prelude.{◌≡◌, ◌<◌, ◌⊎◌, ℕ, List, [], ◌++◌, ◌&&◌, ◌==◌, Bool, true, false, if◌then◌else◌, length, count_by, codes, Option, Some, None, Result, Ok, Err, IfOk}
 use Rattle.std.specs.Fmt.{decimal}
 use Rattle.kdg_text.specs.declared.fault.Fault.{Fault}
 use Rattle.cell_store.specs.Values.{values_of}
@@ -8,9 +8,10 @@ use Rattle.task_order.specs.declared.start.Start.{Start}
 use Rattle.task_order.specs.TaskList.{put_all}
 use Rattle.app_laws.specs.declared.serial_run.Finals.{Finals}
 use Rattle.app_laws.specs.Applications.{Application}
-use Rattle.app_laws.specs.Execution.{Execution, first_from, run_to_end, start_of}
+use Rattle.app_laws.specs.Execution.{Execution, after_steps, first_from, run_to_end, start_of}
 use Rattle.app_laws.specs.Serial.{FirstPasses}
 use Rattle.commuting.specs.States.{State, state_of}
+use Rattle.source_pool.specs.Kept.{IsKeptAfter, IsLastRound}
 use Rattle.kdg_prog.specs.declared.words.Mode.{Mode}
 use Rattle.kdg_prog.specs.declared.words.Mode.TheVariants.{Rounds, Marks}
 use Rattle.kdg_prog.specs.declared.words.Options.{Options}
@@ -83,6 +84,10 @@ is_in_rounds Rounds = true
 is_in_rounds Marks = true
 is_in_rounds mode = false
 
+-- the log may go out while the run goes on; else all is written at the end
+abbrev pub MayStream : Options → Type 0
+MayStream options = (options.mode ≡ Rounds) × (options.big ≡ 0)
+
 module _ {V : Type 0} (problem : Problem V) where
   -- the execution before anything has acted
   abbrev pub start_for : Execution V
@@ -126,6 +131,21 @@ module _ {V : Type 0} (options : Options) (problem : Problem V) where
   abbrev pub FirstPassesIn : ℕ → Type 0
   FirstPassesIn created = FirstPasses problem.app.act options.budget (start_for problem) created
 
+  -- the texts of the first tasks of the sequential execution, as many as the budget, or of all where there are fewer
+  abbrev pub log_within : List ℕ
+  log_within = joined_texts (after_steps problem.app.act options.budget (start_for problem)).log
+
+  -- what is kept after the last round within the budget: the texts of the tasks that have acted and are earlier than each pending one
+  pub record IsLastKept (text : List ℕ) : Type 0 where
+    pub rounds : ℕ
+    pub state : State V
+    pub keeps : IsKeptAfter problem.app options.budget [] (first_state problem) rounds state text
+    pub last : IsLastRound problem.app options.budget (first_state problem) rounds state
+
+  -- the same, or nothing where the first tasks alone are more than the budget
+  abbrev pub KeepsText : List ℕ → Type 0
+  KeepsText text = ((options.budget < length problem.tasks) × (text ≡ [])) ⊎ IsLastKept text
+
 -- the same for what an input describes, where it has no fault
 module _ {D V : Type 0} (problem : D → Problem V) (options : Options) where
   abbrev pub answer_read : Result D Fault → Answer
@@ -134,3 +154,11 @@ module _ {D V : Type 0} (problem : D → Problem V) (options : Options) where
 
   abbrev pub FirstPassesRead : Result D Fault → ℕ → Type 0
   FirstPassesRead found created = IfOk found (λ described. FirstPassesIn options (problem described) created)
+
+  abbrev pub log_read : Result D Fault → List ℕ
+  log_read (Err fault) = []
+  log_read (Ok described) = log_within options (problem described)
+
+  abbrev pub KeepsRead : Result D Fault → List ℕ → Type 0
+  KeepsRead (Err fault) text = text ≡ []
+  KeepsRead (Ok described) text = KeepsText options (problem described) text

@@ -1,5 +1,5 @@
 -- What the refusals of a run's parts become.
-use Rattle.std.specs.Prelude.{◌≡◌, ◌<◌, ◌⊎◌, ℕ, List}
+use Rattle.std.specs.Prelude.{◌≡◌, ◌≢◌, ◌<◌, ◌⊎◌, ℕ, List, length}
 use Rattle.app_laws.specs.declared.serial_run.SerialFault.{SerialFault}
 use Rattle.app_laws.specs.declared.serial_run.SerialFault.TheVariants as serial
 use Rattle.kdg_text.specs.declared.fault.Fault.{Fault}
@@ -69,3 +69,11 @@ IsRefusalFor command options input = IsRefusalBy (answer_for command options inp
 -- why there is no print for an input
 abbrev pub IsRefusal : Options → List ℕ → Status → Type 0
 IsRefusal options input = IsRefusalFor options.command options input
+
+-- Budget comes before anything has acted
+abbrev pub IsAtStart : {V : Type 0} → Options → Problem V → Status → Type 0
+IsAtStart options problem answer = (created limit : ℕ) → answer ≡ status.Budget created limit → options.budget < length problem.tasks
+
+-- no task was ever counted
+abbrev pub IsBeforeStart : Status → Type 0
+IsBeforeStart answer = (created limit : ℕ) → answer ≢ status.Budget created limit

@@ -14,6 +14,7 @@ use Rattle.kdg_prog.specs.declared.status.Status.{Status}
 use Rattle.kdg_prog.specs.declared.status.Status.TheVariants as status
 use Rattle.kdg_prog.specs.declared.words.Command.TheVariants.{Levels}
 use Rattle.kdg_prog.specs.declared.words.Options.{Options}
+use Rattle.kdg_prog.specs.Answer.{answer_for, whole_print}
 use Rattle.kdg_prog.specs.Inputs.{TakesInput}
 use Rattle.kdg_prog.specs.Problem.{rounds_text, whole_text}
 
@@ -28,6 +29,10 @@ pub record PrintsLevels (options : Options) (input bytes : List ℕ) : Type 0 wh
   pub visits : AllByRecursion (λ entry. IsVisitText entry.1) log
   pub told : Option ℕ
   pub is : bytes ≡ whole_text (joined_texts log) (level_texts 1 levels) (length log) ++ rounds_text told
+
+-- where an input is answered a print, it is such a one
+abbrev pub AnswersLevels : Options → List ℕ → Type 0
+AnswersLevels options input = (bytes : List ℕ) → answer_for Levels options input ≡ whole_print bytes → PrintsLevels options input bytes
 
 -- such a print was written, of an input that was read
 pub record WritesLevels (options : Options) (source sink : Transfer) : Type 0 where

@@ -2,7 +2,7 @@ ghost use Rattle.std.specs.Prelude.{◌≡◌, Ok, IfOk, IfErr};
 ghost use Rattle.mtx_reader.specs.Patterns.{IsPattern};
 ghost use Rattle.kdg_prog.specs.Answer.{simulation_of};
 ghost use Rattle.kdg_prog.specs.Inputs.{deck_for, mesh_for, pattern_for};
-ghost use Rattle.kdg_prog.specs.Refusals.{IsRefusalFor};
+ghost use Rattle.kdg_prog.specs.Refusals.{IsBeforeStart, IsRefusalFor};
 ghost use Rattle.kdg_prog.specs.Words.{IsAllowed};
 ghost use Rattle.kdg_prog.specs.declared.words.Command.TheVariants as command;
 
@@ -22,6 +22,7 @@ pub(crate) fn circuit_for(alloc: Global, options: &Options, input: Text) -> Resu
     ensures deck { IfOk result (λ circuit. deck_for options.now.big input ≡ Ok circuit.deck) }
     ensures circuit { IfOk result (λ circuit. circuit ≡ simulation_of options.now circuit.deck) }
     ensures refusal { IfErr result (IsRefusalFor command.Sim options.now input) }
+    ensures before_start { IfErr result IsBeforeStart }
 {
     let deck = deck_for(alloc, options.big, input.bytes())?;
     drop(input);
@@ -34,6 +35,7 @@ pub(crate) fn matrix_for(alloc: Global, options: &Options, input: Text) -> Resul
     requires command { options.now.command ≡ command.Rank }
     ensures matrix { IfOk result (λ matrix. pattern_for options.now.big input ≡ Ok matrix) }
     ensures refusal { IfErr result (IsRefusalFor command.Rank options.now input) }
+    ensures before_start { IfErr result IsBeforeStart }
 {
     let pattern = pattern_for(alloc, options.big, input.bytes())?;
     drop(input);
@@ -46,6 +48,7 @@ pub(crate) fn mesh_for(alloc: Global, options: &Options, input: Text) -> Result<
     requires command { options.now.command ≡ command.Mesh }
     ensures mesh { IfOk result (λ mesh. mesh_for options.now.big input ≡ Ok mesh) }
     ensures refusal { IfErr result (IsRefusalFor command.Mesh options.now input) }
+    ensures before_start { IfErr result IsBeforeStart }
 {
     let file = inputs::mesh_for(alloc, options.big, input.bytes())?;
     drop(input);
@@ -61,6 +64,7 @@ pub(crate) fn walk_for(alloc: Global, options: &Options, input: Text) -> Result<
     ensures sound { IfOk result (λ walk. IsPattern walk.pattern) }
     ensures walk { IfOk result (λ walk. walk ≡ record { pattern = walk.pattern; from = options.now.from }) }
     ensures refusal { IfErr result (IsRefusalFor command.Levels options.now input) }
+    ensures before_start { IfErr result IsBeforeStart }
 {
     let pattern = pattern_for(alloc, options.big, input.bytes())?;
     drop(input);

@@ -1,10 +1,12 @@
-ghost use Rattle.std.specs.Prelude.{◌≡◌, ◌≢◌, ◌++◌, IfOk, IfErr, OnOk, true};
+ghost use Rattle.std.specs.Prelude.{◌≡◌, ◌≢◌, ◌++◌, IfOk, IfErr, OnOk, true, false};
+ghost use Rattle.outer_edge.specs.Transfers.{transfer_of};
 ghost use Rattle.cell_store.specs.Values.{AreAllHome, values_of};
 ghost use Rattle.app_laws.specs.Applications.{AreFitStarts};
 ghost use Rattle.list_rounds.specs.Rounds.{start_state};
 ghost use Rattle.list_rounds.specs.Runs.{IsRoundsEnd};
-ghost use Rattle.kdg_prog.specs.Problem.{answer_by, figure_line, is_in_rounds, line_count, made_from, print_of_finals, problem_of, rounds_text, text_shown, whole_print};
-ghost use Rattle.kdg_prog.specs.Refusals.{IsRunRefusal};
+ghost use Rattle.kdg_prog.specs.Problem.{MayStream, answer_by, figure_line, is_in_rounds, line_count, made_from, print_of_finals, problem_of, rounds_text, text_shown, whole_print};
+ghost use Rattle.kdg_prog.specs.Refusals.{IsAtStart, IsRunRefusal};
+ghost use Rattle.kdg_prog.specs.Serving.{IsRunServed, IsWritten, MayLeaveLog};
 ghost use Rattle.kdg_prog.specs.Starts.{IsStarted};
 ghost use Rattle.kdg_prog.specs.Words.{IsAllowed};
 
@@ -18,18 +20,107 @@ use free_pool::run_free;
 use graph_update::Engine;
 use kdg_text::{NoRoom, Text, push_u64};
 use mark_rounds::run_marks;
-use outer_edge::Gate;
+use outer_edge::{Gate, Sink, write_whole};
 use output_log::join_laws;
 use resting_rounds::run_resting;
-use resting_tasks::Resting;
-use source_pool::run_rounds;
+use resting_tasks::{Resting, rest_laws};
+use source_pool::{Flow, rounds_to, run_rounds};
 use std::alloc::Global;
 use std::sync::Wait;
 use std::thread::Threads;
 use task_order::put_in_laws;
 
+/// Runs an application in mode serial, rounds or marks, and writes the print, or tells why there is none. In
+/// rounds the log goes out while the run goes on, unless only its figures are asked for.
+pub(crate) fn serve_run<R: Threads + Sync, A: Runnable, K: Sink, G: Gate + Sync>(
+    rt: &R,
+    alloc: Global,
+    options: &Options,
+    app: &A,
+    sink: &mut K,
+    gate: &G,
+) -> Result<(), Status>
+    requires allowed { IsAllowed options.now }
+    requires plain { options.now.mode ≢ Mode.Free }
+    ensures served { IsRunServed options.now (problem_of (A.meaning app.now) (A.setting app.now)) (transfer_of K.contents K.faults sink.old sink.new) result }
+    ensures no_write { IfErr result (λ answer. answer ≢ Status.WriteFault → ¬ MayLeaveLog options.now answer → sink.new ≡ sink.old) }
+    ensures same_room { K.room sink.new ≡ K.room sink.old }
+{
+    check_start(options, app)?;
+    if may_stream(options) {
+        return stream_rounds(rt, alloc, options, app, sink, gate);
+    }
+    write_print(sink, print_of_run(rt, alloc, options, app, gate))
+}
+
+/// Whether the log may go out while the run goes on.
+fn may_stream(options: &Options) -> bool
+    ensures yes { result ≡ true → MayStream options.now }
+    ensures no { result ≡ false → ¬ MayStream options.now }
+{
+    match options.mode {
+        Mode::Rounds => options.big == 0,
+        Mode::Serial | Mode::Free | Mode::Marks => false,
+    }
+}
+
+/// Writes a print whole, unless there is none, or a write fails.
+pub(crate) fn write_print<K: Sink>(sink: &mut K, print: Result<Text, Status>) -> Result<(), Status>
+    ensures written { IsWritten print (transfer_of K.contents K.faults sink.old sink.new) result }
+    ensures no_write { IfErr print (λ _. sink.new ≡ sink.old) }
+    ensures same_room { K.room sink.new ≡ K.room sink.old }
+{
+    match print {
+        Ok(print) => match write_whole(sink, print.bytes()) {
+            Ok(()) => Ok(()),
+            Err(_) => Err(Status::WriteFault),
+        },
+        Err(refusal) => Err(refusal),
+    }
+}
+
+/// Runs an application in rounds. The log goes to the sink while the run goes on, and the rest of the print
+/// behind it. After a failed write nothing more is written, and the run goes on: it may be over the budget.
+fn stream_rounds<R: Threads + Sync, A: Runnable, K: Sink, G: Gate + Sync>(
+    rt: &R,
+    alloc: Global,
+    options: &Options,
+    app: &A,
+    sink: &mut K,
+    gate: &G,
+) -> Result<(), Status>
+    requires allowed { IsAllowed options.now }
+    requires streams { MayStream options.now }
+    ensures served { IsRunServed options.now (problem_of (A.meaning app.now) (A.setting app.now)) (transfer_of K.contents K.faults sink.old sink.new) result }
+    ensures no_write { IfErr result (λ answer. answer ≢ Status.WriteFault → ¬ MayLeaveLog options.now answer → sink.new ≡ sink.old) }
+    ensures same_room { K.room sink.new ≡ K.room sink.old }
+{
+    value_laws::<A::Val>();
+    execution_laws::<A::Val>();
+    orderly_laws::<A>();
+    join_laws();
+    round_laws::<A>();
+    standing_laws::<A>();
+    round_count_laws::<A>();
+    let engine = start_run(alloc, options, app)?;
+    match rounds_to(rt, alloc, engine, gate, options.seed, options.workers, sink) {
+        Flow::Ended {
+            finals,
+            rounds,
+            failed: false,
+        } => {
+            let told = options.stats.then_some(rounds);
+            let rest = finals_print(alloc, options, app, finals, told)?;
+            write_print(sink, Ok(rest))
+        }
+        Flow::Ended { failed: true, .. } => Err(Status::WriteFault),
+        Flow::Budget { created, limit, .. } => Err(Status::Budget { created, limit }),
+        Flow::NoRoom => Err(Status::NoMemory),
+    }
+}
+
 /// Runs an application in mode serial, rounds or marks, and gives the print, or why there is none.
-pub(crate) fn print_of_run<R: Threads + Sync, A: Runnable, G: Gate + Sync>(
+fn print_of_run<R: Threads + Sync, A: Runnable, G: Gate + Sync>(
     rt: &R,
     alloc: Global,
     options: &Options,
@@ -41,7 +132,6 @@ pub(crate) fn print_of_run<R: Threads + Sync, A: Runnable, G: Gate + Sync>(
     ensures print { IfOk result (λ bytes. answer_by options.now (problem_of (A.meaning app.now) (A.setting app.now)) ≡ whole_print bytes) }
     ensures refusal { IfErr result (IsRunRefusal options.now (problem_of (A.meaning app.now) (A.setting app.now))) }
 {
-    check_start(options, app)?;
     match options.mode {
         Mode::Serial => serial_print(alloc, options, app),
         Mode::Rounds => rounds_print(rt, alloc, options, app, gate),
@@ -53,6 +143,7 @@ pub(crate) fn print_of_run<R: Threads + Sync, A: Runnable, G: Gate + Sync>(
 /// Refuses a run whose start has more tasks than the budget, where it pays to know that early.
 fn check_start<A: Runnable>(options: &Options, app: &A) -> Result<(), Status>
     ensures refusal { IfErr result (IsRunRefusal options.now (problem_of (A.meaning app.now) (A.setting app.now))) }
+    ensures at_start { IfErr result (IsAtStart options.now (problem_of (A.meaning app.now) (A.setting app.now))) }
 {
     execution_laws::<A::Val>();
     put_in_laws();
@@ -87,6 +178,7 @@ fn start_run<'a, A: Runnable>(
     ensures started { IfOk result (λ engine. IsStarted options.now (A.meaning app.now) (A.setting app.now) engine.progress) }
     ensures app { IfOk result (λ engine. engine.app ≡ app.now) }
     ensures refusal { IfErr result (IsRunRefusal options.now (problem_of (A.meaning app.now) (A.setting app.now))) }
+    ensures at_start { IfErr result (IsAtStart options.now (problem_of (A.meaning app.now) (A.setting app.now))) }
 {
     execution_laws::<A::Val>();
     put_in_laws();
@@ -150,7 +242,12 @@ pub(crate) fn resting_print<A: Runnable + Resting, G: Gate>(
     requires mode { is_in_rounds options.now.mode ≡ true }
     ensures print { IfOk result (λ bytes. answer_by options.now (problem_of (A.meaning app.now) (A.setting app.now)) ≡ whole_print bytes) }
     ensures refusal { IfErr result (IsRunRefusal options.now (problem_of (A.meaning app.now) (A.setting app.now))) }
+    ensures at_start { IfErr result (IsAtStart options.now (problem_of (A.meaning app.now) (A.setting app.now))) }
 {
+    execution_laws::<A::Val>();
+    orderly_laws::<A>();
+    put_in_laws();
+    rest_laws::<A>();
     let cells = app.start_cells()?;
     let tasks = app.start_tasks()?;
     let budget = options.budget;

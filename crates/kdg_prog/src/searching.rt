@@ -1,43 +1,47 @@
 //! The command that tells the levels of a graph.
 
 ghost use Rattle.std.specs.Prelude.{◌≡◌, ◌≢◌, IfOk, IfErr};
+ghost use Rattle.outer_edge.specs.Transfers.{transfer_of};
 ghost use Rattle.hook_app.specs.Kept.{DoesDeeds, IsAnswered, IsAsked};
 ghost use Rattle.level_walk.specs.Levels.{vertex_sets, walking};
 ghost use Rattle.level_walk.specs.Walks.{vertex_count};
 ghost use Rattle.kdg_prog.specs.Answer.{answer_for, search_problem, whole_print};
 ghost use Rattle.kdg_prog.specs.Problem.{answer_by};
 ghost use Rattle.kdg_prog.specs.Refusals.{IsRefusalFor, IsRunRefusal};
-ghost use Rattle.kdg_prog.specs.Searches.{PrintsLevels};
+ghost use Rattle.kdg_prog.specs.Searches.{AnswersLevels};
+ghost use Rattle.kdg_prog.specs.Serving.{IsRunServed, IsServedFor, MayLeaveLog};
 ghost use Rattle.kdg_prog.specs.Words.{IsAllowed};
 
 use crate::described::walk_for;
-use crate::running::{print_of_free_run, print_of_run};
+use crate::running::{print_of_free_run, serve_run};
 use crate::{Command, Mode, Options, Status};
 use app_laws::Effect;
 use cell_store::Bundle;
 use hook_app::{Hook, HookApp};
 use kdg_text::Text;
 use level_walk::{Level, Walk, levels_are_shortest, visit};
-use outer_edge::Gate;
+use outer_edge::{Gate, Sink};
 use std::alloc::Global;
 use std::sync::Wait;
 use std::thread::Threads;
 use task_order::Task;
 
-/// The print for a graph in mode serial, rounds or marks, or why there is none.
-pub(crate) fn levels_print<R: Threads + Sync, G: Gate + Sync>(
+/// Writes the print for a graph in mode serial, rounds or marks, or tells why there is none.
+pub(crate) fn serve_levels<R: Threads + Sync, K: Sink, G: Gate + Sync>(
     rt: &R,
     alloc: Global,
     options: &Options,
     input: Text,
+    sink: &mut K,
     gate: &G,
-) -> Result<Text, Status>
+) -> Result<(), Status>
     requires allowed { IsAllowed options.now }
     requires big { options.now.big ≡ 0 }
     requires plain { options.now.mode ≢ Mode.Free }
-    ensures print { IfOk result (λ bytes. answer_for Command.Levels options.now input ≡ whole_print bytes) }
-    ensures refusal { IfErr result (IsRefusalFor Command.Levels options.now input) }
-    ensures levels { IfOk result (PrintsLevels options.now input) }
+    ensures served { IsServedFor Command.Levels options.now input (transfer_of K.contents K.faults sink.old sink.new) result }
+    ensures levels { IfOk result (λ _. AnswersLevels options.now input) }
+    ensures no_write { IfErr result (λ answer. answer ≢ Status.WriteFault → ¬ MayLeaveLog options.now answer → sink.new ≡ sink.old) }
+    ensures same_room { K.room sink.new ≡ K.room sink.old }
 {
     levels_are_shortest();
     let walk = walk_for(alloc, options, input)?;
@@ -46,26 +50,28 @@ pub(crate) fn levels_print<R: Threads + Sync, G: Gate + Sync>(
         requires { IsAsked (walking graph.now.pattern) (vertex_sets (vertex_count graph.now.pattern)) task.now bundle }
         ensures { IsAnswered (walking graph.entry.now.pattern) (vertex_sets (vertex_count graph.entry.now.pattern)) task.now bundle result }
     { visit(graph, task, bundle) };
-    levels_by(rt, alloc, options, graph, act, gate)
+    serve_levels_by(rt, alloc, options, graph, act, sink, gate)
 }
 
-/// The print in mode serial or rounds, by an operator that does the deed of the search.
-fn levels_by<R: Threads + Sync, H: Hook<Level> + Sync, G: Gate + Sync>(
+/// Writes the print in mode serial, rounds or marks, by an operator that does the deed of the search.
+fn serve_levels_by<R: Threads + Sync, H: Hook<Level> + Sync, K: Sink, G: Gate + Sync>(
     rt: &R,
     alloc: Global,
     options: &Options,
     walk: &Walk,
     hook: H,
+    sink: &mut K,
     gate: &G,
-) -> Result<Text, Status>
+) -> Result<(), Status>
     requires allowed { IsAllowed options.now }
     requires plain { options.now.mode ≢ Mode.Free }
     requires does { DoesDeeds (walking walk.now.pattern) (vertex_sets (vertex_count walk.now.pattern)) (H.may hook) (H.gives hook) }
-    ensures print { IfOk result (λ bytes. answer_by options.now (search_problem walk.now) ≡ whole_print bytes) }
-    ensures refusal { IfErr result (IsRunRefusal options.now (search_problem walk.now)) }
+    ensures served { IsRunServed options.now (search_problem walk.now) (transfer_of K.contents K.faults sink.old sink.new) result }
+    ensures no_write { IfErr result (λ answer. answer ≢ Status.WriteFault → ¬ MayLeaveLog options.now answer → sink.new ≡ sink.old) }
+    ensures same_room { K.room sink.new ≡ K.room sink.old }
 {
     let app = HookApp::new(walk, walk.count(), walk.sets()?, 1, hook);
-    print_of_run(rt, alloc, options, &app, gate)
+    serve_run(rt, alloc, options, &app, sink, gate)
 }
 
 /// The print for a graph in mode free, or why there is none.
@@ -81,7 +87,7 @@ pub(crate) fn free_levels_print<R: Threads + Wait + Sync, G: Gate + Sync>(
     requires mode { options.now.mode ≡ Mode.Free }
     ensures print { IfOk result (λ bytes. answer_for Command.Levels options.now input ≡ whole_print bytes) }
     ensures refusal { IfErr result (IsRefusalFor Command.Levels options.now input) }
-    ensures levels { IfOk result (PrintsLevels options.now input) }
+    ensures levels { IfOk result (λ _. AnswersLevels options.now input) }
 {
     levels_are_shortest();
     let walk = walk_for(alloc, options, input)?;

@@ -4,6 +4,7 @@ ghost use Rattle.std.specs.Prelude.{◌≡◌, ◌≢◌, ◌<◌, map, string_b
 ghost use Rattle.outer_edge.specs.Transfers.{transfer_of};
 ghost use Rattle.kdg_prog.specs.Headline.{Promises, TellsBadWord};
 ghost use Rattle.kdg_prog.specs.Searches.{TellsLevels};
+ghost use Rattle.kdg_prog.specs.Serving.{MayLeaveLog};
 ghost use Rattle.kdg_prog.specs.Telling.{IsTold};
 ghost use Rattle.kdg_prog.specs.Words.{options_of};
 
@@ -32,7 +33,8 @@ pub fn run_and_tell<
         (transfer_of K.contents K.faults sink.old sink.new) result) }
     ensures unread { IfOk (options_of (map string_bytes words.now.items))
         (λ options. 0 < options.big → source.new ≡ source.old) }
-    ensures no_write { result ≢ Status.Ok → result ≢ Status.WriteFault → sink.new ≡ sink.old }
+    ensures no_write { IfOk (options_of (map string_bytes words.now.items))
+        (λ options. result ≢ Status.Ok → result ≢ Status.WriteFault → ¬ MayLeaveLog options result → sink.new ≡ sink.old) }
     ensures same_room { K.room sink.new ≡ K.room sink.old }
 
     // The fault line comes exactly where the status isn't Ok.

@@ -1,21 +1,21 @@
 ghost use Rattle.std.specs.Prelude.{◌≡◌, ◌≢◌, ◌<◌, map, string_bytes, IfOk, IfErr};
 ghost use Rattle.outer_edge.specs.Transfers.{transfer_of};
 ghost use Rattle.kdg_prog.specs.Answer.{answer_of, pattern_problem, whole_print};
-ghost use Rattle.kdg_prog.specs.Headline.{CompletesInMemory, IsWritten, Promises, TellsBadWord};
+ghost use Rattle.kdg_prog.specs.Headline.{CompletesInMemory, Promises, TellsBadWord};
 ghost use Rattle.kdg_prog.specs.Inputs.{read_of};
-ghost use Rattle.kdg_prog.specs.Problem.{answer_by};
-ghost use Rattle.kdg_prog.specs.Refusals.{IsRefusal, IsRunRefusal};
-ghost use Rattle.kdg_prog.specs.Searches.{PrintsLevels, TellsLevels};
+ghost use Rattle.kdg_prog.specs.Refusals.{IsRefusal};
+ghost use Rattle.kdg_prog.specs.Searches.{AnswersLevels, TellsLevels};
+ghost use Rattle.kdg_prog.specs.Serving.{IsRunServed, IsServed, MayLeaveLog};
 ghost use Rattle.kdg_prog.specs.Words.{IsAllowed, options_of};
 
 use crate::described::{circuit_for, matrix_for, mesh_for};
 use crate::inputs::read_input;
-use crate::running::{print_of_free_run, print_of_run, resting_print};
-use crate::searching::{free_levels_print, levels_print};
+use crate::running::{print_of_free_run, resting_print, serve_run, write_print};
+use crate::searching::{free_levels_print, serve_levels};
 use crate::{Command, Mode, Options, Status, read_words};
 use gf2_eliminate::Matrix;
 use kdg_text::Text;
-use outer_edge::{CleanSink, CleanSource, Gate, Sink, Source, write_whole};
+use outer_edge::{CleanSink, CleanSource, Gate, Sink, Source};
 use std::alloc::Global;
 use std::sync::Wait;
 use std::thread::Threads;
@@ -23,7 +23,9 @@ use std::thread::Threads;
 /// Reads the words and then the whole input, runs the circuit, the elimination, the mesh or the search
 /// that it describes, and writes the print: the log, the finals, the number of tasks, and, where figures
 /// are asked for in modes rounds and marks, that of rounds. Where the words say so, the input is made from a
-/// number in place of being read, and the print has but figures of the log and the finals.
+/// number in place of being read, and the print has but figures of the log and the finals. In mode rounds
+/// the log goes out while the run goes on, unless there are but figures, or a matrix is eliminated at an
+/// open gate; what follows it is written at the end, as all is in the other modes.
 ///
 /// In mode serial always the earliest pending task runs. In mode rounds the gate chooses among the
 /// tasks that are clear, and workers perform them. In mode free each worker claims the next one as
@@ -32,7 +34,9 @@ use std::thread::Threads;
 ///
 /// What is wrong is told in this order: the words; a failed read, or more bytes than the bound,
 /// whichever comes first; the input; the budget; a failed write. `NoMemory` may come in place of
-/// any answer but `Usage`.
+/// any answer but `Usage`. After a failed write nothing more is written, and a run whose log goes out goes
+/// on, since it may be over the budget. Such a run may have written log lines before `Budget` or
+/// `NoMemory`; else these come before anything is written.
 pub fn run<R: Threads + Wait + Sync, S: Source, K: Sink, G: Gate + Sync>(
     rt: &R,
     alloc: Global,
@@ -59,8 +63,9 @@ pub fn run<R: Threads + Wait + Sync, S: Source, K: Sink, G: Gate + Sync>(
     ensures unread { IfOk (options_of (map string_bytes words.now.items))
         (λ options. 0 < options.big → source.new ≡ source.old) }
 
-    // Only the print is written.
-    ensures no_write { result ≢ Status.Ok → result ≢ Status.WriteFault → sink.new ≡ sink.old }
+    // Only a front of the print or of the log is written.
+    ensures no_write { IfOk (options_of (map string_bytes words.now.items))
+        (λ options. result ≢ Status.Ok → result ≢ Status.WriteFault → ¬ MayLeaveLog options result → sink.new ≡ sink.old) }
     ensures same_room { K.room sink.new ≡ K.room sink.old }
 {
     match read_words(words) {
@@ -84,7 +89,7 @@ fn run_asked<R: Threads + Wait + Sync, S: Source, K: Sink, G: Gate + Sync>(
     ensures levels { TellsLevels options.now (transfer_of S.remaining S.faults source.old source.new)
         (transfer_of K.contents K.faults sink.old sink.new) result }
     ensures unread { 0 < options.now.big → source.new ≡ source.old }
-    ensures no_write { result ≢ Status.Ok → result ≢ Status.WriteFault → sink.new ≡ sink.old }
+    ensures no_write { result ≢ Status.Ok → result ≢ Status.WriteFault → ¬ MayLeaveLog options.now result → sink.new ≡ sink.old }
     ensures same_room { K.room sink.new ≡ K.room sink.old }
 {
     match options.mode {
@@ -92,7 +97,10 @@ fn run_asked<R: Threads + Wait + Sync, S: Source, K: Sink, G: Gate + Sync>(
             rt, alloc, options, source, sink, gate,
         ),
         Mode::Free => match read_input(alloc, options.big, source) {
-            Ok(input) => write_print(sink, free_print_of(rt, alloc, options, input, gate)),
+            Ok(input) => {
+                let print = free_print_of(rt, alloc, options, input, gate);
+                status_of(write_print(sink, print))
+            }
             Err(fault) => Status::from(fault),
         },
     }
@@ -115,27 +123,23 @@ pub fn run_plain<R: Threads + Sync, S: Source, K: Sink, G: Gate + Sync>(
     ensures levels { TellsLevels options.now (transfer_of S.remaining S.faults source.old source.new)
         (transfer_of K.contents K.faults sink.old sink.new) result }
     ensures unread { 0 < options.now.big → source.new ≡ source.old }
-    ensures no_write { result ≢ Status.Ok → result ≢ Status.WriteFault → sink.new ≡ sink.old }
+    ensures no_write { result ≢ Status.Ok → result ≢ Status.WriteFault → ¬ MayLeaveLog options.now result → sink.new ≡ sink.old }
     ensures same_room { K.room sink.new ≡ K.room sink.old }
 {
     match read_input(alloc, options.big, source) {
-        Ok(input) => write_print(sink, print_of(rt, alloc, options, input, gate)),
+        Ok(input) => status_of(serve(rt, alloc, options, input, sink, gate)),
         Err(fault) => Status::from(fault),
     }
 }
 
-/// Writes the print whole, unless there is none, or a write fails.
-fn write_print<K: Sink>(sink: &mut K, print: Result<Text, Status>) -> Status
-    ensures written { IsWritten print (transfer_of K.contents K.faults sink.old sink.new) result }
-    ensures no_write { IfErr print (λ _. sink.new ≡ sink.old) }
-    ensures same_room { K.room sink.new ≡ K.room sink.old }
+/// The status of a run that has come to an end.
+fn status_of(end: Result<(), Status>) -> Status
+    ensures ok { IfOk end (λ _. result ≡ Status.Ok) }
+    ensures refused { IfErr end (λ answer. result ≡ answer) }
 {
-    match print {
-        Ok(print) => match write_whole(sink, print.bytes()) {
-            Ok(()) => Status::Ok,
-            Err(_) => Status::WriteFault,
-        },
-        Err(refusal) => refusal,
+    match end {
+        Ok(()) => Status::Ok,
+        Err(answer) => answer,
     }
 }
 
@@ -157,54 +161,62 @@ pub fn run_in_memory<R: Threads + Sync, G: Gate + Sync>(
     run_plain(rt, alloc, options, source, sink, gate)
 }
 
-/// The print for an input in mode serial, rounds or marks, or why there is none.
-fn print_of<R: Threads + Sync, G: Gate + Sync>(
+/// Writes the print for an input in mode serial, rounds or marks, or tells why there is none.
+fn serve<R: Threads + Sync, K: Sink, G: Gate + Sync>(
     rt: &R,
     alloc: Global,
     options: &Options,
     input: Text,
+    sink: &mut K,
     gate: &G,
-) -> Result<Text, Status>
+) -> Result<(), Status>
     requires allowed { IsAllowed options.now }
     requires plain { options.now.mode ≢ Mode.Free }
-    ensures print { IfOk result (λ bytes. answer_of options.now input ≡ whole_print bytes) }
-    ensures refusal { IfErr result (IsRefusal options.now input) }
-    ensures levels { options.now.command ≡ Command.Levels → IfOk result (PrintsLevels options.now input) }
+    ensures served { IsServed options.now input (transfer_of K.contents K.faults sink.old sink.new) result }
+    ensures levels { options.now.command ≡ Command.Levels → IfOk result (λ _. AnswersLevels options.now input) }
+    ensures no_write { IfErr result (λ answer. answer ≢ Status.WriteFault → ¬ MayLeaveLog options.now answer → sink.new ≡ sink.old) }
+    ensures same_room { K.room sink.new ≡ K.room sink.old }
 {
     match options.command {
         Command::Sim => {
             let circuit = circuit_for(alloc, options, input)?;
-            print_of_run(rt, alloc, options, &circuit, gate)
+            serve_run(rt, alloc, options, &circuit, sink, gate)
         }
         Command::Rank => {
             let matrix = matrix_for(alloc, options, input)?;
-            print_of_matrix(rt, alloc, options, &matrix, gate)
+            serve_matrix(rt, alloc, options, &matrix, sink, gate)
         }
         Command::Mesh => {
             let mesh = mesh_for(alloc, options, input)?;
-            print_of_run(rt, alloc, options, &mesh, gate)
+            serve_run(rt, alloc, options, &mesh, sink, gate)
         }
-        Command::Levels => levels_print(rt, alloc, options, input, gate),
+        Command::Levels => serve_levels(rt, alloc, options, input, sink, gate),
     }
 }
 
-/// The print of an elimination in mode serial, rounds or marks, or why there is none. In modes rounds and
-/// marks its tasks rest, and neither a graph nor a board is needed, unless the gate is to choose among them.
-fn print_of_matrix<R: Threads + Sync, G: Gate + Sync>(
+/// Writes the print of an elimination in mode serial, rounds or marks, or tells why there is none. In modes
+/// rounds and marks its tasks rest, and neither a graph nor a board is needed, unless the gate is to choose
+/// among them.
+fn serve_matrix<R: Threads + Sync, K: Sink, G: Gate + Sync>(
     rt: &R,
     alloc: Global,
     options: &Options,
     matrix: &Matrix,
+    sink: &mut K,
     gate: &G,
-) -> Result<Text, Status>
+) -> Result<(), Status>
     requires allowed { IsAllowed options.now }
     requires plain { options.now.mode ≢ Mode.Free }
-    ensures print { IfOk result (λ bytes. answer_by options.now (pattern_problem matrix.now) ≡ whole_print bytes) }
-    ensures refusal { IfErr result (IsRunRefusal options.now (pattern_problem matrix.now)) }
+    ensures served { IsRunServed options.now (pattern_problem matrix.now) (transfer_of K.contents K.faults sink.old sink.new) result }
+    ensures no_write { IfErr result (λ answer. answer ≢ Status.WriteFault → ¬ MayLeaveLog options.now answer → sink.new ≡ sink.old) }
+    ensures same_room { K.room sink.new ≡ K.room sink.old }
 {
     match options.mode {
-        Mode::Rounds | Mode::Marks if gate.is_open() => resting_print(alloc, options, matrix, gate),
-        _ => print_of_run(rt, alloc, options, matrix, gate),
+        Mode::Rounds | Mode::Marks if gate.is_open() => {
+            let print = resting_print(alloc, options, matrix, gate);
+            write_print(sink, print)
+        }
+        _ => serve_run(rt, alloc, options, matrix, sink, gate),
     }
 }
 
@@ -220,7 +232,7 @@ fn free_print_of<R: Threads + Wait + Sync, G: Gate + Sync>(
     requires mode { options.now.mode ≡ Mode.Free }
     ensures print { IfOk result (λ bytes. answer_of options.now input ≡ whole_print bytes) }
     ensures refusal { IfErr result (IsRefusal options.now input) }
-    ensures levels { options.now.command ≡ Command.Levels → IfOk result (PrintsLevels options.now input) }
+    ensures levels { options.now.command ≡ Command.Levels → IfOk result (λ _. AnswersLevels options.now input) }
 {
     match options.command {
         Command::Sim => {

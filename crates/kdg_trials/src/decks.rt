@@ -20,6 +20,9 @@ pub const C17_STIMULUS_PRINT: &str =
 /// A gate that reads itself, with a stimulus.
 pub const RING: &str = "INPUT(a)\nOUTPUT(q)\nq = NAND(a, q)\n@ 2 1\n";
 
+/// The lines of its rounds of at most 10 tasks.
+pub const RING_WITHIN_TEN: &str = "1 q 1\n3 q 0\n4 q 1\n";
+
 /// A ring of five gates that feeds back, so that it changes for ever.
 pub const FEEDBACK: &str =
     "OUTPUT(s4)\ns0 = XNOR(s4, s2)\ns1 = BUFF(s0)\ns2 = BUFF(s1)\ns3 = BUFF(s2)\ns4 = BUFF(s3)\n";

@@ -3,7 +3,7 @@
 use crate::answering::{MODES, answer, answer_in, tells_more_than};
 use crate::decks::{
     C17, C17_PRINT, C17_ROUNDS_PRINT, C17_SHORT_STIMULUS, C17_STIMULUS, C17_STIMULUS_PRINT,
-    C17_WITH_HEADER, FEEDBACK, RING,
+    C17_WITH_HEADER, FEEDBACK, RING, RING_WITHIN_TEN,
 };
 use crate::matrices::DIAGONAL;
 use crate::meshes::SPRING;
@@ -157,23 +157,30 @@ fn no_choice_shows_in_a_print(rt: HostRuntime) -> Result<(), Fail> {
     Ok(())
 }
 
+/// In mode rounds the lines of the rounds within the budget that come before all pending tasks have gone out.
 #[test]
 fn more_tasks_than_the_budget_are_told(rt: HostRuntime) -> Result<(), Fail> {
-    for (words, input, created, limit) in [
-        ("sim --budget 19", C17, 20u64, 19u64),
-        ("sim --budget 5", C17, 6, 5),
-        ("sim --budget 10", "q = NOT(q)\n", 11, 10),
-        ("sim --until 1000000000 --budget 10", RING, 11, 10),
-        ("rank --budget 1", DIAGONAL, 2, 1),
-        ("mesh --budget 1", SPRING, 2, 1),
+    for (words, input, created, limit, kept) in [
+        ("sim --budget 19", C17, 20u64, 19u64, "1 22 1\n1 23 1\n"),
+        ("sim --budget 5", C17, 6, 5, ""),
+        ("sim --budget 10", "q = NOT(q)\n", 11, 10, ""),
+        (
+            "sim --until 1000000000 --budget 10",
+            RING,
+            11,
+            10,
+            RING_WITHIN_TEN,
+        ),
+        ("rank --budget 1", DIAGONAL, 2, 1, ""),
+        ("mesh --budget 1", SPRING, 2, 1, ""),
     ] {
         let (told, sink) = answer_in(&rt, rt.alloc(), "serial", words, input, 3)?;
         assert_eq!(rt; told, Status::Budget { created, limit }, "{words} {input}");
         assert_eq!(rt; sink.held(), b"".as_slice(), "{words} {input}");
-        for mode in ["rounds", "marks"] {
+        for (mode, written) in [("rounds", kept), ("marks", "")] {
             let (told, sink) = answer_in(&rt, rt.alloc(), mode, words, input, 3)?;
             assert!(rt; tells_more_than(&told, limit), "{words} {mode} {input}");
-            assert_eq!(rt; sink.held(), b"".as_slice(), "{words} {mode} {input}");
+            assert_eq!(rt; sink.held(), written.as_bytes(), "{words} {mode} {input}");
         }
     }
     Ok(())

@@ -3,8 +3,8 @@
 ghost use Rattle.std.specs.Prelude.{◌≢◌};
 ghost use Rattle.kdg_prog.specs.Words.{IsAllowed};
 
-use crate::answering::{MODES, answer, words_of};
-use crate::decks::{C17, C17_PRINT};
+use crate::answering::{MODES, answer, tells_more_than, words_of};
+use crate::decks::{C17, C17_PRINT, RING, RING_WITHIN_TEN};
 use kdg_prog::{Command, Mode, Options, Status, run, run_in_memory};
 use kdg_text::NoRoom;
 use outer_edge::{CleanSink, CleanSource, MemSink, MemSource, Seeded};
@@ -51,7 +51,7 @@ fn after_failed_read<R: Threads + Wait + Sync>(
 fn a_failed_write_leaves_a_front_of_the_print(rt: HostRuntime) -> Result<(), Fail> {
     for mode in MODES {
         for failed in 1u64..61 {
-            let (status, sink) = after_failed_write(&rt, rt.alloc(), mode, failed)?;
+            let (status, sink) = after_failed_write(&rt, rt.alloc(), "sim", C17, mode, failed)?;
             let want = if failed < 60 {
                 Status::WriteFault
             } else {
@@ -68,18 +68,42 @@ fn a_failed_write_leaves_a_front_of_the_print(rt: HostRuntime) -> Result<(), Fai
     Ok(())
 }
 
-/// What c17 is answered in a mode where the write of this number fails, counted from 1.
+/// What an input is answered in a mode where the write of this number fails, counted from 1.
 fn after_failed_write<R: Threads + Wait + Sync>(
     rt: &R,
     alloc: Global,
+    words: &str,
+    input: &str,
     mode: &str,
     failed: u64,
 ) -> Result<(Status, MemSink), NoRoom> {
-    let words = words_of(alloc, &format!(in alloc; "sim --mode {mode}")?)?;
-    let mut source = CleanSource::new(C17.as_bytes().to_vec(alloc)?, 64);
+    let words = words_of(alloc, &format!(in alloc; "{words} --mode {mode}")?)?;
+    let mut source = CleanSource::new(input.as_bytes().to_vec(alloc)?, 64);
     let mut sink = MemSink::with_room(alloc, 1, 59, vec![in alloc; failed]?)?;
     let status = run(rt, alloc, &words, &mut source, &mut sink, &Seeded);
     Ok((status, sink))
+}
+
+/// Each write takes a byte. A run whose log goes out goes on after a failed write, and tells that it is over the
+/// budget; the other modes write nothing.
+#[test]
+fn the_budget_is_told_after_a_failed_write(rt: HostRuntime) -> Result<(), Fail> {
+    let lines = RING_WITHIN_TEN.as_bytes();
+    for mode in MODES {
+        for failed in 1u64..20 {
+            let words = "sim --until 1000000000 --budget 10";
+            let (status, sink) = after_failed_write(&rt, rt.alloc(), words, RING, mode, failed)?;
+            assert!(rt; tells_more_than(&status, 10), "{mode} {failed}");
+            if mode == "rounds" {
+                assert_eq!(rt; sink.held().len() as u64, failed - 1, "{failed}");
+                assert!(rt; lines.starts_with(sink.held()), "{failed}");
+            }
+            if mode == "serial" || mode == "marks" {
+                assert!(rt; sink.held().is_empty(), "{mode} {failed}");
+            }
+        }
+    }
+    Ok(())
 }
 
 /// Where an input stops short, has a byte that no line has, or goes beyond a bound.

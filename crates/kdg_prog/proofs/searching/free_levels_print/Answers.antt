@@ -6,7 +6,8 @@ use Rattle.level_walk.specs.Walks.{vertex_count}
 use Rattle.kdg_prog.specs.Inputs.{pattern_for}
 use Rattle.kdg_prog.specs.Answer.{graph_problem, search_problem}
 use Rattle.kdg_prog.proofs.Refusing.{print_when_read, refusal_when_read}
-use Rattle.kdg_prog.proofs.Searched.{levels_when_read}
+use Rattle.kdg_prog.specs.Searches.{AnswersLevels}
+use Rattle.kdg_prog.proofs.Searched.{answers_levels, ok_of}
 use Rattle.kdg_prog.proofs.searching.free_levels_print.Goals as goal
 
 pub free_levels_by-requires-clause-does : goal.free_levels_by-requires-clause-does
@@ -21,8 +22,9 @@ pub returns-clause-levels : goal.returns-clause-levels
 returns-clause-levels g c =
     let walk = c.in_ok-walk.walk in
     let found = c.in_ok-walk.ensures in
-    levels_when_read c.args.options.now c.args.input walk.pattern c.levels_are_shortest.ensures.shortest c.levels_are_shortest.ensures.logs found.sound c.requires.allowed.from.0 c.requires.big found.pattern walk found.walk
-    c.free_levels_by.result c.free_levels_by.ensures.print
+    ok_of (AnswersLevels c.args.options.now c.args.input)
+    (answers_levels c.args.options.now c.args.input walk.pattern c.levels_are_shortest.ensures.shortest c.levels_are_shortest.ensures.logs found.sound c.requires.allowed.from.0 c.requires.big found.pattern)
+    c.free_levels_by.result
 
 pub returns-clause-print : goal.returns-clause-print
 returns-clause-print g c =
