@@ -170,7 +170,10 @@ fn is_dealt_from(
     }
     let mut turn = turn;
     let mut worker = 0u64;
-    while !left.is_empty() {
+    for _place in 0..round.len() {
+        if left.is_empty() {
+            break;
+        }
         let at = choice(1, 0, turn) % left.len() as u64;
         let place = left.remove(at as usize);
         if place.by.load(SeqCst) != worker {
