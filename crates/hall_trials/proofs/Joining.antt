@@ -1,10 +1,28 @@
 -- Seats that are split from the first one, and joined to it again.
-use Rattle.std.proofs.Common.{◌≡◌, ◌==◌, not, ℕ, suc, List, [], ◌∷◌, sym, ap, subst, ◌∙◌}
+use Rattle.std.proofs.Common.{◌≡◌, ◌≢◌, ◌==◌, eq-eqb, ne_eqb, not, cond, Bool, false, ℕ, zero, suc, ◌<◌, List, [], ◌∷◌, Some, refl, sym, ap, subst, ◌∙◌, arith}
 use Rattle.std.specs.Prelude.{Contains, filter}
 use Rattle.graph_update.specs.Engine.{EngineState}
+use Rattle.worker_gate.specs.Fits.{drained_count}
+use Rattle.worker_gate.specs.Hall.{first_view}
 use Rattle.worker_gate.specs.Steps.{both_views, first_half, second_half}
 use Rattle.worker_gate.specs.Turns.{HallState, SeatState}
-use Rattle.hall_trials.specs.Seated.{HasWorked, IsSeated, IsSplit}
+use Rattle.hall_trials.specs.Seated.{HasWorked}
+use Rattle.hall_trials.specs.Team.{IsFirst, IsSplit, down_from}
+
+-- all are below
+others_stay : (m gone : ℕ) → m < gone → filter (λ number. not (number == gone)) (down_from m) ≡ down_from m
+others_stay zero gone below = refl
+others_stay (suc m) gone below =
+    let differs : suc m ≢ gone = λ same. absurd (omega (arith, same, below)) in
+    let test : (suc m == gone) ≡ false = ne_eqb (suc m) gone differs in
+    ap (λ (b : Bool). cond (not b) (suc m ∷ filter (λ number. not (number == gone)) (down_from m)) (filter (λ number. not (number == gone)) (down_from m))) test
+    ∙ ap (λ (rest : List ℕ). suc m ∷ rest) (others_stay m gone (omega (arith, below)))
+
+-- without the greatest
+without_first : (m : ℕ) → filter (λ number. not (number == suc m)) (down_from (suc m)) ≡ down_from m
+without_first m =
+    ap (λ (b : Bool). cond (not b) (suc m ∷ filter (λ number. not (number == suc m)) (down_from m)) (filter (λ number. not (number == suc m)) (down_from m))) (eq-eqb (suc m) (suc m) refl)
+    ∙ others_stay m (suc m) (omega arith)
 
 module _ {A V : Type 0} (hall : HallState (EngineState A V)) where
   abbrev Seat : Type 0
@@ -13,28 +31,27 @@ module _ {A V : Type 0} (hall : HallState (EngineState A V)) where
   pub still_split : {number : ℕ} {unjoined : List ℕ} {old now : Seat} → IsSplit hall number unjoined old → HasWorked hall old now → IsSplit hall number unjoined now
   still_split split worked = record {
     seated = worked.seated;
-    number_is = worked.same.number ∙ split.number_is;
-    unjoined_are = worked.same.unjoined ∙ split.unjoined_are;
+    number_is = worked.number ∙ split.number_is;
+    unjoined_are = worked.unjoined ∙ split.unjoined_are;
   }
 
-  -- one is joined
-  pub joined : {unjoined : List ℕ} (number : ℕ) {seat other now : Seat} → IsSplit hall 0 unjoined seat → IsSplit hall number [] other → now ≡ record seat { view = both_views seat.view other.view }
-      → IsSplit hall 0 (filter (λ k. not (k == number)) unjoined) now
-  joined {unjoined} number {seat} {other} {now} split gone is = record {
-    seated = record {
-      here = ap (λ (s : Seat). s.hall) is ∙ split.seated.here;
-      origin_is = ap (λ (s : Seat). s.view.origin) is ∙ split.seated.origin_is;
+  -- a hall's first seat, at its beginning
+  pub begun : {origin : EngineState A V} {seat : Seat} → hall.origin ≡ origin → seat ≡ record { hall = hall.id; view = first_view origin } → IsFirst hall [] seat
+  begun {origin} same is = record {
+    split = record {
+      seated = record {
+        here = ap (λ (s : Seat). s.hall) is;
+        origin_is = ap (λ (s : Seat). s.view.origin) is ∙ ap (λ (e : EngineState A V). Some e) (sym same);
+      };
+      number_is = ap (λ (s : Seat). s.view.number) is;
+      unjoined_are = ap (λ (s : Seat). s.view.unjoined) is;
     };
-    number_is = ap (λ (s : Seat). s.view.number) is ∙ split.number_is;
-    unjoined_are =
-        ap (λ (s : Seat). s.view.unjoined) is
-        ∙ ap (λ (xs : List ℕ). filter (λ k. not (k == other.view.number)) xs) split.unjoined_are
-        ∙ ap (λ (n : ℕ). filter (λ k. not (k == n)) unjoined) gone.number_is;
+    drained = ap (λ (s : Seat). s.view.drained) is ∙ ap (λ (e : EngineState A V). drained_count e.progress) (sym same);
   }
 
-  -- one is split off the first
-  pub first_split : {unjoined : List ℕ} {seat now : Seat} (n : ℕ) → IsSplit hall 0 unjoined seat → seat.view.splits ≡ n → now ≡ record seat { view = first_half seat.view } → IsSplit hall 0 (suc n ∷ unjoined) now
-  first_split {unjoined} {seat} {now} n split splits is = record {
+  -- so many were split from it
+  pub first_split : {seat now : Seat} (n : ℕ) → IsSplit hall 0 (down_from n) seat → seat.view.splits ≡ n → now ≡ record seat { view = first_half seat.view } → IsSplit hall 0 (down_from (suc n)) now
+  first_split {seat} {now} n split splits is = record {
     seated = record {
       here = ap (λ (s : Seat). s.hall) is ∙ split.seated.here;
       origin_is = ap (λ (s : Seat). s.view.origin) is ∙ split.seated.origin_is;
@@ -45,7 +62,7 @@ module _ {A V : Type 0} (hall : HallState (EngineState A V)) where
   }
 
   pub other_split : {unjoined : List ℕ} {seat other : Seat} (n : ℕ) → IsSplit hall 0 unjoined seat → seat.view.splits ≡ n → other ≡ record { hall = hall.id; view = second_half seat.view } → IsSplit hall (suc n) [] other
-  other_split {unjoined} {seat} {other} n split splits is = record {
+  other_split n split splits is = record {
     seated = record {
       here = ap (λ (s : Seat). s.hall) is;
       origin_is = ap (λ (s : Seat). s.view.origin) is ∙ split.seated.origin_is;
@@ -54,7 +71,21 @@ module _ {A V : Type 0} (hall : HallState (EngineState A V)) where
     unjoined_are = ap (λ (s : Seat). s.view.unjoined) is;
   }
 
-  -- it may be joined where its number is one of these
-  pub may_join : {unjoined : List ℕ} {number : ℕ} {seat other : Seat} → IsSplit hall 0 unjoined seat → IsSplit hall number [] other → Contains unjoined number → Contains seat.view.unjoined other.view.number
-  may_join {unjoined} {number} {seat} {other} split gone contains =
-      subst (λ (xs : List ℕ). Contains xs other.view.number) (sym split.unjoined_are) (subst (Contains unjoined) (sym gone.number_is) contains)
+  -- the one with the greatest number may be joined
+  pub may_join : {seat other : Seat} (n : ℕ) → IsSplit hall 0 (down_from (suc n)) seat → IsSplit hall (suc n) [] other → Contains seat.view.unjoined other.view.number
+  may_join {seat} {other} n split gone =
+      subst (λ (xs : List ℕ). Contains xs other.view.number) (sym split.unjoined_are) (subst (Contains (down_from (suc n))) (sym gone.number_is) (0, omega arith, refl))
+
+  pub joined : {seat other now : Seat} (n : ℕ) → IsSplit hall 0 (down_from (suc n)) seat → IsSplit hall (suc n) [] other → now ≡ record seat { view = both_views seat.view other.view } → IsSplit hall 0 (down_from n) now
+  joined {seat} {other} {now} n split gone is = record {
+    seated = record {
+      here = ap (λ (s : Seat). s.hall) is ∙ split.seated.here;
+      origin_is = ap (λ (s : Seat). s.view.origin) is ∙ split.seated.origin_is;
+    };
+    number_is = ap (λ (s : Seat). s.view.number) is ∙ split.number_is;
+    unjoined_are =
+        ap (λ (s : Seat). s.view.unjoined) is
+        ∙ ap (λ (xs : List ℕ). filter (λ k. not (k == other.view.number)) xs) split.unjoined_are
+        ∙ ap (λ (k : ℕ). filter (λ number. not (number == k)) (down_from (suc n))) gone.number_is
+        ∙ without_first n;
+  }

@@ -4,16 +4,20 @@ ghost use Rattle.std.specs.Prelude.{◌≡◌, [], None, Some};
 ghost use Rattle.run_laws.specs.Rest.{NoneRuns};
 ghost use Rattle.graph_update.specs.Engine.{EngineState};
 ghost use Rattle.worker_gate.specs.Steps.{left_by};
-ghost use Rattle.hall_trials.specs.Seated.{HasWorked, IsSeated, IsSplit};
+ghost use Rattle.hall_trials.specs.Seated.{HasWorked, IsSeated};
+ghost use Rattle.hall_trials.specs.Team.{IsSplit};
 
-use crate::worker::Post;
 use app_laws::App;
-use graph_update::{Engine, engine_sends};
+use graph_update::Engine;
 use kdg_text::NoRoom;
 use std::alloc::Global;
 use std::marker::Brand;
+use std::sync::atomic::{AtomicU64, Ordering};
 use std::thread::{self, Threads};
-use worker_gate::{EntryOf, Hall, Seat, Turn, leaving_laws};
+use worker_gate::{EntryOf, Hall, Post, Seat, Turn, leaving_laws, post_sends};
+
+/// No worker's number.
+const NOBODY: u64 = u64::MAX;
 
 /// Seat 0 takes the turn. While it has it, seat 1 tries in a second thread, and once it has left, seat 1
 /// tries again. The engine comes back with the holders that the three tries met.
@@ -65,63 +69,49 @@ fn try_by_turns<'h, 'a, R: Threads + Sync, A: App + Sync>(
 {
     match hall.try_enter(first) {
         EntryOf::Turn(turn) => {
-            let (second, beside) = try_elsewhere(rt, app, hall, second);
+            let holder = AtomicU64::new(NOBODY);
+            let post = Post {
+                app,
+                hall,
+                seat: second,
+                worker: 1,
+            };
+            let post = try_there(rt, post, &holder);
             let first = leave_as_found(turn);
-            let (second, after) = try_here(hall, second);
-            (first, second, [None, beside, after])
+            let (second, after) = try_here(hall, post.seat);
+            (first, second, [None, told(&holder), after])
         }
         EntryOf::Busy { seat, holder } => (seat, second, [Some(holder), None, None]),
     }
 }
 
-/// Tries in a second thread.
-fn try_elsewhere<'h, 'a, R: Threads + Sync, A: App + Sync>(
-    rt: &R,
-    app: &'a A,
-    hall: &'h Hall<'a, A>,
-    seat: Seat<'a, A>,
-) -> (Seat<'a, A>, Option<u32>)
-    requires { IsSeated hall.now seat }
-    ensures { HasWorked hall.now seat.entry result.0 }
-{
-    let post = try_there(
-        rt,
-        Post {
-            app,
-            hall,
-            seat,
-            refusals: 0,
-            holder: 0,
-        },
-    );
-    let holder = if post.refusals > 0 {
-        Some(post.holder)
-    } else {
-        None
-    };
-    (post.seat, holder)
+/// Who had the turn when a worker was refused, if it was.
+fn told(holder: &AtomicU64) -> Option<u32> {
+    u32::try_from(holder.load(Ordering::SeqCst)).ok()
 }
 
+/// Tries in a second thread. Who has the turn when it is refused is written down.
 fn try_there<'h, 'a, R: Threads + Sync, A: App + Sync>(
     rt: &R,
     post: Post<'h, 'a, A>,
+    holder: &AtomicU64,
 ) -> Post<'h, 'a, A>
     requires { IsSeated post.hall.now post.seat }
     ensures { HasWorked post.entry.hall.now post.entry.seat result.seat }
 {
-    engine_sends::<A>();
-    let (tried, ()) = thread::join(
+    post_sends::<A>();
+    let (back, ()) = thread::join(
         rt,
         move || -> Post<A>
             requires { IsSeated post.hall.now post.seat }
             ensures { HasWorked post.entry.hall.now post.entry.seat result.seat }
-        { try_at(post) },
+        { try_at(post, holder) },
         || (),
     );
-    tried
+    back
 }
 
-fn try_at<'h, 'a, A: App>(post: Post<'h, 'a, A>) -> Post<'h, 'a, A>
+fn try_at<'h, 'a, A: App>(post: Post<'h, 'a, A>, holder: &AtomicU64) -> Post<'h, 'a, A>
     requires { IsSeated post.hall.now post.seat }
     ensures { HasWorked post.entry.hall.now post.entry.seat result.seat }
 {
@@ -129,20 +119,17 @@ fn try_at<'h, 'a, A: App>(post: Post<'h, 'a, A>) -> Post<'h, 'a, A>
         app,
         hall,
         seat,
-        refusals,
-        holder,
+        worker,
     } = post;
-    let (seat, met) = try_here(hall, seat);
-    let (refusals, holder) = match met {
-        Some(holder) => (1, holder),
-        None => (refusals, holder),
-    };
+    let (seat, refused_by) = try_here(hall, seat);
+    if let Some(other) = refused_by {
+        holder.store(u64::from(other), Ordering::SeqCst);
+    }
     Post {
         app,
         hall,
         seat,
-        refusals,
-        holder,
+        worker,
     }
 }
 

@@ -1,4 +1,4 @@
-use Rattle.std.proofs.Common.{[], ◌∷◌, refl, arith}
+use Rattle.std.proofs.Common.{arith}
 use Rattle.hall_trials.proofs.Joining.{first_split, joined, may_join, other_split, still_split}
 use Rattle.hall_trials.proofs.meeting.meet_at.Goals as goal
 
@@ -17,7 +17,7 @@ join-requires-clause-unjoined g c κs within =
     let split = c.split-second.ensures in
     let first = still_split hall (first_split hall 0 c.requires.first c.requires.whole split.left) c.try_by_turns-first.ensures.first in
     let other = still_split hall (other_split hall 0 c.requires.first c.requires.whole split.right) c.try_by_turns-first.ensures.second in
-    may_join hall first other (0, omega arith, refl)
+    may_join hall 0 first other
 
 pub returns : goal.returns
 returns g c =
@@ -25,4 +25,4 @@ returns g c =
     let split = c.split-second.ensures in
     let first = still_split hall (first_split hall 0 c.requires.first c.requires.whole split.left) c.try_by_turns-first.ensures.first in
     let other = still_split hall (other_split hall 0 c.requires.first c.requires.whole split.right) c.try_by_turns-first.ensures.second in
-    joined hall 1 first other c.join.ensures
+    joined hall 0 first other c.join.ensures

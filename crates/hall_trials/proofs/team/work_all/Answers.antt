@@ -1,0 +1,27 @@
+use denote.Param.{param}
+use denote.Param.Send.{IsSend, sendable}
+use denote.Ref.{NamedLft}
+use Rattle.std.proofs.Common.{get_or, rules, subst, sym}
+use Rattle.worker_gate.specs.contracts.post.Post as post
+use Rattle.worker_gate.specs.declared.post.Post.{Post}
+use Rattle.hall_trials.specs.Seated.{HasWorked}
+use Rattle.hall_trials.proofs.team.work_all.Goals as goal
+
+pub map_vec-requires-send-J : goal.map_vec-requires-send-J
+map_vec-requires-send-J g c κs within =
+    let posts : (h a : NamedLft) → IsSend (post.the_row h a (param 1 g.row.A) (param 2 g.row.A-Val) (param 3 g.row.A-Horizon) g.A.App g.A.Val.Held) =
+    λ h a. record { owned = (c.post_sends.ensures h a).owned; leaving = (c.post_sends.ensures h a).leaving } in
+    search (sendable, posts) depth 40
+
+pub map_vec-requires-send-X : goal.map_vec-requires-send-X
+map_vec-requires-send-X g c κs within =
+    let posts : (h a : NamedLft) → IsSend (post.the_row h a (param 1 g.row.A) (param 2 g.row.A-Val) (param 3 g.row.A-Horizon) g.A.App g.A.Val.Held) =
+    λ h a. record { owned = (c.post_sends.ensures h a).owned; leaving = (c.post_sends.ensures h a).leaving } in
+    search (sendable, posts) depth 40
+
+pub returns-clause-worked : goal.returns-clause-worked
+returns-clause-worked g c k x d inside =
+    let backs = c.in_ok-backs.backs.items in
+    let given = (c.in_ok-backs.ensures.each k d inside).1 in
+    let call : HasWorked given.job.hall.now given.job.seat (get_or backs k d).seat = search rules in
+    subst (λ (post : Post g.row.A.Denot g.row.A-Val.Denot g.row.A-Horizon.Denot). HasWorked post.hall.now post.seat (get_or backs k d).seat) (sym (given.job_is x)) call

@@ -1,0 +1,37 @@
+-- Seats that are split from a hall's first one, and the posts of its workers.
+use Rattle.std.specs.Prelude.{◌≡◌, ◌<◌, ℕ, zero, suc, List, [], ◌∷◌, get_or, length}
+use Rattle.graph_update.specs.Engine.{EngineState}
+use Rattle.worker_gate.specs.Fits.{drained_count}
+use Rattle.worker_gate.specs.Turns.{HallState, SeatState}
+use Rattle.hall_trials.specs.Seated.{IsSeated}
+
+-- the numbers from this one down to 1
+abbrev pub down_from : ℕ → List ℕ
+down_from zero = []
+down_from (suc n) = suc n ∷ down_from n
+
+-- what holds of each place and what is there, and of what is there in two lists
+abbrev pub EachAt : {X : Type 0} → (ℕ → X → Type 0) → List X → Type 0
+EachAt {X} P xs = (k : ℕ) (x : X) → k < length xs → P k (get_or xs k x)
+
+abbrev pub EachPair : {X Y : Type 0} → (X → Y → Type 0) → List X → List Y → Type 0
+EachPair {X} {Y} R xs ys = (k : ℕ) (x : X) (y : Y) → k < length xs → R (get_or xs k x) (get_or ys k y)
+
+module _ {A V : Type 0} (hall : HallState (EngineState A V)) where
+  -- a seat with this number, from which these seats were split that aren't joined
+  pub record IsSplit (number : ℕ) (unjoined : List ℕ) (seat : SeatState (EngineState A V) V) : Type 0 where
+    pub seated : IsSeated hall seat
+    pub number_is : seat.view.number ≡ number
+    pub unjoined_are : seat.view.unjoined ≡ unjoined
+
+  -- the first seat, which has drained nothing
+  pub record IsFirst (unjoined : List ℕ) (seat : SeatState (EngineState A V) V) : Type 0 where
+    pub split : IsSplit 0 unjoined seat
+    pub drained : seat.view.drained ≡ drained_count hall.origin.progress
+
+  -- a post at this hall, where a worker may work in the seat with this number
+  pub record IsPosted (number : ℕ) (at : HallState (EngineState A V)) (app : A) (seat : SeatState (EngineState A V) V) : Type 0 where
+    pub at_is : at ≡ hall
+    pub app_is : app ≡ hall.origin.app
+    pub split : IsSplit number [] seat
+    pub idle : seat.view.jobs ≡ []
