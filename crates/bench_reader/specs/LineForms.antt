@@ -73,7 +73,7 @@ is_unsupported word = spells word (codes "mux") || spells word (codes "lut")
 abbrev pub is_constant : List ℕ → Bool
 is_constant word = spells word (codes "vdd") || spells word (codes "gnd")
 
--- whether a gate of this kind may have so many fan-ins, of which there is one
+-- whether a gate of this kind may have `n` fan-ins, of which there is one
 abbrev pub is_arity : GateKind → ℕ → Bool
 is_arity Not n = n == 1
 is_arity Buff n = n == 1

@@ -28,7 +28,7 @@ line_form (Stimulus draft) = StimulusLine draft.time draft.bits.now
 abbrev pub numbered_form : NumberedStatement → Numbered LineForm
 numbered_form line = record { number = line.number; form = line_form line.statement }
 
--- so many, or one more than a gate may have
+-- `n`, or one more than a gate may have where `n` is more
 abbrev pub capped : ℕ → ℕ
 capped n = if nat_lt most_fan_ins n then most_fan_ins + 1 else n
 

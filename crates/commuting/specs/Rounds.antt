@@ -27,7 +27,7 @@ module _ {V : Type 0} (app : Application V) where
   abbrev pub after_round : State V → State V
   after_round state = after_tasks app.act (clear_tasks state) state
 
-  -- after so many rounds, and not before, nothing is pending
+  -- after this number of rounds, and not before, nothing is pending
   abbrev pub TakesRounds : ℕ → State V → Type 0
   TakesRounds zero state = state.pending ≡ []
   TakesRounds (suc rounds) state = (state.pending ≢ []) × TakesRounds rounds (after_round state)

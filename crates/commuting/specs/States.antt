@@ -18,7 +18,7 @@ state_of cells pending = record { cells = cells; pending = pending }
 abbrev pub execution_from : {V : Type 0} → State V → Execution V
 execution_from state = record { cells = state.cells; pending = state.pending; log = [] }
 
--- the run from a state to a bound, within so many steps
+-- the run from a state to a bound, within `limit` steps
 abbrev pub run_from : {V : Type 0} → Operator V → ℕ → Bound → State V → Option (Execution V)
 run_from act limit bound state = run_until act limit bound (execution_from state)
 

@@ -21,7 +21,7 @@ pub record AreContacts (people : ℕ) (contacts : List ℕ) : Type 0 where
   pub one_each : length contacts ≡ people
   pub known : All (λ contact. contact < people) contacts
 
--- two of the people are the hosts, and so many rounds of further introductions follow in time
+-- two of the people are the hosts, and the rounds of further introductions that the kind tells follow in time
 pub record IsMeeting (people prio : ℕ) (body : Body) : Type 0 where
   pub first : body.at < people
   pub second : body.arg < people

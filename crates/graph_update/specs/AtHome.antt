@@ -18,7 +18,7 @@ use Rattle.run_laws.specs.Progress.{Progress}
 abbrev pub done_of : {V : Type 0} → NodeId → Task → Part V → List Child → List ℕ → Done V
 done_of node task bundle children text = record { node = node; task = task; effect = record { bundle = bundle; children = children; text = text } }
 
--- why a task with which so many are created isn't ended: they are more than may be, or else no memory was to be had
+-- why a task with which `created` tasks are created isn't ended: they are more than may be, or else no memory was to be had
 abbrev pub IsEndFault : ℕ → ℕ → OverCause → Type 0
 IsEndFault created limit (cause.Budget asked most) = (asked ≡ created) × (most ≡ limit) × (limit < created)
 IsEndFault created limit cause.NoRoom = created ≤ limit

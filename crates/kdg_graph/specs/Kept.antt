@@ -22,7 +22,7 @@ pub record IsKept (nodes : List Node) (locations : List Location) (unblocked : M
   pub some : AreSome nodes unblocked
   pub unblocked_are : listed_in nodes unblocked ≡ unblocked_of nodes
 
--- for so many more nodes there is a place in the order of all, an id with a mark, and a place among the unblocked nodes
+-- for `count` more nodes there is a place in the order of all, an id with a mark, and a place among the unblocked nodes
 pub record HasSpare (count : ℕ) (nodes : NodeShelf) (order : Option Lane) (unblocked : MarkedIds) : Type 0 where
   pub places : count ≤ places_in order nodes.numbers
   pub numbers : count ≤ nodes.numbers

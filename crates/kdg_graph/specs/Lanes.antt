@@ -23,12 +23,12 @@ pub record IsLane (slots : Slab Node) (nodes : List Node) (ids : List NodeId) : 
   pub ids_are : ids ≡ ids_of nodes
   pub ascending : IsAscending (tasks_of nodes)
 
--- so many of the nodes are earlier than the key, and they stand first
+-- `place` of the nodes are earlier than the key, and they stand first
 pub record IsRank (key : Key) (nodes : List Node) (place : ℕ) : Type 0 where
   pub inside : place ≤ length nodes
   pub point : IsPartitionPoint (λ node. is_lt (key_cmp node.task.key key) ≡ true) (λ node. is_lt (key_cmp node.task.key key) ≡ false) nodes place
 
--- so many of the nodes are not later than the key, and they stand first
+-- `place` of the nodes are not later than the key, and they stand first
 pub record IsRankPast (key : Key) (nodes : List Node) (place : ℕ) : Type 0 where
   pub inside : place ≤ length nodes
   pub point : IsPartitionPoint (λ node. is_lt (key_cmp key node.task.key) ≡ false) (λ node. is_lt (key_cmp key node.task.key) ≡ true) nodes place

@@ -92,7 +92,7 @@ HaveSameLanes before after = (loc : ℕ) (access : Access) → lane_of after loc
 
 -- ---- room
 
--- for so many more nodes there is room at a location
+-- for how many more nodes there is room at a location
 abbrev pub room_in : Location → ℕ
 room_in location = location.room
 
@@ -100,7 +100,7 @@ room_in location = location.room
 abbrev pub room_for_both : ℕ → List NodeId → ℕ → List NodeId → ℕ
 room_for_both capacity ids other_capacity some = min (capacity - length ids) (other_capacity - length some)
 
--- the list of those that write is empty until it is used; that of all has room for at least so many more ids, and the other one for at least so many more behind all that write
+-- the list of those that write is empty until it is used; that of all has room for at least `spare` more ids, and the other one for at least `spare_writers` more behind all that write
 pub record AreLists (named writers : Lane) (apart : Bool) (spare spare_writers : ℕ) : Type 0 where
   pub unused : apart ≡ false → writers.ids.items ≡ []
   pub room : length named.ids.items + spare ≤ named.ids.capacity
@@ -114,7 +114,7 @@ room_at [] loc = zero
 room_at (room ∷ rooms) zero = room
 room_at (room ∷ rooms) (suc loc) = room_at rooms loc
 
--- for so many nodes the reservation with a number made room at a location
+-- for how many nodes the reservation with a number made room at a location
 abbrev pub reserved_in : ℕ → Location → ℕ
 reserved_in number location = if location.reservation == number then min location.reserved location.room else 0
 

@@ -3,7 +3,7 @@ use Rattle.std.specs.Prelude.{ℕ, zero, ◌-◌, ◌^◌, ◌==◌, if◌then�
 use Rattle.kdg_graph.specs.declared.lane.Lane.{Lane}
 use Rattle.kdg_graph.specs.Node.{Node}
 
--- for so many more nodes there is an id, which is below the number of keys
+-- for `numbers` more nodes there is an id, which is below the number of keys
 pub record NodeShelf : Type 0 where
   pub nodes : List Node
   pub numbers : ℕ
@@ -15,7 +15,7 @@ pub record NodeStock : Type 0 where
   pub room : ℕ
   pub rooms : List ℕ
 
--- the ids that are left of so many keys: an id has 32 bits
+-- the ids that are left of `keys`, of which `used` are in use: an id has 32 bits
 abbrev pub ids_left : ℕ → ℕ → ℕ
 ids_left keys used = if keys - 2 ^ 32 == zero then keys - used else zero
 

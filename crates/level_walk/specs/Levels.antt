@@ -24,7 +24,7 @@ most_level = 4096
 abbrev pub visit_of : ℕ → ℕ → Start
 visit_of level vertex = record { prio = level; body = record { kind = 0; at = vertex - 1; arg = 0 } }
 
--- the priority and the body are those of a visit to one of so many vertices
+-- the priority and the body are those of a visit to one of `vertices` vertices
 pub record IsVisit (vertices prio : ℕ) (body : Body) : Type 0 where
   pub kind : body.kind ≡ 0
   pub vertex : body.at < vertices

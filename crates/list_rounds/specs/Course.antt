@@ -42,7 +42,7 @@ pub record IsEndBehind {V : Type 0} (ended : ℕ) (text : List ℕ) (e last : Ex
   pub count_is : length e.log ≡ ended + length last.log
 
 module _ {V : Type 0} (app : Application V) (start : State V) where
-  -- once so many tasks have ended, with this text, what is left of the execution from the start comes to what the one from here does
+  -- once `ended` tasks have ended, with this text, what is left of the execution from the start comes to what the one from here does
   abbrev pub GoesOnFrom : ℕ → List ℕ → State V → Type 0
   GoesOnFrom ended text here = (limit : ℕ) → BothEnd (IsEndBehind ended text) (run_from app.act (ended + limit) end start) (run_from app.act limit end here)
 

@@ -46,7 +46,7 @@ module _ {V : Type 0} (app : Application V) where
   IsRunFault start limit (cause.Budget created most) = IsOverLimit start limit created most
   IsRunFault start limit cause.NoRoom = Unit {0}
 
-  -- where tasks act in turn from a state, and so many had ended before, this is how many tasks there are when first they are more than the limit
+  -- where tasks act in turn from a state, and `ended` had ended before, `created` is the number of tasks when first they are more than the limit
   abbrev pub PassesLimit : State V → ℕ → ℕ → List Task → ℕ → Type 0
   PassesLimit state ended limit [] created = ⊥
   PassesLimit state ended limit (task ∷ tasks) created =

@@ -1,4 +1,4 @@
--- A deck that is made from a number: so many inverters in a row.
+-- A deck that is made from a number, that of its inverters, which stand in a row.
 use Rattle.std.specs.Prelude.{ℕ, ◌+◌, [], ◌∷◌, ◌++◌, List, map, replicate, codes}
 use Rattle.std.specs.Fmt.{decimal}
 use Rattle.std.specs.List.{range_with_len}

@@ -11,7 +11,7 @@ bit_of high = if high then 1 else 0
 abbrev pub count_ones_of : List ℕ → ℕ
 count_ones_of values = count_by (λ value. value == 1) values
 
--- whether a gate of the kind is high where so many of its n inputs are 1
+-- whether a gate of the kind is high where `ones` of its `n` inputs are 1
 abbrev pub is_high : GateKind → ℕ → ℕ → Bool
 is_high And ones n = ones == n
 is_high Nand ones n = not (ones == n)

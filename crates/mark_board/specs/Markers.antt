@@ -5,7 +5,7 @@ use Rattle.rw_sets.specs.declared.access.Access.{Access}
 use Rattle.rw_sets.specs.Accesses.{Accesses, access_at, clash, excludes}
 use Rattle.mark_board.specs.declared.view.Mark.{Mark}
 
--- which board it is, in which of its rounds: so many can follow
+-- which board it is, in which of its rounds: `renewals` more can follow
 pub record BoardId : Type 0 where
   pub table : TableId
   pub renewals : ℕ

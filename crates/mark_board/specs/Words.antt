@@ -13,7 +13,7 @@ no_rank = 2 ^ 64 - 1
 abbrev pub ranks : ℕ
 ranks = 2 ^ 32
 
--- the first number of a round, where so many can follow it: later rounds have lower numbers
+-- the first number of a round that `renewals` more can follow: later rounds have lower numbers
 abbrev pub base_of : ℕ → ℕ
 base_of renewals = renewals * ranks
 

@@ -15,7 +15,7 @@ abbrev pub IsAscendingBy : {X : Type 0} → (X → X → Ordering) → List X �
 IsAscendingBy cmp [] = Unit {0}
 IsAscendingBy cmp (x ∷ xs) = AllByRecursion (λ y. cmp x y ≡ Less) xs × IsAscendingBy cmp xs
 
--- so many numbers from a first one on
+-- the numbers from a first one on, as many as are asked for
 abbrev pub numbers_from : ℕ → ℕ → List ℕ
 numbers_from first zero = []
 numbers_from first (suc count) = first ∷ numbers_from (suc first) count

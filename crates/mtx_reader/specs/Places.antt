@@ -19,7 +19,7 @@ place_cmp place other = ordering_then (nat_cmp place.0 other.0) (nat_cmp place.1
 abbrev pub is_among : List Place → Place → Bool
 is_among places place = list_any (is_same place) places
 
--- the places of so many rows from a first one on
+-- the places of the rows from a first one on, as many as are asked for
 abbrev pub places_from : ℕ → ℕ → ℕ → List Place
 places_from first zero columns = []
 places_from first (suc rows) columns = map (λ column. (first, column)) (numbers_from 1 columns) ++ places_from (suc first) rows columns

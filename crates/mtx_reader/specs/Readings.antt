@@ -56,7 +56,7 @@ ones_by fields.Integer rows columns named = places_named_oddly rows columns name
 abbrev pub pattern_of_kept : Field → Size → List Place → Pattern
 pattern_of_kept field size named = record { rows = size.rows; cols = size.columns; places = ones_by field size.rows size.columns named }
 
--- The pattern of a matrix of that size, where of so many entries these places were kept, and these lines are left; or the
+-- The pattern of a matrix of that size, where of `count` entries these places were kept, and these lines are left; or the
 -- first fault.
 abbrev pub answer_from : Banner → Size → ℕ → List Place → ℕ → List (Numbered LineForm) → Result Pattern Fault
 answer_from banner size count named end lines =

@@ -14,7 +14,7 @@ abbrev pub pull_by : {E : Type 0} → Result ℕ E → Pull
 pull_by (Ok count) = if count == 0 then End else Got count
 pull_by (Err error) = Failed
 
--- what a write of so many bytes comes to, by the writer's answer to the flush after it: bytes that aren't flushed may be lost
+-- what a write of `count` bytes comes to, by the writer's answer to the flush after it: bytes that aren't flushed may be lost
 abbrev pub push_by : {U E : Type 0} → ℕ → Result U E → Push
 push_by count (Ok done) = pushes.Took count
 push_by count (Err error) = pushes.Failed

@@ -26,7 +26,7 @@ entries_in (block ∷ blocks) = block ++ entries_in blocks
 abbrev pub block_at : List (List Entry) → ℕ → List Entry
 block_at blocks at = slice_index_or blocks at []
 
--- the entries before a place: those of the blocks before it, and so many of its own block
+-- the entries before a place: those of the blocks before block `at`, and the first `place` of its own block
 abbrev pub entries_to : List (List Entry) → ℕ → ℕ → List Entry
 entries_to blocks at place = entries_in (take at blocks) ++ take place (block_at blocks at)
 

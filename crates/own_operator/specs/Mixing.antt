@@ -25,7 +25,7 @@ first_among groups = map first_at (range_with_len 0 groups)
 unfoldable pub group_tasks : List Start
 group_tasks = first_among 64
 
--- a value after so many multiplications, without what goes beyond 2^64
+-- a value after `times` multiplications, without what goes beyond 2^64
 abbrev pub multiplied : ℕ → ℕ → ℕ
 multiplied value times = (value * 6364136223846793005 ^ times) % 2 ^ 64
 

@@ -152,7 +152,7 @@ module _ {V : Type 0} (app : Application V) where
     pub cells_are : bound ≡ end → e.cells ≡ rest.cells
 
   module _ (start : Progress V) (cells : List V) where
-    -- the log of the sequential run from the start, after so many steps
+    -- the log of the sequential run from the start, after `steps` steps
     abbrev pub log_after : ℕ → List Entry
     log_after steps = (after_steps app.act steps (execution_from (whole_state start cells))).log
 

@@ -47,7 +47,7 @@ trails = record {
 abbrev pub first_trails : List Trail
 first_trails = record { path = 0 ∷ [] } ∷ record { path = 0 ∷ [] } ∷ []
 
--- a task at each place, with so many more after it
+-- a task at each place, with `more` after it
 abbrev pub first_passings : ℕ → List Start
 first_passings more =
     record { prio = 0; body = record { kind = 0; at = 0; arg = more } }

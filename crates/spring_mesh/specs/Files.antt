@@ -55,22 +55,22 @@ most_springs = 16384
 abbrev pub fault_where : Bool → LineFault → Option LineFault
 fault_where test fault = if test then Some fault else None
 
--- whether a number, counted from 1, is one of so many nodes
+-- whether a number, counted from 1, is that of one of `nodes` nodes
 abbrev pub is_one_of : ℕ → ℕ → Bool
 is_one_of nodes number = nat_le 1 number && nat_le number nodes
 
--- whether the ends of a spring are two of so many nodes
+-- whether the ends of a spring are two of `nodes` nodes
 abbrev pub are_two_of : ℕ → SpringDraft → Bool
 are_two_of nodes draft = is_one_of nodes draft.a && is_one_of nodes draft.b && not (draft.a == draft.b)
 
--- the line has a node or a spring more than there may be, or ends that are no two nodes, where there are so many before it
+-- the line has a node or a spring more than there may be, or ends that are no two nodes, where `nodes` and `springs` are before it
 abbrev pub statement_fault : ℕ → ℕ → Statement → Option LineFault
 statement_fault nodes springs (says.Node node mass) = fault_where (nat_le most_nodes nodes) (beyond most_nodes)
 statement_fault nodes springs (says.Spring draft) =
     option_or (fault_where (not (are_two_of nodes draft)) no_node) (fault_where (nat_le most_springs springs) (beyond most_springs))
 statement_fault nodes springs (says.End time) = None
 
--- the line's own fault, or what is wrong with it where so many nodes and springs are before it
+-- the line's own fault, or what is wrong with it where `nodes` nodes and `springs` springs are before it
 abbrev pub form_fault : ℕ → ℕ → LineForm → Option LineFault
 form_fault nodes springs (Ok statement) = statement_fault nodes springs statement
 form_fault nodes springs (Err fault) = Some fault
@@ -101,7 +101,7 @@ pub record IsMass (mass : ℤ) : Type 0 where
   pub some : pos 1 ≤ℤ mass
   pub most : mass ≤ℤ pos most_mass
 
--- the ends are two of so many nodes, and the numbers are in their ranges
+-- the ends are two of `nodes` nodes, and the numbers are in their ranges
 pub record IsSpring (nodes : ℕ) (spring : Spring) : Type 0 where
   pub a : spring.a < nodes
   pub b : spring.b < nodes

@@ -1,4 +1,4 @@
--- A mesh that is made from a number: so many pairs of nodes, each with a spring of its own.
+-- A mesh that is made from a number, that of its pairs of nodes, each of which has a spring of its own.
 use Rattle.std.specs.Prelude.{ℕ, ◌+◌, ◌*◌, List, [], ◌∷◌, ◌++◌, map, replicate, ℤ, pos}
 use Rattle.std.specs.List.{flat_map, range_with_len}
 use Rattle.spring_mesh.specs.declared.file.MeshFile.{MeshFile}

@@ -91,7 +91,7 @@ pub record IsFound (key : Key) (blocks : List (List Task)) (at place : ℕ) : Ty
 abbrev pub IsElsewhere : Key → List (List Task) → ℕ → ℕ → Type 0
 IsElsewhere key blocks at place = (task : Task) → slice_get (block_at blocks at) place ≡ Some task → task.key ≢ key
 
--- the blocks of a list with so many tasks
+-- the blocks of a list with `len` tasks
 pub record AreBlocks (blocks : List (List Task)) (len : ℕ) : Type 0 where
   pub ascending : IsAscending (tasks_in blocks)
   pub gapless : IsGapless blocks

@@ -19,13 +19,13 @@ item_rest run number =
 abbrev pub item : ℕ → ℕ → List ℕ
 item run number = head_byte run number ∷ item_rest run number
 
--- the bytes of the numbers, behind so many zeros
+-- the bytes of the numbers, behind `run` zeros
 abbrev pub code_bytes : ℕ → List ℕ → List ℕ
 code_bytes run [] = []
 code_bytes run (zero ∷ numbers) = code_bytes (run + 1) numbers
 code_bytes run (suc n ∷ numbers) = item run (suc n) ++ code_bytes 0 numbers
 
--- how many zeros are at the end, behind so many zeros
+-- how many zeros are at the end, behind `run` zeros
 abbrev pub end_zeros : ℕ → List ℕ → ℕ
 end_zeros run [] = run
 end_zeros run (zero ∷ numbers) = end_zeros (run + 1) numbers
@@ -84,7 +84,7 @@ read_on reading (byte ∷ bytes) = read_on (read_byte reading byte) bytes
 unfoldable pub read_all : List ℕ → Reading
 read_all bytes = read_on (record { numbers = []; part = [] }) bytes
 
--- the numbers that are kept as these bytes, and so many zeros at the end
+-- the numbers that are kept as these bytes, and `run` zeros at the end
 abbrev pub numbers_of : List ℕ → ℕ → List ℕ
 numbers_of bytes run = (read_all bytes).numbers ++ replicate run 0
 
