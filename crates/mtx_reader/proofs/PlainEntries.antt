@@ -1,11 +1,14 @@
 -- Lines of two numbers with one space between.
-use Rattle.std.specs.Prelude.{◌≡◌, ℕ, ◌+◌, ◌<◌, ◌^◌, ◌==◌, ◌&&◌, Bool, true, false, not, List, [], ◌∷◌, ◌++◌, length, take, drop, position, Option, None, Some, IfSome, Result, Ok, Err, cond, pos, refl}
+use Rattle.std.specs.Prelude.{◌≡◌, ℕ, ◌+◌, ◌-◌, ◌*◌, ◌<◌, ◌≤◌, ◌^◌, nat_lt, ◌==◌, ◌&&◌, Bool, true, false, not, List, [], ◌∷◌, ◌++◌, length, take, drop, Option, None, Some, Result, Ok, Err, cond, pos, refl}
 use Rattle.std.specs.Char.{is_ascii_digit}
 use Rattle.std.specs.List.{list_all, onto_first}
-use Rattle.std.proofs.Common.{arith, ap, sym, subst, ◌∙◌, append-nil, get_or}
-use Rattle.std.proofs.lemmas.Bool.{eqb-true}
-use Rattle.std.proofs.lemmas.List.{drop_more, take-append-drop}
-use Rattle.std.proofs.lemmas.List.Quantifiers.{position-Some}
+use Rattle.std.proofs.Common.{rules, arith, ap, sym, subst, ◌∙◌, append-nil, get_or}
+use Rattle.std.specs.Str.Parse.{digits_value}
+use Rattle.std.proofs.lemmas.Bool.{eqb-true, lt-ltb}
+use Rattle.std.proofs.lemmas.Int.Digits.{digits_value_more}
+use Rattle.std.proofs.lemmas.List.{drop_more, length-take, take-append-drop, take_more}
+use Rattle.std.proofs.lemmas.Str.{digit_value_digit}
+use Rattle.std.proofs.lemmas.Str.Parse.{IsNumeralModel, numerals_by_weight, digits_value_short, digit_at}
 use Rattle.kdg_text.specs.declared.number.NumFault.{NumFault}
 use Rattle.kdg_text.specs.declared.number.NumFault.TheVariants.{NotDigit, Empty}
 use Rattle.kdg_text.specs.Numbers.{below, u64_of, value_of_digits}
@@ -83,18 +86,52 @@ plain-form front rest row column said told =
     ∙ ap (λ found. form-by found (u64_of rest)) said
     ∙ ap (form-by (Ok row)) told
 
--- a line whose parts before and behind its first space are numbers
-pub plain_line : (line : List ℕ) (at : ℕ) → position (λ byte. byte == 32) line ≡ Some at
-    → IfSome (entry_from (u64_of (take at line)) (u64_of (drop (at + 1) line)) (Ok (pos 1))) (λ entry. form_of Pattern line ≡ Some (record { size = None; entry = Some entry }))
-plain_line line at place = by (u64_of (take at line)) (u64_of (drop (at + 1) line)) refl refl
+-- a line of two numbers with a space between
+pub plain_line : (line : List ℕ) (at row column : ℕ) → at < length line → get_or line at 0 ≡ 32 → u64_of (take at line) ≡ Ok row → u64_of (drop (at + 1) line) ≡ Ok column
+    → form_of Pattern line ≡ form-by (Ok row) (Ok column)
+plain_line line at row column inside space said told = ap (form_of Pattern) parts ∙ plain-form (take at line) (drop (at + 1) line) row column said told
   where
     parts : line ≡ take at line ++ 32 ∷ drop (at + 1) line
-    parts =
-        let found = position-Some (λ byte. byte == 32) line at 0 place in
-        sym (take-append-drop at line) ∙ ap (λ rest. take at line ++ rest) (drop_more line at 0 found.0 ∙ ap (λ byte. byte ∷ drop (at + 1) line) (eqb-true (get_or line at 0) 32 found.1))
+    parts = sym (take-append-drop at line) ∙ ap (λ rest. take at line ++ rest) (drop_more line at 0 inside ∙ ap (λ byte. byte ∷ drop (at + 1) line) space)
 
-    by : (one two : Result ℕ NumFault) → u64_of (take at line) ≡ one → u64_of (drop (at + 1) line) ≡ two
-        → IfSome (entry_from one two (Ok (pos 1))) (λ entry. form_of Pattern line ≡ Some (record { size = None; entry = Some entry }))
-    by (Ok row) (Ok column) said told = ap (form_of Pattern) parts ∙ plain-form (take at line) (drop (at + 1) line) row column said told
-    by (Ok row) (Err fault) said told = tt
-    by (Err fault) two said told = tt
+-- std's lemmas on numerals hold of these digits and this value
+own : IsNumeralModel (λ word. list_all is_ascii_digit word ≡ true) value_of_digits
+own = numerals_by_weight _ (search rules) value_of_digits (search rules)
+
+-- one digit more
+pub digits_more : (bytes : List ℕ) (i : ℕ) → i < length bytes → list_all is_ascii_digit (take i bytes) ≡ true → is_ascii_digit (get_or bytes i 0) ≡ true → list_all is_ascii_digit (take (i + 1) bytes) ≡ true
+digits_more bytes i inside all here = ap (list_all is_ascii_digit) (take_more bytes i 0 inside) ∙ push (take i bytes) (get_or bytes i 0) all here
+  where
+    push : (digits : List ℕ) (digit : ℕ) → list_all is_ascii_digit digits ≡ true → is_ascii_digit digit ≡ true → list_all is_ascii_digit (digits ++ digit ∷ []) ≡ true
+    push [] digit all here = ap (λ first. first && true) here
+    push (x ∷ xs) digit all here =
+        let rest = push xs digit (second-true (is_ascii_digit x) (list_all is_ascii_digit xs) all) here in
+        ap (λ others. is_ascii_digit x && others) rest ∙ ap (λ first. first && true) (first-true (is_ascii_digit x) (list_all is_ascii_digit xs) all)
+
+-- the value with one digit more, which is small where there are few digits
+pub value_with : (bytes : List ℕ) (i : ℕ) → i < length bytes → is_ascii_digit (get_or bytes i 0) ≡ true → digits_value 10 (take (i + 1) bytes) ≡ 10 * digits_value 10 (take i bytes) + (get_or bytes i 0 - 48)
+value_with bytes i inside here =
+    let digit = digit_value_digit _ (digit_at (get_or bytes i 0 ∷ []) 0 (own.to (get_or bytes i 0 ∷ []) (ap (λ first. first && true) here)) (omega arith)) in
+    let more = digits_value_more 10 bytes i inside in
+    omega arith
+
+pub few_digits : (bytes : List ℕ) (i : ℕ) → length bytes ≤ 19 → list_all is_ascii_digit (take i bytes) ≡ true → digits_value 10 (take i bytes) < 2 ^ 64
+few_digits bytes i few all =
+    let short : length (take i bytes) ≤ 19 = omega (arith, length-take i bytes) in
+    let small = digits_value_short own (take i bytes) 19 all short in
+    let same = own.same (take i bytes) (own.to (take i bytes) all) in
+    omega arith
+
+-- what digits spell as a number
+number_from_digits : (word : List ℕ) → 0 < length word → list_all is_ascii_digit word ≡ true → digits_value 10 word < 2 ^ 64 → u64_of word ≡ Ok (digits_value 10 word)
+number_from_digits [] some all small = absurd (omega arith)
+number_from_digits (byte ∷ bytes) some all small =
+    let same = own.same (byte ∷ bytes) (own.to (byte ∷ bytes) all) in
+    let test : nat_lt (value_of_digits (byte ∷ bytes)) (2 ^ 64) ≡ true = lt-ltb _ _ (omega arith) in
+    rw (all, test) (ap Ok same)
+
+-- the same of the digits in front of anything else
+pub number_so_far : (bytes : List ℕ) (i len value : ℕ) → length bytes ≤ 19 → i ≤ length bytes → len ≡ i → list_all is_ascii_digit (take i bytes) ≡ true → value ≡ digits_value 10 (take i bytes)
+    → 0 < len → u64_of (take len bytes) ≡ Ok value
+number_so_far bytes i len value few inside same all is some =
+    rw (same, is) (number_from_digits (take i bytes) (omega (arith, length-take i bytes)) all (few_digits bytes i few all))

@@ -1,4 +1,4 @@
-ghost use Rattle.std.specs.Prelude.{◌≡◌, ◌==◌, ◌∷◌, [], None, Some, position, IfSome};
+ghost use Rattle.std.specs.Prelude.{◌≡◌, ◌<◌, ◌≤◌, ◌∷◌, [], Ok, None, Some, length, take, IfSome};
 ghost use Rattle.kdg_text.specs.Numbers.{u64_of};
 ghost use Rattle.mtx_reader.specs.LineForms.{is_comment, form_of, form_of_words, size_from, entry_from};
 
@@ -28,12 +28,16 @@ pub(crate) struct LineForm {
     pub(crate) entry: Option<Entry>,
 }
 
+/// No number of so many digits is too great.
+const MOST_DIGITS: usize = 19;
+
 const NEITHER: LineForm = LineForm {
     size: None,
     entry: None,
 };
 
 /// What a line says where entries have that field, or nothing where it is a comment or has no words.
+#[inline(always)]
 pub(crate) fn form_of(field: Field, line: &[u8]) -> Option<LineForm>
     ensures { result ≡ form_of field line.now }
 {
@@ -50,7 +54,9 @@ pub(crate) fn form_of(field: Field, line: &[u8]) -> Option<LineForm>
     }
 }
 
-/// What it says, by its words.
+/// What it says, by its words. This is apart, so that the lines that are read without their words take
+/// less time.
+#[inline(never)]
 fn form_by_words(field: Field, line: &[u8]) -> Option<LineForm>
     ensures { result ≡ form_of field line.now }
 {
@@ -64,19 +70,53 @@ fn form_by_words(field: Field, line: &[u8]) -> Option<LineForm>
 
 /// The entry of a pattern that a line says by two numbers with one space between, as most lines do. That
 /// takes less time than to cut the line into words.
+#[inline(always)]
 fn plain_entry(line: &[u8]) -> Option<Entry>
     ensures { IfSome result (λ entry. form_of Field.Pattern line.now ≡ Some (record { size = None; entry = Some entry })) }
 {
-    match first_space(line) {
-        None => None,
-        Some(end) => entry_from(&line[..end], &line[end + 1..], Ok(1)),
+    if line.len() > MOST_DIGITS {
+        return None;
     }
+    let row = leading_number(line);
+    if row.len == 0 || row.len == line.len() || line[row.len] != b' ' {
+        return None;
+    }
+    let rest = &line[row.len + 1..];
+    let column = leading_number(rest);
+    if column.len == 0 || column.len < rest.len() {
+        return None;
+    }
+    Some(Entry {
+        row: row.value,
+        column: column.value,
+        value: 1,
+    })
 }
 
-fn first_space(line: &[u8]) -> Option<usize>
-    ensures { result ≡ position (λ byte. byte == 32) line.now }
+/// A number, and how many digits spell it. Without a digit it is 0.
+#[derive(Clone, Copy)]
+struct Leading {
+    value: u64,
+    len: usize,
+}
+
+/// The number that the digits in front of anything else spell, in one pass.
+#[inline(always)]
+fn leading_number(bytes: &[u8]) -> Leading
+    requires { length bytes.now ≤ MOST_DIGITS }
+    ensures within { result.len ≤ length bytes.now }
+    ensures number { 0 < result.len → u64_of (take result.len bytes.now) ≡ Ok result.value }
 {
-    line.iter().position(|byte| *byte == b' ')
+    let mut value = 0u64;
+    let mut len = 0;
+    for byte in bytes {
+        if !byte.is_ascii_digit() {
+            return Leading { value, len };
+        }
+        value = 10 * value + u64::from(byte - b'0');
+        len += 1;
+    }
+    Leading { value, len }
 }
 
 /// Whether a line is a comment.

@@ -81,6 +81,7 @@ pub(crate) struct SaidLine {
 }
 
 /// The next line that says something. Where there is none, the lines are at their end.
+#[inline(always)]
 fn next_said(field: Field, lines: &mut Lines) -> Option<SaidLine>
     ensures said { MatchOption result (forms_left field lines.old ≡ []) (λ line. forms_left field lines.old ≡ numbered_form line ∷ forms_left field lines.new) }
     ensures end { end_of lines.new ≡ end_of lines.old }
