@@ -44,7 +44,7 @@ struct Ones {
 }
 
 impl Ones {
-    /// A matrix in which about one place of so many has a one.
+    /// A matrix in which about one place of `of_places` has a one.
     fn random(
         alloc: Global,
         words: &mut Words,
@@ -137,16 +137,41 @@ fn cover_of(
     Ok(cover)
 }
 
-/// The covers of two columns, apart and joined, and what they have in common.
-fn compare(
-    rt: &impl Abort,
+/// Whether a cover has the locations that one of two columns needs, and no others.
+fn has_needs(ones: &Ones, matrix: &Matrix, cover: &LineCover, column: u32, other: u32) -> bool {
+    for loc in 0..matrix.cells() {
+        let is_needed = ones.needs(column, loc) || ones.needs(other, loc);
+        if matrix.has(cover, loc) != is_needed {
+            return false;
+        }
+    }
+    true
+}
+
+/// Whether each of these is a location that two columns need, where there is one.
+fn are_met(ones: &Ones, found: &[Option<u32>], column: u32, other: u32, cells: u32) -> bool {
+    let meet = ones.meet(column, other, cells);
+    for found in found {
+        let is_wanted = match *found {
+            Some(loc) => meet && ones.needs(column, loc) && ones.needs(other, loc),
+            None => !meet,
+        };
+        if !is_wanted {
+            return false;
+        }
+    }
+    true
+}
+
+/// Whether the covers of two columns, apart and joined, have what they need, and meet where they do.
+fn have_sets(
     alloc: Global,
     ones: &Ones,
     matrix: &Matrix,
     store: &Store<Line2>,
     column: u32,
     other: u32,
-) -> Result<(), Fail>
+) -> Result<bool, Fail>
     requires column { column < matrix.now.cols }
     requires other { other < matrix.now.cols }
     requires home { store.now ≡ homes (values_of store.now) }
@@ -156,54 +181,66 @@ fn compare(
     let two = cover_of(alloc, matrix, store, other)?;
     let mut both = cover_of(alloc, matrix, store, column)?;
     matrix.join(&mut both, &two)?;
-    for loc in 0..matrix.cells() {
-        let needed = (ones.needs(column, loc), ones.needs(other, loc));
-        assert_eq!(rt; matrix.has(&one, loc), needed.0);
-        assert_eq!(rt; matrix.has(&two, loc), needed.1);
-        assert_eq!(rt; matrix.has(&both, loc), needed.0 || needed.1);
-    }
-    let meet = ones.meet(column, other, matrix.cells());
-    for found in [
+    let found = [
         matrix.shared(&one, &two),
         matrix.common(&body_of(column), store, &two),
         matrix.common(&body_of(other), store, &one),
-    ] {
-        assert_eq!(rt; found.is_some(), meet);
-        if let Some(loc) = found {
-            assert!(rt; ones.needs(column, loc) && ones.needs(other, loc));
-        }
-    }
-    let core = matrix.core(&body_of(column));
-    assert!(rt; core < matrix.cells() && ones.needs(column, core));
-    let mut cores = matrix.no_cover(alloc);
-    matrix.put(&mut cores, core)?;
-    assert_eq!(rt; matrix.common(&body_of(column), store, &cores), Some(core));
-    assert_eq!(rt;
-        matrix.common(&body_of(other), store, &cores).is_some(),
-        ones.needs(other, core)
-    );
-    Ok(())
+    ];
+    Ok(
+        has_needs(ones, matrix, &one, column, column)
+            && has_needs(ones, matrix, &two, other, other)
+            && has_needs(ones, matrix, &both, column, other)
+            && are_met(ones, &found, column, other, matrix.cells()),
+    )
 }
 
-/// Each of the columns of a matrix beside one of the others.
-fn compare_columns(
-    rt: &impl Abort,
+/// Whether the core of a column is a location that it needs, and is found in common with another column
+/// where that one needs it too.
+fn has_core(
+    alloc: Global,
+    ones: &Ones,
+    matrix: &Matrix,
+    store: &Store<Line2>,
+    column: u32,
+    other: u32,
+) -> Result<bool, Fail>
+    requires column { column < matrix.now.cols }
+    requires other { other < matrix.now.cols }
+    requires home { store.now ≡ homes (values_of store.now) }
+    requires fit { AreLines matrix.now.rows matrix.now.cols (values_of store.now) }
+{
+    let core = matrix.core(&body_of(column));
+    if core >= matrix.cells() || !ones.needs(column, core) {
+        return Ok(false);
+    }
+    let mut cores = matrix.no_cover(alloc);
+    matrix.put(&mut cores, core)?;
+    let own = matrix.common(&body_of(column), store, &cores);
+    let others = matrix.common(&body_of(other), store, &cores);
+    Ok(own == Some(core) && others.is_some() == ones.needs(other, core))
+}
+
+/// Whether each of the columns of a matrix and one of the others beside it have their sets and cores.
+fn are_alike(
     alloc: Global,
     ones: &Ones,
     matrix: &Matrix,
     store: &Store<Line2>,
     columns: u32,
     apart: u32,
-) -> Result<(), Fail>
+) -> Result<bool, Fail>
     requires columns { columns ≡ matrix.now.cols }
     requires home { store.now ≡ homes (values_of store.now) }
     requires fit { AreLines matrix.now.rows matrix.now.cols (values_of store.now) }
 {
     for column in 0..columns {
         let other = (column / 2 + apart % 100) % columns;
-        compare(rt, alloc, ones, matrix, store, column, other)?;
+        let have_sets = have_sets(alloc, ones, matrix, store, column, other)?;
+        if !have_sets || !has_core(alloc, ones, matrix, store, column, other)? {
+            return Ok(false);
+        }
     }
-    Ok(())
+    Ok(true)
 }
 
 /// Reads a matrix, and compares all its columns.
@@ -216,7 +253,11 @@ fn compare_all(rt: &impl Abort, alloc: Global, ones: &Ones, apart: u32) -> Resul
     let matrix = Matrix::new(alloc, pattern);
     let cells = matrix.first_cells()?;
     let store = Store::new(alloc, cells)?;
-    compare_columns(rt, alloc, ones, &matrix, &store, columns, apart)
+    assert!(rt;
+        are_alike(alloc, ones, &matrix, &store, columns, apart)?,
+        "{apart}"
+    );
+    Ok(())
 }
 
 #[test]

@@ -15,4 +15,6 @@ mod meshes;
 #[cfg(test)]
 mod patterns;
 #[cfg(test)]
+mod rows;
+#[cfg(test)]
 mod springs;
