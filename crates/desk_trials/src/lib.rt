@@ -4,4 +4,6 @@
 #[cfg(test)]
 mod doubling;
 #[cfg(test)]
+mod kept;
+#[cfg(test)]
 mod tests;

@@ -2,14 +2,19 @@
 #![tactic(auto)]
 
 mod desk;
+mod errand;
 mod outcomes;
+mod partner;
 mod pausing;
 mod seats;
+mod serving;
 mod steps;
 mod view;
 
 pub use desk::Desk;
+pub use errand::{Answer, Errand};
 pub use outcomes::{Collected, Taken};
+pub use partner::{Partner, Server, meet};
 pub use seats::{Giver, Task, Ticket, Worker};
 pub use steps::{Deed, Kept};
 pub use view::{Part, View};

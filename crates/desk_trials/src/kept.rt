@@ -1,0 +1,46 @@
+//! Numbers that are doubled by a kept worker.
+
+ghost use Rattle.std.specs.Prelude.{◌≡◌, ◌*◌, ◌<◌, IfSome};
+
+use crate::doubling::Doubling;
+use work_desk::{Answer, Partner, Server};
+
+/// Doubles all numbers that come.
+pub(crate) fn serve_kept(server: Server<u64, Doubling>) {
+    server.serve(
+        &|x: u64| -> u64
+            requires { x < 1000 }
+            ensures { result ≡ 2 * x }
+        { 2 * x },
+    );
+}
+
+/// Twice a number, by the worker or by hand, and the partner again.
+pub(crate) fn kept_double(
+    partner: Partner<u64, Doubling>,
+    x: u64,
+) -> Option<(Partner<u64, Doubling>, u64)>
+    requires { x < 1000 }
+    ensures { IfSome result (λ made. made.1 ≡ 2 * x) }
+{
+    match partner.give(x).collect() {
+        Answer::Done(partner, y) => Some((partner, y)),
+        Answer::Back(partner, x) => Some((partner, 2 * x)),
+        Answer::Lost => None,
+    }
+}
+
+/// The sum of the doubles of 0, 1 and so on. The worker is then told that nothing more comes.
+pub(crate) fn kept_sum(partner: Partner<u64, Doubling>, count: u64) -> Option<u64>
+    requires { count < 1000 }
+{
+    let mut partner = partner;
+    let mut sum = 0u64;
+    for x in 0..count {
+        let (back, double) = kept_double(partner, x)?;
+        partner = back;
+        sum = sum.wrapping_add(double);
+    }
+    partner.close();
+    Some(sum)
+}
