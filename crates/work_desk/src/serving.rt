@@ -11,6 +11,9 @@ use crate::steps::Deed;
 /// How often one looks at a time.
 const LOOKS: u32 = 1_000_000;
 
+/// How often in a row a worker looks so often in vain before it stops: some half a minute.
+const PATIENCE: u32 = 64;
+
 /// How often one looks so often. That is for longer than any work takes.
 const TURNS: u64 = 1 << 40;
 
@@ -22,11 +25,19 @@ impl<T: Drop, K, D: Deed<T, K>> Desk<T, K, D> {
         requires done { (x y : T) → D.may worker.key x → F.post perform.now x y → D.done worker.key x y }
     {
         let mut worker = worker;
+        let mut vain = 0u32;
         for _ in 0..TURNS {
             match self.try_take(worker) {
-                Taken::Work(task, x) => worker = self.finish(task, perform(x)),
+                Taken::Work(task, x) => {
+                    worker = self.finish(task, perform(x));
+                    vain = 0;
+                }
                 Taken::Nothing(back) => {
                     worker = back;
+                    if vain >= PATIENCE {
+                        return;
+                    }
+                    vain += 1;
                     self.look_for_work(LOOKS);
                 }
                 Taken::Closed => return,
