@@ -10,7 +10,7 @@ const LOOKS: u32 = 1_000_000;
 /// A number below a thousand is doubled.
 pub(crate) struct Doubling;
 
-impl<K> Deed<u64, K> for Doubling {
+impl Deed<u64, u32> for Doubling {
     ghost use Rattle.desk_trials.specs.Doubling.{is_small, is_double};
 
     ghost may = { is_small };

@@ -6,7 +6,7 @@ use crate::doubling::Doubling;
 use work_desk::{Answer, Partner, Server};
 
 /// Doubles all numbers that come.
-pub(crate) fn serve_kept(server: Server<u64, Doubling>) {
+pub(crate) fn serve_kept(server: Server<u64, u32, Doubling>) {
     server.serve(
         &|x: u64| -> u64
             requires { x < 1000 }
@@ -17,9 +17,9 @@ pub(crate) fn serve_kept(server: Server<u64, Doubling>) {
 
 /// Twice a number, by the worker or by hand, and the partner again.
 pub(crate) fn kept_double(
-    partner: Partner<u64, Doubling>,
+    partner: Partner<u64, u32, Doubling>,
     x: u64,
-) -> Option<(Partner<u64, Doubling>, u64)>
+) -> Option<(Partner<u64, u32, Doubling>, u64)>
     requires { x < 1000 }
     ensures { IfSome result (λ made. made.1 ≡ 2 * x) }
 {
@@ -31,7 +31,7 @@ pub(crate) fn kept_double(
 }
 
 /// The sum of the doubles of 0, 1 and so on. The worker is then told that nothing more comes.
-pub(crate) fn kept_sum(partner: Partner<u64, Doubling>, count: u64) -> Option<u64>
+pub(crate) fn kept_sum(partner: Partner<u64, u32, Doubling>, count: u64) -> Option<u64>
     requires { count < 1000 }
 {
     let mut partner = partner;

@@ -26,7 +26,7 @@ fn work_that_nobody_takes_comes_back(rt: HostRuntime) -> Result<(), Fail> {
 
 #[test]
 fn partners_give_round_after_round(rt: HostRuntime) -> Result<(), Fail> {
-    let (partner, server) = meet::<u64, Doubling>(rt.alloc())?;
+    let (partner, server) = meet::<u64, u32, Doubling>(rt.alloc(), &0)?;
     let (sum, ()) = join(
         &rt,
         move || kept_sum(partner, 900),
@@ -38,7 +38,7 @@ fn partners_give_round_after_round(rt: HostRuntime) -> Result<(), Fail> {
 
 #[test]
 fn a_partner_without_a_server_gets_its_work_back(rt: HostRuntime) -> Result<(), Fail> {
-    let (partner, _server) = meet::<u64, Doubling>(rt.alloc())?;
+    let (partner, _server) = meet::<u64, u32, Doubling>(rt.alloc(), &0)?;
     assert_eq!(rt; kept_sum(partner, 10), Some(90));
     Ok(())
 }

@@ -11,3 +11,8 @@ pub record BusyState (T K : Type 0) : Type 0 where
   pub desk : TableId
   pub key : K
   pub given : T
+
+-- work that was given and hasn't come back, and what the desk was told when it was made
+pub record ErrandState (T K : Type 0) : Type 0 where
+  pub key : K
+  pub given : T

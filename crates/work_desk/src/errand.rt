@@ -11,37 +11,39 @@ use crate::steps::Deed;
 use std::marker::Model;
 use std::sync::Arc;
 
-/// Work that a kept worker was given and that hasn't come back. It is seen as that work.
+/// Work that a kept worker was given and that hasn't come back. It is seen as that work and what
+/// the desk was told.
 #[derive(Drop)]
-pub struct Errand<T: Drop, D: Deed<T, ()>> {
-    pub(crate) desk: Arc<Desk<T, (), D>>,
-    pub(crate) ticket: Ticket<T, ()>,
+pub struct Errand<T: Drop, K, D: Deed<T, K>> {
+    pub(crate) desk: Arc<Desk<T, K, D>>,
+    pub(crate) ticket: Ticket<T, K>,
 }
 
-impl<T: Drop, D: Deed<T, ()>> Model for Errand<T, D> {
+impl<T: Drop, K, D: Deed<T, K>> Model for Errand<T, K, D> {
     ghost use Rattle.std.specs.Arc.{arc_value};
     ghost use Rattle.std.specs.Prelude.{◌≡◌};
+    ghost use Rattle.work_desk.specs.Seats.{ErrandState};
 
-    ghost Value = { T };
+    ghost Value = { ErrandState T K };
 
-    ghost view = { λ e. e.ticket.given };
+    ghost view = { λ e. record { key = e.ticket.key; given = e.ticket.given } };
 
     ghost invariant = { λ e. e.ticket.desk ≡ (arc_value e.desk).desk };
 }
 
 /// What comes of an errand.
-pub enum Answer<T: Drop, D: Deed<T, ()>> {
+pub enum Answer<T: Drop, K, D: Deed<T, K>> {
     /// The work was performed, with what came of it.
-    Done(Partner<T, D>, T),
+    Done(Partner<T, K, D>, T),
     /// No worker had taken it, so it is back as it was given.
-    Back(Partner<T, D>, T),
+    Back(Partner<T, K, D>, T),
     /// The worker has had it in hand for longer than one waits.
     Lost,
 }
 
-impl<T: Drop, D: Deed<T, ()>> Errand<T, D> {
+impl<T: Drop, K, D: Deed<T, K>> Errand<T, K, D> {
     /// What came of the work. Only a worker that has it in hand is waited for.
-    pub fn collect(self) -> Answer<T, D>
+    pub fn collect(self) -> Answer<T, K, D>
         ensures { IsAnswer D.done self result }
     {
         let Errand { desk, ticket } = self;

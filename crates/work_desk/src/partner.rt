@@ -1,7 +1,6 @@
 //! Workers that are kept over many rounds, each at a desk of its own.
 
-ghost use Rattle.std.specs.Arc.{arc_value};
-ghost use Rattle.std.specs.Prelude.{◌≡◌};
+ghost use Rattle.std.specs.Prelude.{◌≡◌, IfOk};
 
 use crate::desk::Desk;
 use crate::errand::Errand;
@@ -9,29 +8,54 @@ use crate::seats::{Giver, Worker};
 use crate::steps::Deed;
 use kdg_text::NoRoom;
 use std::alloc::Global;
+use std::marker::Model;
 use std::sync::Arc;
 
-/// A kept worker, as the thread sees it that gives it work.
+/// A kept worker, as the thread sees it that gives it work. It is seen as what its desk was told.
 #[derive(Drop)]
-pub struct Partner<T: Drop, D: Deed<T, ()>> {
-    pub(crate) desk: Arc<Desk<T, (), D>>,
-    pub(crate) giver: Giver<T, ()>,
-    ghost here: { giver.desk ≡ (arc_value desk).desk },
+pub struct Partner<T: Drop, K, D: Deed<T, K>> {
+    pub(crate) desk: Arc<Desk<T, K, D>>,
+    pub(crate) giver: Giver<T, K>,
 }
 
-/// A kept worker, as its own thread sees it.
+impl<T: Drop, K, D: Deed<T, K>> Model for Partner<T, K, D> {
+    ghost use Rattle.std.specs.Arc.{arc_value};
+    ghost use Rattle.std.specs.Prelude.{◌≡◌};
+
+    ghost Value = { K };
+
+    ghost view = { λ p. p.giver.key };
+
+    ghost invariant = { λ p. p.giver.desk ≡ (arc_value p.desk).desk };
+}
+
+/// A kept worker, as its own thread sees it. It is seen as what its desk was told.
 #[derive(Drop)]
-pub struct Server<T: Drop, D: Deed<T, ()>> {
-    desk: Arc<Desk<T, (), D>>,
-    worker: Worker<T, ()>,
-    ghost here: { worker.desk ≡ (arc_value desk).desk },
+pub struct Server<T: Drop, K, D: Deed<T, K>> {
+    desk: Arc<Desk<T, K, D>>,
+    worker: Worker<T, K>,
+}
+
+impl<T: Drop, K, D: Deed<T, K>> Model for Server<T, K, D> {
+    ghost use Rattle.std.specs.Arc.{arc_value};
+    ghost use Rattle.std.specs.Prelude.{◌≡◌};
+
+    ghost Value = { K };
+
+    ghost view = { λ s. s.worker.key };
+
+    ghost invariant = { λ s. s.worker.desk ≡ (arc_value s.desk).desk };
 }
 
 /// A kept worker, as both threads see it.
-pub fn meet<T: Drop, D: Deed<T, ()>>(
+pub fn meet<T: Drop, K, D: Deed<T, K>>(
     alloc: Global,
-) -> Result<(Partner<T, D>, Server<T, D>), NoRoom> {
-    let (desk, giver, worker) = Desk::<T, (), D>::new(alloc, &())?;
+    key: &K,
+) -> Result<(Partner<T, K, D>, Server<T, K, D>), NoRoom>
+    ensures partner { IfOk result (λ made. made.0 ≡ key.now) }
+    ensures server { IfOk result (λ made. made.1 ≡ key.now) }
+{
+    let (desk, giver, worker) = Desk::<T, K, D>::new(alloc, key)?;
     let Ok(desk) = Arc::new(alloc, desk) else {
         return Err(NoRoom);
     };
@@ -41,11 +65,11 @@ pub fn meet<T: Drop, D: Deed<T, ()>>(
     Ok((Partner { desk: other, giver }, Server { desk, worker }))
 }
 
-impl<T: Drop, D: Deed<T, ()>> Partner<T, D> {
+impl<T: Drop, K, D: Deed<T, K>> Partner<T, K, D> {
     /// Gives work. This waits for nobody and takes no memory.
-    pub fn give(self, x: T) -> Errand<T, D>
-        requires { D.may tt x }
-        ensures { result ≡ x }
+    pub fn give(self, x: T) -> Errand<T, K, D>
+        requires { D.may self x }
+        ensures { result ≡ record { key = self; given = x } }
     {
         let Partner { desk, giver } = self;
         let ticket = desk.give(giver, x);
@@ -59,11 +83,11 @@ impl<T: Drop, D: Deed<T, ()>> Partner<T, D> {
     }
 }
 
-impl<T: Drop, D: Deed<T, ()>> Server<T, D> {
+impl<T: Drop, K, D: Deed<T, K>> Server<T, K, D> {
     /// Performs all work that comes, until none will, or it has looked in vain for long.
     pub fn serve<F: Fn(T) -> T>(self, perform: &F)
-        requires may { (x : T) → D.may tt x → F.pre perform.now x }
-        requires done { (x y : T) → D.may tt x → F.post perform.now x y → D.done tt x y }
+        requires may { (x : T) → D.may self x → F.pre perform.now x }
+        requires done { (x y : T) → D.may self x → F.post perform.now x y → D.done self x y }
     {
         let Server { desk, worker } = self;
         desk.serve(worker, perform);
