@@ -1,9 +1,12 @@
 -- The numbers of a gate's fan-ins.
-use Rattle.std.proofs.Common.{arith, refl, ap, ◌∙◌, ◌≡◌, ◌<◌, ◌+◌, ◌||◌, true, false, [], ◌∷◌, ℕ, suc, List, Bool, Option, Some, None, length, drop, cond, Bor, MatchOption}
+use Rattle.std.proofs.Common.{arith, refl, ap, ◌∙◌, ◌≡◌, ◌<◌, ◌+◌, ◌&&◌, ◌||◌, true, false, [], ◌∷◌, ◌++◌, ℕ, suc, List, Bool, Option, Some, None, length, map, drop, cond, Bor, MatchOption, append_assoc}
 use Rattle.std.proofs.lemmas.List.{drop-drop}
+use Rattle.std.specs.List.{list_all}
+use Rattle.std.specs.Option.{option_map}
 use Rattle.std.specs.Str.{bytes_eq}
 use Rattle.bench_reader.specs.Decks.{is_among, place_of}
-use Rattle.bench_reader.specs.Outlines.{some_if, number_of}
+use Rattle.bench_reader.specs.LineForms.{names_among}
+use Rattle.bench_reader.specs.Outlines.{some_if, number_of, numbers_of}
 
 -- what a call for the next token leaves
 abbrev Leaves : List (List ℕ) → Option (Bor (List ℕ)) → List (List ℕ) → Type 0
@@ -34,3 +37,20 @@ number_of-found all name n number = by_test (is_among all name) (place_of-within
         let below = within refl in
         (refl, place, omega arith)
     by_test false within h = cc
+
+names_among-next : (name : List ℕ) (left new : List (List ℕ)) (mark : Option (Bor (List ℕ))) → Leaves left mark new → names_among (name ∷ left) ≡ name ∷ names_among new
+names_among-next name left new None gone = rw (gone.0, gone.1) refl
+names_among-next name left new (Some t) gone = rw gone refl
+
+-- the numbers of names go on with the number of the first of those to come, behind which a mark may stand
+pub numbers_of-next : (all : List (List ℕ)) (numbers : List ℕ) (old left new : List (List ℕ)) (name : List ℕ) (n : ℕ) (mark : Option (Bor (List ℕ)))
+    → old ≡ name ∷ left → Leaves left mark new → number_of all name ≡ Some n
+    → option_map (λ more. (numbers ++ n ∷ []) ++ more) (numbers_of all (names_among new)) ≡ option_map (λ more. numbers ++ more) (numbers_of all (names_among old))
+numbers_of-next all numbers old left new name n mark cut gone number =
+    let found = number_of-found all name n number in
+    let names : names_among old ≡ name ∷ names_among new = ap names_among cut ∙ names_among-next name left new mark gone in
+    rw (names, found.0, found.1) (by_test (list_all (is_among all) (names_among new)) (map (place_of all) (names_among new)))
+  where
+    by_test : (b : Bool) (rest : List ℕ) → option_map (λ more. (numbers ++ n ∷ []) ++ more) (some_if b rest) ≡ option_map (λ more. numbers ++ more) (some_if (true && b) (n ∷ rest))
+    by_test true rest = ap Some (append_assoc numbers (n ∷ []) rest)
+    by_test false rest = refl

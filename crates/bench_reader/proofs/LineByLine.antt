@@ -1,18 +1,19 @@
 -- The deck that is made line by line.
-use Rattle.std.proofs.Common.{◌<◌, ◌+◌, take, drop, get_or, add-one, refl, sym, ap, ◌∙◌, ◌≡◌, ◌==◌, ◌||◌, ◌&&◌, not, true, false, [], ◌∷◌, ◌++◌, ℕ, List, Bool, Option, Some, None, cond, map, filter, length, append-nil, option_to_list, arith}
+use Rattle.std.proofs.Common.{◌<◌, ◌+◌, take, drop, get_or, add-one, refl, sym, ap, ◌∙◌, ◌≡◌, ◌==◌, ◌||◌, ◌&&◌, not, true, false, [], ◌∷◌, ◌++◌, ℕ, List, Bool, Option, Some, None, Ok, ◌≤◌, cond, map, filter, length, append-nil, option_to_list, arith}
 use Rattle.std.proofs.lemmas.Bool.Decides.{nat_tests}
 use Rattle.std.proofs.Math.Seq.{drop-cons}
-use Rattle.std.proofs.lemmas.List.{map-append, take_more}
+use Rattle.std.proofs.lemmas.List.{map-append, take_more, take_all, drop_all}
 use Rattle.std.proofs.lemmas.List.Elements.{filter-append}
 use Rattle.std.proofs.lemmas.Map.Views.{any-filter_same}
 use Rattle.std.specs.List.{list_any}
 use Rattle.std.specs.Option.{option_map_or}
 use Rattle.kdg_text.specs.declared.fault.Fault.{Fault}
 use Rattle.kdg_text.specs.declared.fault.LineFault.{LineFault}
-use Rattle.kdg_text.specs.Faults.{Numbered, first_fault_after}
+use Rattle.kdg_text.specs.Faults.{Numbered, first_fault, first_fault_after, unless_fault}
 use Rattle.bench_reader.specs.declared.deck.Deck.{Deck}
 use Rattle.bench_reader.specs.LineForms.{LineForm}
-use Rattle.bench_reader.specs.Decks.{said, signal_names, output_by, stimulus_by, signal_by, signal_delay, place_of, firsts, deck_among}
+use Rattle.bench_reader.specs.Decks.{said, signal_names, output_by, stimulus_by, signal_by, signal_delay, place_of, firsts, deck_among, deck_with, late_fault}
+use Rattle.bench_reader.specs.Grammar.{deck_of_lines}
 use Rattle.bench_reader.specs.Outlines.{with_first, deck_plus}
 use Rattle.bench_reader.specs.declared.statement.NumberedStatement.{NumberedStatement}
 use Rattle.bench_reader.specs.Statements.{line_form, numbered_form}
@@ -80,3 +81,12 @@ faultless-step judge items k d whole below fits so_far =
     ap (λ before. first_fault_after judge before (map numbered_form (drop (k + 1) items))) (lines-more items k d below)
     ∙ sym (ap (first_fault_after judge (map numbered_form (take k items))) cut ∙ first_fault-fits judge (map numbered_form (take k items)) (map numbered_form (drop (k + 1) items)) (numbered_form (get_or items k d)) fits)
     ∙ so_far
+
+-- the deck once each line was gone over without a fault
+pub all-made : (lines : List (Numbered LineForm)) (items : List NumberedStatement) (k : ℕ) (deck : Deck) → length items ≤ k → map numbered_form items ≡ lines → deck ≡ deck_among lines (map numbered_form (take k items))
+    → first_fault_after (λ _. late_fault lines) (map numbered_form (take k items)) (map numbered_form (drop k items)) ≡ first_fault (λ _. late_fault lines) lines → deck_of_lines lines ≡ Ok deck
+all-made lines items k deck past whole made faultless =
+    let is_all : map numbered_form (take k items) ≡ lines = ap (map numbered_form) (take_all k items past) ∙ whole in
+    let no_fault : first_fault (λ _. late_fault lines) lines ≡ None =
+    sym faultless ∙ ap (λ rest. first_fault_after (λ _. late_fault lines) (map numbered_form (take k items)) (map numbered_form rest)) (drop_all k items past) in
+    ap (λ fault. unless_fault fault (Ok (deck_with lines))) no_fault ∙ ap Ok (sym (made ∙ ap (deck_among lines) is_all))

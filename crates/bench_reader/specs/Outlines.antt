@@ -1,19 +1,20 @@
 -- What the lines so far say together, and what is made of them.
-use Rattle.std.specs.Prelude.{◌≡◌, ℕ, ◌+◌, ◌<◌, ◌≤◌, Bool, false, ◌==◌, if◌then◌else◌, List, [], ◌∷◌, ◌++◌, length, map, Option, None, Some, option_to_list, slice_index_or, bytes_eq}
+use Rattle.std.specs.Prelude.{◌≡◌, ℕ, ◌+◌, ◌<◌, ◌≤◌, Bool, false, ◌==◌, if◌then◌else◌, List, [], ◌∷◌, ◌++◌, length, map, Option, None, Some, option_to_list, Result, OnOk, IfErr, slice_index_or, bytes_eq}
 use Rattle.std.specs.List.{list_all, list_any}
 use Rattle.std.specs.Option.{option_map, option_map_or}
 use Rattle.std.specs.Borrow.{Bor}
 use Rattle.std.specs.Cmp.Lexicographic.{slice_cmp}
 use Rattle.std.specs.Ordering.{nat_cmp}
 use Rattle.std.specs.BTreeMap.{BTreeMap, get_by}
-use Rattle.kdg_text.specs.Faults.{Numbered}
+use Rattle.kdg_text.specs.declared.fault.ReadFail.{ReadFail}
+use Rattle.kdg_text.specs.Faults.{Numbered, StopsAt}
 use Rattle.bench_reader.specs.declared.deck.Deck.{Deck}
 use Rattle.bench_reader.specs.declared.making.Making.{Making}
 use Rattle.bench_reader.specs.declared.index.Definition.{Definition}
 use Rattle.bench_reader.specs.declared.index.Index.{Index}
 use Rattle.bench_reader.specs.declared.outline.Totals.{Totals}
 use Rattle.bench_reader.specs.LineForms.{LineForm, InputLine, GateLine, FlipFlopLine, StimulusLine}
-use Rattle.bench_reader.specs.Decks.{said, signal_names, gate_names, double_fault, delay_given, input_by, output_by, stimulus_by, signal_by, signal_delay, is_among, place_of, most_signals, most_stimuli}
+use Rattle.bench_reader.specs.Decks.{said, signal_names, gate_names, double_fault, late_fault, delay_given, input_by, output_by, stimulus_by, signal_by, signal_delay, is_among, place_of, most_signals, most_stimuli}
 
 abbrev pub some_if : {X : Type 0} → Bool → X → Option X
 some_if test x = if test then Some x else None
@@ -93,3 +94,10 @@ deck_plus all deck form = record {
 pub record IsMarked (n : ℕ) (making : Making) : Type 0 where
   pub count : length making.declared.items ≡ n
   pub each : (k : ℕ) → k < n → slice_index_or making.declared.items k false ≡ list_any (λ m. m == k) making.deck.outputs
+
+-- Of all lines, one of this number and form is made: it adds its part to the deck, or is refused for its late fault.
+pub record Makes {V : Type 0} (all : List (Numbered LineForm)) (number : ℕ) (form : LineForm) (before after : Making) (result : Result V ReadFail) : Type 0 where
+  pub fits : OnOk result (late_fault all form ≡ None)
+  pub made : OnOk result (after.deck ≡ deck_plus all before.deck form)
+  pub marked : OnOk result (IsMarked (length (signal_names all)) after)
+  pub refused : IfErr result (StopsAt number (late_fault all form))

@@ -1,10 +1,12 @@
 ghost use Rattle.std.specs.Prelude.{◌≡◌, ◌<◌, ◌-◌, ◌++◌, [], ◌∷◌, None, length, map, drop, unwrap_or, IfOk, IfErr, OnOk};
-ghost use Rattle.kdg_text.specs.Faults.{Answers, StopsAt};
+ghost use Rattle.kdg_text.specs.Faults.{Answers, StopsAt, fault_on};
+ghost use Rattle.kdg_text.specs.declared.fault.ReadFail.TheVariants.{Bad};
 ghost use Rattle.kdg_text.specs.Tokens.{tokens_of};
 ghost use Rattle.bench_reader.specs.Decks.{delay_given, late_fault, signal_names, usual_delay};
+ghost use Rattle.bench_reader.specs.Faults.{undefined};
 ghost use Rattle.bench_reader.specs.Grammar.{deck_of_lines};
-ghost use Rattle.bench_reader.specs.LineForms.{marks};
-ghost use Rattle.bench_reader.specs.Outlines.{IsMarked, deck_plus, numbers_of, with_first};
+ghost use Rattle.bench_reader.specs.LineForms.{GateLine, FlipFlopLine, OutputLine, StimulusLine, marks};
+ghost use Rattle.bench_reader.specs.Outlines.{IsMarked, Makes, deck_plus, numbers_of, with_first};
 ghost use Rattle.bench_reader.specs.Statements.{fan_in_of, line_form};
 
 use crate::faults::{BIT_COUNT, UNDEFINED};
@@ -51,36 +53,80 @@ impl<'a> Outline<'a> {
         ensures marked { OnOk result (IsMarked (length (signal_names self.now)) making.new) }
         ensures refused { IfErr result (StopsAt line.now.number (late_fault self.now (line_form line.now.statement))) }
     {
-        let undefined = ReadFail::Bad(UNDEFINED.on_line(line.number));
+        let number = line.number;
         match &line.statement {
-            Statement::Input(name) => making.add_signal(alloc, name, Form::Input, 0)?,
-            Statement::Gate(gate) => {
-                let fan_in = self.fan_in_of(alloc, gate)?.ok_or(undefined)?;
-                let kind = gate.kind;
-                let delay = self.gate_delay(gate.name);
-                making.add_signal(alloc, gate.name, Form::Gate { kind, fan_in }, delay)?;
-            }
-            Statement::FlipFlop(FlipFlopDraft { name, source }) => {
-                let source = self.number_of(source).ok_or(undefined)?;
-                let delay = self.gate_delay(name);
-                making.add_signal(alloc, name, Form::Dff { source }, delay)?;
-            }
-            Statement::Output(name) => {
-                let number = self.number_of(name).ok_or(undefined)?;
-                making.declare(number)?;
-            }
-            Statement::Delay(delay) => {
-                if !self.is_gate(delay.name) {
-                    return Err(undefined);
-                }
-            }
-            Statement::Stimulus(stimulus) => {
-                if stimulus.bits.len() != self.totals().inputs as usize {
-                    return Err(ReadFail::Bad(BIT_COUNT.on_line(line.number)));
-                }
-                making.add_stimulus(alloc, stimulus)?;
-            }
+            Statement::Input(name) => Ok(making.add_signal(alloc, name, Form::Input, 0)?),
+            Statement::Gate(gate) => self.make_gate(alloc, making, gate, number),
+            Statement::FlipFlop(flip_flop) => self.make_flip_flop(alloc, making, flip_flop, number),
+            Statement::Output(name) => self.make_output(making, name, number),
+            Statement::Delay(delay) if self.is_gate(delay.name) => Ok(()),
+            Statement::Delay(_) => Err(undefined_on(number)),
+            Statement::Stimulus(stimulus) => self.make_stimulus(alloc, making, stimulus, number),
         }
+    }
+
+    /// Makes the signal that a gate drives, by its line of that number.
+    fn make_gate(
+        &self,
+        alloc: Global,
+        making: &mut Making,
+        gate: &GateDraft<'a>,
+        number: u64,
+    ) -> Result<(), ReadFail>
+        requires { IsMarked (length (signal_names self.now)) making.old }
+        ensures { Makes self.now number (GateLine gate.now.name.now gate.now.kind (fan_in_of gate.now.line.now)) making.old making.new result }
+    {
+        let fan_in = self.fan_in_of(alloc, gate)?.ok_or(undefined_on(number))?;
+        let kind = gate.kind;
+        let delay = self.gate_delay(gate.name);
+        making.add_signal(alloc, gate.name, Form::Gate { kind, fan_in }, delay)?;
+        Ok(())
+    }
+
+    /// Makes the signal that a flip-flop drives, by its line of that number.
+    fn make_flip_flop(
+        &self,
+        alloc: Global,
+        making: &mut Making,
+        flip_flop: &FlipFlopDraft<'a>,
+        number: u64,
+    ) -> Result<(), ReadFail>
+        requires { IsMarked (length (signal_names self.now)) making.old }
+        ensures { Makes self.now number (FlipFlopLine flip_flop.now.name.now flip_flop.now.source.now) making.old making.new result }
+    {
+        let source = self
+            .number_of(flip_flop.source)
+            .ok_or(undefined_on(number))?;
+        let delay = self.gate_delay(flip_flop.name);
+        making.add_signal(alloc, flip_flop.name, Form::Dff { source }, delay)?;
+        Ok(())
+    }
+
+    /// Makes an output, by its line of that number.
+    fn make_output(&self, making: &mut Making, name: &[u8], number: u64) -> Result<(), ReadFail>
+        requires { IsMarked (length (signal_names self.now)) making.old }
+        ensures { Makes self.now number (OutputLine name.now) making.old making.new result }
+    {
+        let output = self.number_of(name).ok_or(undefined_on(number))?;
+        making.declare(output)?;
+        Ok(())
+    }
+
+    /// Makes a stimulus, by its line of that number.
+    fn make_stimulus(
+        &self,
+        alloc: Global,
+        making: &mut Making,
+        stimulus: &StimDraft<'a>,
+        number: u64,
+    ) -> Result<(), ReadFail>
+        requires { IsMarked (length (signal_names self.now)) making.old }
+        ensures { Makes self.now number (StimulusLine stimulus.now.time stimulus.now.bits.now) making.old making.new result }
+    {
+        if stimulus.bits.len() != self.totals().inputs as usize {
+            return Err(ReadFail::Bad(BIT_COUNT.on_line(number)));
+        }
+        making.add_stimulus(alloc, stimulus)?;
         Ok(())
     }
 
@@ -106,6 +152,13 @@ impl<'a> Outline<'a> {
         }
         Ok(Some(numbers))
     }
+}
+
+/// What is wrong with a line of that number that uses a name which no line defines for that use.
+fn undefined_on(number: u64) -> ReadFail
+    ensures { result ≡ Bad (fault_on number undefined) }
+{
+    ReadFail::Bad(UNDEFINED.on_line(number))
 }
 
 /// The tokens of a gate's line behind `NAME = WORD (`.
