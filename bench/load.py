@@ -70,30 +70,36 @@ INPUTS = {
 MODES = ['serial', 'rounds --workers 64', 'free --workers 64', 'marks --workers 64']
 
 
+def peak(process):
+    """The most memory that a process has had, in KiB. What waiting for it tells counts in that of this program."""
+    try:
+        with open(f'/proc/{process}/status') as status:
+            return next((int(line.split()[1]) for line in status if line.startswith('VmHWM')), 0)
+    except (FileNotFoundError, ProcessLookupError):
+        return 0
+
+
 def run(kdg, words, path, seconds):
     """A line of the table."""
     limited = (lambda: resource.setrlimit(resource.RLIMIT_AS, (LIMIT, LIMIT))) if LIMIT else None
     begun = time.perf_counter()
     with open(path) as source, tempfile.TemporaryFile() as out, tempfile.TemporaryFile() as errors:
         process = subprocess.Popen([kdg, *words.split()], stdin=source, stdout=out, stderr=errors, preexec_fn=limited)
-        while True:
-            ended, status, usage = os.wait4(process.pid, os.WNOHANG)
-            if ended:
-                break
+        most, stopped = 0, False
+        while process.poll() is None:
+            most = max(most, peak(process.pid))
             if time.perf_counter() - begun > seconds:
                 process.kill()
-                _, status, usage = os.wait4(process.pid, 0)
-                break
-            time.sleep(0.05)
+                stopped = True
+            time.sleep(0.02)
         took = time.perf_counter() - begun
         told = b''
         for file in (errors, out):
             file.seek(max(0, file.seek(0, 2) - 200))
             told = told or file.read()
     last = told.decode(errors='replace').rstrip().split('\n')[-1]
-    code = os.waitstatus_to_exitcode(status)
-    answer = f'{code}: `{last}`' if code >= 0 else f'stopped after {seconds} s'
-    print(f'| `{words}` | {took:.1f} s | {usage.ru_maxrss / 1024:.0f} MB | {answer} |', flush=True)
+    answer = f'stopped after {seconds} s' if stopped else f'{process.returncode}: `{last}`'
+    print(f'| `{words}` | {took:.1f} s | {most >> 10} MB | {answer} |', flush=True)
 
 
 def main():
