@@ -7,6 +7,7 @@ mod laws;
 mod looking;
 mod running;
 mod waiting;
+mod watch_list;
 
 pub use list_rounds::RunFault;
 pub use running::run_resting;

@@ -5,11 +5,11 @@ ghost use Rattle.cell_store.specs.Values.{values_of};
 ghost use Rattle.app_laws.specs.Applications.{AreFitStarts};
 ghost use Rattle.list_rounds.specs.Rounds.{IsRunFault, most_tasks, start_state};
 ghost use Rattle.list_rounds.specs.Runs.{IsRoundsEnd};
+ghost use Rattle.resting_rounds.specs.Waiting.{AreWaiting};
 
-use crate::front::new_front;
 use crate::laws::basis;
-use crate::looking::{look, nothing};
-use crate::waiting::{all_awake, copies};
+use crate::waiting::copies;
+use crate::watch_list::{WatchList, find_clear, watch_list};
 use app_laws::Finals;
 use kdg_text::Steps;
 use list_rounds::{ListRounds, RunFault};
@@ -17,7 +17,6 @@ use outer_edge::Gate;
 use resting_tasks::Resting;
 use std::alloc::Global;
 use std::marker::Brand;
-use std::mem::swap;
 use std::sync::ledger::{Blank, Ledger};
 use task_order::{StartList, Task};
 
@@ -53,7 +52,7 @@ pub fn run_resting<A: Resting, G: Gate>(
 /// The rounds from a beginning on, with its pending tasks and a count of the sets that are asked for.
 fn counted_resting<'a, A: Resting, G: Gate, L: Ledger>(
     alloc: Global,
-    mut run: ListRounds<'a, A>,
+    run: ListRounds<'a, A>,
     tasks: &[Task],
     gate: &G,
     workers: u32,
@@ -67,19 +66,33 @@ fn counted_resting<'a, A: Resting, G: Gate, L: Ledger>(
     ensures fit { IfOk result (λ end. (A.meaning run.entry.app).is_fit_cells (values_of end.0.store)) }
     ensures fault { IfErr result (IsRunFault (A.meaning run.entry.app) run.entry.start run.entry.limit) }
 {
-    basis::<A>();
     let mut steps = Steps::<L>::new(blank);
     let app = run.app();
     let mut horizon = app.horizon(alloc)?;
-    let mut acted = app.no_cover(alloc);
-    let mut waiting = all_awake(alloc, tasks)?;
-    let mut front = new_front(app, alloc);
-    let mut found = nothing(app, alloc);
+    let mut list = watch_list(app, alloc, tasks)?;
+    all_rounds(run, gate, workers, &mut list, &mut horizon, &mut steps)
+}
+
+/// All rounds that are left of a run, before each of which `list` has its pending tasks.
+fn all_rounds<'a, A: Resting, G: Gate, L: Ledger>(
+    mut run: ListRounds<'a, A>,
+    gate: &G,
+    workers: u32,
+    list: &mut WatchList<'_, A::Cover>,
+    horizon: &mut A::Horizon,
+    steps: &mut Steps<L>,
+) -> Result<(Finals<A::Val>, u64), RunFault>
+    requires told { A.tells run.app horizon.old run.state.pending }
+    requires waiting { AreWaiting (A.meaning run.app) (A.covers run.app list.old.acted) run.state list.old.waiting.items }
+    ensures end { IfOk result (λ end. IsRoundsEnd (A.meaning run.entry.app) run.entry.start run.entry.limit end.0 end.1) }
+    ensures fit { IfOk result (λ end. (A.meaning run.entry.app).is_fit_cells (values_of end.0.store)) }
+    ensures fault { IfErr result (IsRunFault (A.meaning run.entry.app) run.entry.start run.entry.limit) }
+{
+    basis::<A>();
     while !run.pending().is_empty() {
-        look(app, run.store(), &waiting, &acted, &mut front, &mut found)?;
-        run = run.act_round(&mut found.clear, gate, workers, &mut horizon, &mut steps)?;
-        swap(&mut waiting, &mut found.later);
-        swap(&mut acted, &mut found.acting);
+        find_clear(&run, list)?;
+        run = run.act_round(&mut list.found.clear, gate, workers, horizon, steps)?;
+        list.go_on();
     }
     let rounds = run.rounds();
     Ok((run.end()?, rounds))
