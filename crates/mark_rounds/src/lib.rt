@@ -6,6 +6,7 @@ mod laws;
 mod marking;
 mod pending;
 mod running;
+mod searching;
 mod writers;
 
 pub use laws::{marked_laws, marked_source_laws};

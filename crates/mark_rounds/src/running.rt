@@ -5,13 +5,12 @@ ghost use Rattle.cell_store.specs.Values.{values_of};
 ghost use Rattle.app_laws.specs.Applications.{AreFitStarts};
 ghost use Rattle.list_rounds.specs.Rounds.{IsRunFault, most_tasks, start_state};
 ghost use Rattle.list_rounds.specs.Runs.{IsRoundsEnd};
-ghost use Rattle.mark_rounds.specs.Board.{IsAlone, IsFresh};
+ghost use Rattle.mark_rounds.specs.Board.{IsFresh};
 
-use crate::finding::{RoundLists, find_clear};
+use crate::searching::{Search, search_run};
 use app_laws::{App, Finals};
-use kdg_text::{NoRoom, Steps};
+use kdg_text::Steps;
 use list_rounds::{ListRounds, RunFault};
-use mark_board::{Board, Marker};
 use outer_edge::Gate;
 use std::alloc::Global;
 use std::marker::Brand;
@@ -49,7 +48,7 @@ pub fn run_marks<A: App, G: Gate>(
 /// The rounds from a beginning on, with a count of the sets that are asked for.
 fn counted_marks<'a, A: App, G: Gate, L: Ledger>(
     alloc: Global,
-    mut run: ListRounds<'a, A>,
+    run: ListRounds<'a, A>,
     gate: &G,
     workers: u32,
     blank: Blank,
@@ -63,44 +62,34 @@ fn counted_marks<'a, A: App, G: Gate, L: Ledger>(
 {
     let mut steps = Steps::<L>::new(blank);
     let app = run.app();
-    let count = app.cells();
-    let mut lists = RoundLists::new(alloc, count)?;
+    let mut search = Search::new(alloc, app.cells())?;
     let mut horizon = app.horizon(alloc)?;
-    let (mut board, mut marker) = Board::new(alloc, count)?;
+    all_rounds(run, gate, workers, &mut search, &mut horizon, &mut steps)
+}
+
+/// All rounds that are left of a run, before each of which the board of `search` has no mark.
+fn all_rounds<'a, A: App, G: Gate, L: Ledger>(
+    mut run: ListRounds<'a, A>,
+    gate: &G,
+    workers: u32,
+    search: &mut Search,
+    horizon: &mut A::Horizon,
+    steps: &mut Steps<L>,
+) -> Result<(Finals<A::Val>, u64), RunFault>
+    requires cells { search.old.cells ≡ (A.meaning run.app).count }
+    requires wide { length search.old.lists.writers.items ≡ (A.meaning run.app).count }
+    requires fresh { IsFresh (A.meaning run.app).count search.old.board search.old.marker }
+    requires told { A.tells run.app horizon.old run.state.pending }
+    ensures end { IfOk result (λ end. IsRoundsEnd (A.meaning run.entry.app) run.entry.start run.entry.limit end.0 end.1) }
+    ensures fit { IfOk result (λ end. (A.meaning run.entry.app).is_fit_cells (values_of end.0.store)) }
+    ensures fault { IfErr result (IsRunFault (A.meaning run.entry.app) run.entry.start run.entry.limit) }
+{
     while !run.pending().is_empty() {
-        find_clear(
-            app,
-            run.pending(),
-            run.store(),
-            &board,
-            &mut marker,
-            &mut lists,
-            &mut horizon,
-            &mut steps,
-        )?;
-        run = run.act_round(&mut lists.clear, gate, workers, &mut horizon, &mut steps)?;
-        run = run.with_short_paths(alloc, gate)?;
-        let (next, fresh) = next_board(alloc, count, board, marker)?;
-        board = next;
-        marker = fresh;
+        search_run(&run, search, horizon, steps)?;
+        run = run.act_round(&mut search.lists.clear, gate, workers, horizon, steps)?;
+        run = run.with_short_paths(search.alloc, gate)?;
+        search.renew()?;
     }
     let rounds = run.rounds();
     Ok((run.end()?, rounds))
-}
-
-/// The board without its marks: in its next round, or a new one where it can't be renewed any more.
-fn next_board(
-    alloc: Global,
-    cells: u32,
-    mut board: Board,
-    mut marker: Marker,
-) -> Result<(Board, Marker), NoRoom>
-    requires { IsAlone cells board marker }
-    ensures { IfOk result (λ made. IsFresh cells made.0 made.1) }
-{
-    if board.renewals() == 0 {
-        return Board::new(alloc, cells);
-    }
-    board.renew(&mut marker);
-    Ok((board, marker))
 }
