@@ -45,25 +45,42 @@ fn node(graph: &Graph, alloc: Global, prio: u64, number: u32) -> Result<NodeId, 
     Ok(graph.find(&key).ok_or("no such node")?)
 }
 
+/// The priorities, the numbers, the locations and the accesses of three tasks, out of order.
+const THREE: &[(u64, u32, u32, Access)] = &[(1, 1, 6, Write), (2, 2, 5, Read), (1, 0, 5, Write)];
+
 /// The graph, which had no nodes, with three, of which the first and the third share a location.
 /// They are put in out of order.
 fn three_nodes(rt: &impl Abort, alloc: Global, mut graph: Graph) -> Result<Graph, NoRoom> {
-    for (prio, number, loc, access) in [(1, 1, 6, Write), (2, 2, 5, Read), (1, 0, 5, Write)] {
-        let task = task(alloc, prio, number)?;
-        let set = set(alloc, &[(loc, access)])?;
-        assert!(rt; graph.find(&task.key).is_none());
-        graph.insert(task, set).map_err(|_| NoRoom)?;
+    for &(prio, number, loc, access) in THREE {
+        insert(
+            rt,
+            &mut graph,
+            task(alloc, prio, number)?,
+            set(alloc, &[(loc, access)])?,
+        )?;
     }
     Ok(graph)
 }
 
-fn sources(graph: &Graph, alloc: Global) -> Result<Vec<NodeId>, NoRoom> {
-    Ok(graph.sources().collect(alloc)?)
+/// Puts in a task whose key no node has.
+fn insert(rt: &impl Abort, graph: &mut Graph, task: Task, set: RwSet) -> Result<(), NoRoom> {
+    assert!(rt; graph.find(&task.key).is_none());
+    graph.insert(task, set).map_err(|_| NoRoom)?;
+    Ok(())
 }
 
-fn laters(graph: &Graph, alloc: Global, prio: u64, number: u32) -> Result<Vec<NodeId>, Fail> {
-    let node = node(graph, alloc, prio, number)?;
-    Ok(graph.later_of(node).collect(alloc)?)
+/// Whether these are the sources, in their order.
+fn has_sources(graph: &Graph, alloc: Global, wanted: &[NodeId]) -> Result<bool, NoRoom> {
+    let sources: Vec<NodeId> = graph.sources().collect(alloc)?;
+    Ok(sources.as_slice() == wanted)
+}
+
+/// Whether these are the later nodes of a node, in their order.
+fn has_laters(graph: &Graph, alloc: Global, node: NodeId, wanted: &[NodeId]) -> Result<bool, NoRoom>
+    requires { HasNode graph.now node }
+{
+    let laters: Vec<NodeId> = graph.later_of(node).collect(alloc)?;
+    Ok(laters.as_slice() == wanted)
 }
 
 /// Starts the first node, and checks that it is no source any more.
@@ -71,14 +88,14 @@ fn start_first(rt: &impl Abort, graph: &mut Graph, alloc: Global) -> Result<(), 
     let first = node(graph, alloc, 1, 0)?;
     graph.mark_running(first);
     let second = node(graph, alloc, 1, 1)?;
-    assert_eq!(rt; sources(graph, alloc)?.as_slice(), [second].as_slice());
+    assert!(rt; has_sources(graph, alloc, &[second])?);
     Ok(())
 }
 
-/// Ends the first node, and changes nothing else.
-fn end_first(rt: &impl Abort, graph: &mut Graph, alloc: Global) -> Result<(), Fail> {
-    let first = node(graph, alloc, 1, 0)?;
-    let ended = graph.rewrite(first, Vec::new(alloc), &mut Vec::new(alloc));
+/// Ends the node of a first task at priority 1, and changes nothing else.
+fn end(rt: &impl Abort, graph: &mut Graph, alloc: Global, number: u32) -> Result<(), Fail> {
+    let node = node(graph, alloc, 1, number)?;
+    let ended = graph.rewrite(node, Vec::new(alloc), &mut Vec::new(alloc));
     assert!(rt; ended.is_ok());
     Ok(())
 }
@@ -94,22 +111,29 @@ fn sources_wait_for_earlier_nodes(rt: HostRuntime) -> Result<(), Fail> {
 /// has started and ended.
 fn check_waiting(rt: &impl Abort, alloc: Global, graph: Graph) -> Result<(), Fail> {
     let mut graph = three_nodes(rt, alloc, graph)?;
-    let first = node(&graph, alloc, 1, 0)?;
-    let second = node(&graph, alloc, 1, 1)?;
-    let third = node(&graph, alloc, 2, 2)?;
-    assert_eq!(rt;
-        sources(&graph, alloc)?.as_slice(),
-        [first, second].as_slice()
-    );
-    assert_eq!(rt; laters(&graph, alloc, 1, 0)?.as_slice(), [third].as_slice());
-    assert_eq!(rt; graph.least(), Some(first));
-    start_first(rt, &mut graph, alloc)?;
-    end_first(rt, &mut graph, alloc)?;
-    assert_eq!(rt;
-        sources(&graph, alloc)?.as_slice(),
-        [second, third].as_slice()
-    );
-    assert_eq!(rt; graph.least(), Some(second));
+    check_three(rt, &graph, alloc)?;
+    check_two(rt, &mut graph, alloc)
+}
+
+/// Checks which of the three nodes wait for which.
+fn check_three(rt: &impl Abort, graph: &Graph, alloc: Global) -> Result<(), Fail> {
+    let first = node(graph, alloc, 1, 0)?;
+    let second = node(graph, alloc, 1, 1)?;
+    let third = node(graph, alloc, 2, 2)?;
+    assert!(rt; has_sources(graph, alloc, &[first, second])?);
+    assert!(rt; has_laters(graph, alloc, first, &[third])?);
+    assert!(rt; graph.least() == Some(first));
+    Ok(())
+}
+
+/// Starts and ends the first of the three nodes, and checks that the others are sources then.
+fn check_two(rt: &impl Abort, graph: &mut Graph, alloc: Global) -> Result<(), Fail> {
+    let second = node(graph, alloc, 1, 1)?;
+    let third = node(graph, alloc, 2, 2)?;
+    start_first(rt, graph, alloc)?;
+    end(rt, graph, alloc, 0)?;
+    assert!(rt; has_sources(graph, alloc, &[second, third])?);
+    assert!(rt; graph.least() == Some(second));
     Ok(())
 }
 
@@ -147,15 +171,18 @@ fn check_rewritten(rt: &impl Abort, alloc: Global, graph: Graph) -> Result<(), F
     let mut graph = three_nodes(rt, alloc, graph)?;
     let third = node(&graph, alloc, 2, 2)?;
     rewrite_three(rt, &mut graph, alloc)?;
-    let fourth = node(&graph, alloc, 3, 3)?;
-    assert_eq!(rt;
-        laters(&graph, alloc, 1, 1)?.as_slice(),
-        [third, fourth].as_slice()
-    );
-    assert_eq!(rt; graph.task(fourth).body.at, 3);
-    assert_eq!(rt; graph.set(fourth).contains(6), Some(Read));
+    check_fourth(rt, &graph, alloc, third)
+}
+
+/// Checks the node that a rewrite added, which waits for the second one, as `third` does.
+fn check_fourth(rt: &impl Abort, graph: &Graph, alloc: Global, third: NodeId) -> Result<(), Fail> {
+    let second = node(graph, alloc, 1, 1)?;
+    let fourth = node(graph, alloc, 3, 3)?;
+    assert!(rt; has_laters(graph, alloc, second, &[third, fourth])?);
+    assert!(rt; graph.task(fourth).body.at == 3);
+    assert!(rt; graph.set(fourth).contains(6) == Some(Read));
     assert!(rt; !graph.running(fourth));
-    assert_eq!(rt; graph.len(), 3);
+    assert!(rt; graph.len() == 3);
     Ok(())
 }
 
@@ -173,20 +200,13 @@ enum Call {
 fn run(rt: &impl Abort, graph: &mut Graph, alloc: Global, call: Call) -> Result<(), Fail> {
     match call {
         Call::Insert(number, pairs) => {
-            let task = task(alloc, 1, number)?;
-            let set = set(alloc, &pairs)?;
-            assert!(rt; graph.find(&task.key).is_none());
-            graph.insert(task, set).map_err(|_| NoRoom)?;
+            insert(rt, graph, task(alloc, 1, number)?, set(alloc, &pairs)?)?
         }
         Call::Start(number) => {
             let node = node(graph, alloc, 1, number)?;
             graph.mark_running(node);
         }
-        Call::End(number) => {
-            let node = node(graph, alloc, 1, number)?;
-            let ended = graph.rewrite(node, Vec::new(alloc), &mut Vec::new(alloc));
-            assert!(rt; ended.is_ok());
-        }
+        Call::End(number) => end(rt, graph, alloc, number)?,
         Call::Replace(ended, changed, pairs) => {
             replace(rt, graph, alloc, (ended, changed), set(alloc, &pairs)?)?
         }
@@ -236,19 +256,41 @@ fn check_plain(
     alloc: Global,
 ) -> Result<(), Fail> {
     let plain = plain_sources(graph, tasks, alloc)?;
-    assert_eq!(rt; sources(graph, alloc)?.as_slice(), plain.as_slice());
+    assert!(rt; has_sources(graph, alloc, plain.as_slice())?);
     for task in tasks.iter() {
-        let node = graph.find(&task.key).ok_or("no such node")?;
-        let laters: Vec<NodeId> = graph.later_of(node).collect(alloc)?;
-        let plain = plain_laters(graph, tasks, alloc, &task.key)?;
-        assert_eq!(rt; laters.as_slice(), plain.as_slice());
+        check_laters(rt, graph, tasks, alloc, &task.key)?;
     }
-    assert_eq!(rt; graph.len(), tasks.len());
-    assert_eq!(rt; graph.is_empty(), tasks.is_empty());
-    let running = plain_running(graph, tasks, alloc)?;
-    assert_eq!(rt; graph.running_len(), running.len());
-    assert_eq!(rt; earliest(graph), tasks.first());
+    check_counts(rt, graph, tasks, alloc)?;
     check_writers(rt, graph, tasks);
+    Ok(())
+}
+
+/// Checks the later nodes of the node whose task has the key.
+fn check_laters(
+    rt: &impl Abort,
+    graph: &Graph,
+    tasks: &TaskList,
+    alloc: Global,
+    key: &Key,
+) -> Result<(), Fail> {
+    let node = graph.find(key).ok_or("no such node")?;
+    let plain = plain_laters(graph, tasks, alloc, key)?;
+    assert!(rt; has_laters(graph, alloc, node, plain.as_slice())?);
+    Ok(())
+}
+
+/// Checks how many nodes there are, how many of them run, and which is the earliest.
+fn check_counts(
+    rt: &impl Abort,
+    graph: &Graph,
+    tasks: &TaskList,
+    alloc: Global,
+) -> Result<(), NoRoom> {
+    let running = plain_running(graph, tasks, alloc)?.len();
+    assert!(rt; graph.running_len() == running);
+    assert!(rt; graph.len() == tasks.len());
+    assert!(rt; graph.is_empty() == tasks.is_empty());
+    assert!(rt; earliest(graph) == tasks.first());
     Ok(())
 }
 
@@ -267,12 +309,12 @@ fn earliest_writing<P: PendingTasks>(pending: &P, loc: u32) -> Option<&Task> {
 fn check_writers(rt: &impl Abort, graph: &Graph, tasks: &TaskList) {
     for loc in 0..=LOCATIONS {
         let plain = plain_writer(graph, tasks, loc);
-        assert_eq!(rt; earliest_writing(graph, loc), plain);
+        assert!(rt; earliest_writing(graph, loc) == plain);
         let node = match plain {
             Some(task) => graph.find(&task.key),
             None => None,
         };
-        assert_eq!(rt; graph.earliest_writing(loc), node);
+        assert!(rt; graph.earliest_writing(loc) == node);
     }
 }
 
@@ -298,46 +340,52 @@ fn run_on(rt: &impl Abort, alloc: Global, mut graph: Graph, calls: &[Call]) -> R
     Ok(())
 }
 
+/// Readers and writers of a location or two that come out of order, start, end and get other sets.
+const COMINGS_AND_GOINGS: [Call; 16] = [
+    Call::Insert(4, [(7, Read); 2]),
+    Call::Insert(2, [(7, Write); 2]),
+    Call::Insert(3, [(7, Read); 2]),
+    Call::Insert(0, [(7, Read); 2]),
+    Call::Insert(1, [(8, Write); 2]),
+    Call::Insert(6, [(8, Write); 2]),
+    Call::Insert(5, [(9, Write); 2]),
+    Call::Start(0),
+    Call::Start(5),
+    Call::End(0),
+    Call::Replace(1, 6, [(7, Write); 2]),
+    Call::Replace(2, 5, [(7, Write); 2]),
+    Call::End(3),
+    Call::End(4),
+    Call::End(5),
+    Call::End(6),
+];
+
 #[test]
 fn sources_and_laters_are_those_of_a_plain_search(rt: HostRuntime) -> Result<(), Fail> {
-    let calls = [
-        Call::Insert(4, [(7, Read); 2]),
-        Call::Insert(2, [(7, Write); 2]),
-        Call::Insert(3, [(7, Read); 2]),
-        Call::Insert(0, [(7, Read); 2]),
-        Call::Insert(1, [(8, Write); 2]),
-        Call::Insert(6, [(8, Write); 2]),
-        Call::Insert(5, [(9, Write); 2]),
-        Call::Start(0),
-        Call::Start(5),
-        Call::End(0),
-        Call::Replace(1, 6, [(7, Write); 2]),
-        Call::Replace(2, 5, [(7, Write); 2]),
-        Call::End(3),
-        Call::End(4),
-        Call::End(5),
-        Call::End(6),
-    ];
+    let calls = COMINGS_AND_GOINGS;
     run_all(&rt, rt.alloc(), &calls)
 }
 
+/// Tasks that end in turn, each of which leaves another one a set at other locations.
+const EXCHANGES: [Call; 14] = [
+    Call::Insert(0, [(1, Write), (2, Write)]),
+    Call::Insert(7, [(3, Read), (4, Write)]),
+    Call::Insert(1, [(1, Read), (3, Write)]),
+    Call::Insert(2, [(2, Write), (3, Read)]),
+    Call::Insert(3, [(1, Read), (2, Read)]),
+    Call::Insert(4, [(1, Write), (3, Write)]),
+    Call::Insert(5, [(2, Read), (4, Read)]),
+    Call::Insert(6, [(1, Read), (4, Write)]),
+    Call::Replace(0, 4, [(1, Write), (2, Read)]),
+    Call::Replace(7, 3, [(1, Write), (2, Read)]),
+    Call::Replace(1, 5, [(1, Read), (4, Read)]),
+    Call::Replace(2, 6, [(1, Read), (4, Read)]),
+    Call::Replace(3, 5, [(2, Write), (3, Write)]),
+    Call::End(4),
+];
+
 #[test]
 fn sets_that_are_exchanged_leave_what_a_plain_search_finds(rt: HostRuntime) -> Result<(), Fail> {
-    let calls = [
-        Call::Insert(0, [(1, Write), (2, Write)]),
-        Call::Insert(7, [(3, Read), (4, Write)]),
-        Call::Insert(1, [(1, Read), (3, Write)]),
-        Call::Insert(2, [(2, Write), (3, Read)]),
-        Call::Insert(3, [(1, Read), (2, Read)]),
-        Call::Insert(4, [(1, Write), (3, Write)]),
-        Call::Insert(5, [(2, Read), (4, Read)]),
-        Call::Insert(6, [(1, Read), (4, Write)]),
-        Call::Replace(0, 4, [(1, Write), (2, Read)]),
-        Call::Replace(7, 3, [(1, Write), (2, Read)]),
-        Call::Replace(1, 5, [(1, Read), (4, Read)]),
-        Call::Replace(2, 6, [(1, Read), (4, Read)]),
-        Call::Replace(3, 5, [(2, Write), (3, Write)]),
-        Call::End(4),
-    ];
+    let calls = EXCHANGES;
     run_all(&rt, rt.alloc(), &calls)
 }
