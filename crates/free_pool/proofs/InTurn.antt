@@ -68,14 +68,7 @@ module _ {A V : Type 0} {meaning : A → Application V} (hall : HallState (Engin
       subst (λ (one : EngineState A V). HasMoved meaning (record turn { engine = engine }) jobs ended one) same
       (record { app = app; moved = moved; drained = λ not. drained })
 
-  -- the number that was drained is the one that the seat knows
-  counted : turn.view.number ≡ 0 → drained_count turn.engine.progress ≡ drained_count hall.origin.progress
-  counted first =
-      let number : now.number ≡ 0 = sym (in_turn (λ (v : Seen A V). v.number)) ∙ first in
-      let own : seat.view.number ≡ 0 = sym (of_view (λ (v : Seen A V). v.number)) ∙ number in
-      waited.entered.found.fits.progress.count ∙ waited.entered.found.drained number ∙ of_view (λ (v : Seen A V). v.drained) ∙ seated.drained own
-
-  module _ (engine : EngineState A V) (jobs : List (Job V)) (ended : List Key) (back : SeatState (EngineState A V) V) (drained : drained_count engine.progress ≡ drained_count turn.engine.progress)
+  module _ (engine : EngineState A V) (jobs : List (Job V)) (ended : List Key) (back : SeatState (EngineState A V) V)
       (in_hall : back.hall ≡ turn.hall) (left : back.view ≡ left_by jobs ended turn.view turn.engine engine) where
     pub same_number : back.view.number ≡ seat.view.number
     same_number = ap (λ (v : Seen A V). v.number) left ∙ in_turn (λ (v : Seen A V). v.number) ∙ of_view (λ (v : Seen A V). v.number)
@@ -86,14 +79,8 @@ module _ {A V : Type 0} {meaning : A → Application V} (hall : HallState (Engin
     pub jobs_after : back.view.jobs ≡ jobs
     jobs_after = ap (λ (v : Seen A V). v.jobs) left
 
-    drained_after : back.view.number ≡ 0 → back.view.drained ≡ drained_count hall.origin.progress
-    drained_after first =
-        let number : turn.view.number ≡ 0 = sym (ap (λ (v : Seen A V). v.number) left) ∙ first in
-        ap (λ (v : Seen A V). v.drained) left ∙ ap (λ (n : ℕ). if n == 0 then drained_count engine.progress else turn.view.drained) number ∙ drained ∙ counted number
-
     pub still_seated : IsSeated hall back
     still_seated = record {
       here = in_hall ∙ waited.entered.hall ∙ waited.tried.hall ∙ seated.here;
       origin_is = ap (λ (v : Seen A V). v.origin) left ∙ in_turn (λ (v : Seen A V). v.origin) ∙ of_view (λ (v : Seen A V). v.origin) ∙ seated.origin_is;
-      drained = drained_after;
     }

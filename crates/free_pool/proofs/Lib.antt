@@ -1,11 +1,17 @@
 pub mod Acts
 pub mod ActsInTurn
 pub mod ClaimsInTurn
+pub mod Closing
 pub mod Ends
 pub mod EndsInTurn
+pub mod Flows
 pub mod InTurn
+pub mod Leading
+pub mod LeadInTurn
 pub mod Moves
 pub mod Numbers
 pub mod PerformedInOrder
 pub mod Seats
+pub mod Streaming
+pub mod Told
 pub mod Working

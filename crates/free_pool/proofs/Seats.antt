@@ -5,9 +5,9 @@ use Rattle.std.specs.List.{AllByRecursion, AllZip}
 use Rattle.graph_update.specs.Engine.{EngineState}
 use Rattle.worker_gate.specs.Steps.{both_views, first_half, second_half}
 use Rattle.worker_gate.specs.Turns.{HallState, SeatState}
-use Rattle.free_pool.specs.Team.{HasWorked, IsMember, IsReady, IsTeam, MayWork, down_from, up_to}
+use Rattle.free_pool.specs.Team.{HasWorked, IsReady, IsTeam, MayWork, down_from, up_to}
 use Rattle.free_pool.specs.Turns.{IsSeated}
-use Rattle.free_pool.proofs.Numbers.{last_number, last_same, no_number, no_snoc, without_first}
+use Rattle.free_pool.proofs.Numbers.{last_number, no_number, without_first}
 
 map_snoc : {X Y : Type 0} (f : X → Y) (xs : List X) (x : X) → map f (xs ++ x ∷ []) ≡ map f xs ++ f x ∷ []
 map_snoc f [] x = refl
@@ -28,21 +28,12 @@ module _ {A V : Type 0} where
   -- ---- joining
 
   module _ (hall : HallState (EngineState A V)) where
-    -- the last seat of a team is the first one, and the others are numbered
-    pub last_is_first : (others : ℕ) (seats rest : List (SeatState (EngineState A V) V)) (last : SeatState (EngineState A V) V) → seats ≡ rest ++ last ∷ [] → IsTeam hall others seats
-        → (map number_of rest ≡ up_to others) × AllByRecursion (IsMember hall others) rest × (last.view.number ≡ 0) × IsMember hall others last
-    last_is_first others seats rest last is team =
-        let numbers = last_same (map number_of rest) (up_to others) (number_of last) 0
-        (sym (map_snoc number_of rest last) ∙ ap (map number_of) (sym is) ∙ team.numbers) in
-        let all = all_before (IsMember hall others) rest last (subst (AllByRecursion (IsMember hall others)) is team.members) in
-        (numbers.0, all.0, numbers.1, all.1)
-
     -- of the others the last one has the greatest number
-    pub last_of_others : (others n : ℕ) (seats rest : List (SeatState (EngineState A V) V)) (last : SeatState (EngineState A V) V) → seats ≡ rest ++ last ∷ [] → map number_of seats ≡ up_to n → AllByRecursion (IsMember hall others) seats
-        → (m : ℕ) × (n ≡ suc m) × (map number_of rest ≡ up_to m) × (last.view.number ≡ suc m) × AllByRecursion (IsMember hall others) rest × IsMember hall others last
-    last_of_others others n seats rest last is numbers members =
+    pub last_of_others : (n : ℕ) (seats rest : List (SeatState (EngineState A V) V)) (last : SeatState (EngineState A V) V) → seats ≡ rest ++ last ∷ [] → map number_of seats ≡ up_to n → AllByRecursion (IsSeated hall) seats
+        → (m : ℕ) × (n ≡ suc m) × (map number_of rest ≡ up_to m) × (last.view.number ≡ suc m) × AllByRecursion (IsSeated hall) rest × IsSeated hall last
+    last_of_others n seats rest last is numbers members =
         let at = last_number n (map number_of rest) (number_of last) (sym (map_snoc number_of rest last) ∙ ap (map number_of) (sym is) ∙ numbers) in
-        let all = all_before (IsMember hall others) rest last (subst (AllByRecursion (IsMember hall others)) is members) in
+        let all = all_before (IsSeated hall) rest last (subst (AllByRecursion (IsSeated hall)) is members) in
         (at.0, at.1, at.2, at.3, all.0, all.1)
 
     pub none_left : (n : ℕ) (seats : List (SeatState (EngineState A V) V)) → seats ≡ [] → map number_of seats ≡ up_to n → n ≡ 0
@@ -58,11 +49,13 @@ module _ {A V : Type 0} where
       joined_seated seated = record {
         here = ap (λ (s : SeatState (EngineState A V) V). s.hall) is ∙ seated.here;
         origin_is = ap (λ (s : SeatState (EngineState A V) V). s.view.origin) is ∙ seated.origin_is;
-        drained = λ first. ap (λ (s : SeatState (EngineState A V) V). s.view.drained) is ∙ seated.drained (sym (ap number_of is) ∙ first);
       }
 
       pub joined_number : next.view.number ≡ seat.view.number
       joined_number = ap number_of is
+
+      pub joined_drained : next.view.drained ≡ seat.view.drained
+      joined_drained = ap (λ (s : SeatState (EngineState A V) V). s.view.drained) is
 
       pub joined_unjoined : (n m : ℕ) → n ≡ suc m → seat.view.unjoined ≡ down_from n → other.view.number ≡ suc m → next.view.unjoined ≡ down_from m
       joined_unjoined n m same unjoined number =
@@ -78,7 +71,6 @@ module _ {A V : Type 0} where
       split_seated seated = record {
         here = ap (λ (s : SeatState (EngineState A V) V). s.hall) is ∙ seated.here;
         origin_is = ap (λ (s : SeatState (EngineState A V) V). s.view.origin) is ∙ seated.origin_is;
-        drained = λ first. ap (λ (s : SeatState (EngineState A V) V). s.view.drained) is ∙ seated.drained (sym (ap number_of is) ∙ first);
       }
 
       pub split_unjoined : (n : ℕ) → seat.view.splits ≡ n → seat.view.unjoined ≡ down_from n → next.view.unjoined ≡ down_from (suc n)
@@ -94,7 +86,6 @@ module _ {A V : Type 0} where
         seated = subst (λ (h : HallState (EngineState A V)). IsSeated h other) (sym same) (record {
           here = ap (λ (s : SeatState (EngineState A V) V). s.hall) is ∙ ap (λ (h : HallState (EngineState A V)). h.id) same;
           origin_is = ap (λ (s : SeatState (EngineState A V) V). s.view.origin) is ∙ seated.origin_is;
-          drained = λ first. absurd (not_first first);
         });
         app_is = own ∙ ap (λ (h : HallState (EngineState A V)). h.origin.app) (sym same);
         idle = ap (λ (s : SeatState (EngineState A V) V). s.view.jobs) is;
@@ -120,18 +111,13 @@ module _ {A V : Type 0} where
     -- ---- working
 
     module _ {P Q : Type 0} (others : ℕ) (at : P → HallState (EngineState A V)) (app : P → A) (seat : P → SeatState (EngineState A V) V) (back : Q → SeatState (EngineState A V) V) where
-      has_worked : (post : P) (now : Q) → IsReady hall others (at post) (app post) (seat post) → HasWorked (at post) (seat post) (back now) → IsMember hall others (back now)
-      has_worked post now ready worked = record {
-        seated = subst (λ (h : HallState (EngineState A V)). IsSeated h (back now)) ready.at_is worked.seated;
-        unjoined = λ first. worked.unjoined ∙ ready.unjoined (sym worked.number ∙ first);
-      }
-
       pub members_after : (posts : List P) (backs : List Q) → AllByRecursion (λ (post : P). IsReady hall others (at post) (app post) (seat post)) posts
-          → AllZip (λ (post : P) (now : Q). HasWorked (at post) (seat post) (back now)) posts backs → AllByRecursion (IsMember hall others) (map back backs)
+          → AllZip (λ (post : P) (now : Q). HasWorked (at post) (seat post) (back now)) posts backs → AllByRecursion (IsSeated hall) (map back backs)
       members_after [] [] ready worked = tt
       members_after [] (now ∷ backs) ready worked = absurd worked
       members_after (post ∷ posts) [] ready worked = absurd worked
-      members_after (post ∷ posts) (now ∷ backs) ready worked = (has_worked post now ready.0 worked.0, members_after posts backs ready.1 worked.1)
+      members_after (post ∷ posts) (now ∷ backs) ready worked =
+          (subst (λ (h : HallState (EngineState A V)). IsSeated h (back now)) ready.0.at_is worked.0.seated, members_after posts backs ready.1 worked.1)
 
       numbers_after : (posts : List P) (backs : List Q) → AllZip (λ (post : P) (now : Q). HasWorked (at post) (seat post) (back now)) posts backs
           → map number_of (map back backs) ≡ map (λ (post : P). number_of (seat post)) posts
@@ -141,11 +127,15 @@ module _ {A V : Type 0} where
       numbers_after (post ∷ posts) (now ∷ backs) worked =
           ap (λ (n : ℕ). n ∷ map number_of (map back backs)) worked.0.number ∙ ap (λ (ns : List ℕ). number_of (seat post) ∷ ns) (numbers_after posts backs worked.1)
 
-      -- after their work the workers' seats are a team's
-      pub team_after : (posts : List P) (backs : List Q) → map (λ (post : P). number_of (seat post)) posts ≡ up_to others ++ 0 ∷ []
+      -- after their work the workers' seats are a team's, with that of the one that was ready to be the first
+      pub team_after : (own : P) (now : SeatState (EngineState A V) V) (posts : List P) (backs : List Q) → IsReady hall others (at own) (app own) (seat own) → number_of (seat own) ≡ 0
+          → HasWorked (at own) (seat own) now → map (λ (post : P). number_of (seat post)) posts ≡ up_to others
           → AllByRecursion (λ (post : P). IsReady hall others (at post) (app post) (seat post)) posts
-          → AllZip (λ (post : P) (now : Q). HasWorked (at post) (seat post) (back now)) posts backs → IsTeam hall others (map back backs)
-      team_after posts backs numbers ready worked = record {
+          → AllZip (λ (post : P) (one : Q). HasWorked (at post) (seat post) (back one)) posts backs → IsTeam hall others now (map back backs)
+      team_after own now posts backs own_ready first led numbers ready worked = record {
+        seated = subst (λ (h : HallState (EngineState A V)). IsSeated h now) own_ready.at_is led.seated;
+        first = led.number ∙ first;
+        unjoined = led.unjoined ∙ own_ready.unjoined first;
         numbers = numbers_after posts backs worked ∙ numbers;
         members = members_after posts backs ready worked;
       }
@@ -157,8 +147,9 @@ module _ {A V : Type 0} where
 
 -- while seats are split off for the others: so many are, and each of their posts is ready
 pub record IsPosted {A V P : Type 0} (hall : HallState (EngineState A V)) (others n : ℕ) (at : P → HallState (EngineState A V)) (app : P → A) (seat : P → SeatState (EngineState A V) V)
-    (own : SeatState (EngineState A V) V) (posts : List P) : Type 0 where
+    (old own : SeatState (EngineState A V) V) (posts : List P) : Type 0 where
   pub seated : IsSeated hall own
+  pub drained : own.view.drained ≡ old.view.drained
   pub idle : own.view.jobs ≡ []
   pub first : own.view.number ≡ 0
   pub splits : own.view.splits ≡ n
@@ -167,11 +158,12 @@ pub record IsPosted {A V P : Type 0} (hall : HallState (EngineState A V)) (other
   pub ready : AllByRecursion (λ post. IsReady hall others (at post) (app post) (seat post)) posts
 
 module _ {A V P : Type 0} (hall : HallState (EngineState A V)) (others n : ℕ) (at : P → HallState (EngineState A V)) (app : P → A) (seat : P → SeatState (EngineState A V) V)
-    (own : SeatState (EngineState A V) V) (posts : List P) (posted : IsPosted hall others n at app seat own posts) where
+    (old own : SeatState (EngineState A V) V) (posts : List P) (posted : IsPosted hall others n at app seat old own posts) where
   pub one_posted : (next : SeatState (EngineState A V) V) → next ≡ record own { view = first_half own.view } → (post : P) → at post ≡ hall → app post ≡ hall.origin.app
-      → seat post ≡ record { hall = (at post).id; view = second_half own.view } → (now : List P) → now ≡ posts ++ post ∷ [] → IsPosted hall others (suc n) at app seat next now
+      → seat post ≡ record { hall = (at post).id; view = second_half own.view } → (now : List P) → now ≡ posts ++ post ∷ [] → IsPosted hall others (suc n) at app seat old next now
   one_posted next is post same app_is other now more = record {
     seated = split_seated hall own next is posted.seated;
+    drained = ap (λ (s : SeatState (EngineState A V) V). s.view.drained) is ∙ posted.drained;
     idle = ap (λ (s : SeatState (EngineState A V) V). s.view.jobs) is ∙ posted.idle;
     first = ap number_of is ∙ posted.first;
     splits = ap (λ (s : SeatState (EngineState A V) V). s.view.splits) is ∙ ap (λ (k : ℕ). suc k) posted.splits;
@@ -184,66 +176,57 @@ module _ {A V P : Type 0} (hall : HallState (EngineState A V)) (others n : ℕ) 
         (all_with (λ (p : P). IsReady hall others (at p) (app p) (seat p)) posts post posted.ready (split_ready hall others (at post) (app post) own (seat post) same app_is posted.seated other));
   }
 
-  -- the caller's own post comes last
-  pub own_posted : n ≡ others → (post : P) → at post ≡ hall → app post ≡ hall.origin.app → seat post ≡ own → (now : List P) → now ≡ posts ++ post ∷ []
-      → (map (λ (p : P). number_of (seat p)) now ≡ up_to others ++ 0 ∷ []) × AllByRecursion (λ (p : P). IsReady hall others (at p) (app p) (seat p)) now
-  own_posted all post same app_is own_is now more =
-      let ready = own_ready hall others (at post) (app post) (seat post) same app_is
+  -- the caller's own post comes apart
+  pub own_posted : n ≡ others → (post : P) → at post ≡ hall → app post ≡ hall.origin.app → seat post ≡ own → IsReady hall others (at post) (app post) (seat post)
+  own_posted all post same app_is own_is =
+      own_ready hall others (at post) (app post) (seat post) same app_is
       (subst (IsSeated hall) (sym own_is) posted.seated)
       (ap (λ (s : SeatState (EngineState A V) V). s.view.jobs) own_is ∙ posted.idle)
-      (ap (λ (s : SeatState (EngineState A V) V). s.view.unjoined) own_is ∙ posted.unjoined ∙ ap down_from all) in (
-        ap (map (λ (p : P). number_of (seat p))) more ∙ map_snoc (λ (p : P). number_of (seat p)) posts post
-            ∙ ap (λ (ns : List ℕ). ns ++ number_of (seat post) ∷ []) (posted.numbers ∙ ap up_to all)
-            ∙ ap (λ (k : ℕ). up_to others ++ k ∷ []) (ap number_of own_is ∙ posted.first),
-        subst (AllByRecursion (λ (p : P). IsReady hall others (at p) (app p) (seat p))) (sym more)
-            (all_with (λ (p : P). IsReady hall others (at p) (app p) (seat p)) posts post posted.ready ready),
-      )
+      (ap (λ (s : SeatState (EngineState A V) V). s.view.unjoined) own_is ∙ posted.unjoined ∙ ap down_from all)
 
--- while seats are joined to the first one: these are left
-pub record IsJoining {A V : Type 0} (hall : HallState (EngineState A V)) (seat : SeatState (EngineState A V) V) (left : List (SeatState (EngineState A V) V)) : Type 0 where
-  pub seated : IsSeated hall seat
-  pub first : seat.view.number ≡ 0
+-- while seats are joined to the first one: these are left, and it has drained what it had
+pub record IsJoining {A V : Type 0} (hall : HallState (EngineState A V)) (old seat : SeatState (EngineState A V) V) (left : List (SeatState (EngineState A V) V)) : Type 0 where
   pub n : ℕ
-  pub unjoined : seat.view.unjoined ≡ down_from n
-  pub numbers : map number_of left ≡ up_to n
-  pub others : ℕ
-  pub members : AllByRecursion (IsMember hall others) left
+  pub team : IsTeam hall n seat left
+  pub drained : seat.view.drained ≡ old.view.drained
 
-module _ {A V Q : Type 0} (hall : HallState (EngineState A V)) (back : Q → SeatState (EngineState A V) V) where
-  pub joining_begins : (others : ℕ) (posts rest : List Q) (last : Q) → posts ≡ rest ++ last ∷ [] → IsTeam hall others (map back posts) → IsJoining hall (back last) (map back rest)
-  joining_begins others posts rest last is team =
-      let first = last_is_first hall others (map back posts) (map back rest) (back last) (ap (map back) is ∙ map_snoc back rest last) team in
-      record { seated = first.3.seated; first = first.2; n = others; unjoined = first.3.unjoined first.2; numbers = first.0; others = others; members = first.1 }
+pub joining_begins : {A V : Type 0} (hall : HallState (EngineState A V)) (seat : SeatState (EngineState A V) V) (left : List (SeatState (EngineState A V) V))
+    → (n : ℕ) × IsTeam hall n seat left → IsJoining hall seat seat left
+joining_begins hall seat left team = record { n = team.0; team = team.1; drained = refl }
 
-  module _ (seat : SeatState (EngineState A V) V) (posts rest : List Q) (last : Q) (is : posts ≡ rest ++ last ∷ []) (joining : IsJoining hall seat (map back posts)) where
-    abbrev at : (m : ℕ) × (joining.n ≡ suc m) × (map number_of (map back rest) ≡ up_to m) × ((back last).view.number ≡ suc m)
-        × AllByRecursion (IsMember hall joining.others) (map back rest) × IsMember hall joining.others (back last)
-    at = last_of_others hall joining.others joining.n (map back posts) (map back rest) (back last) (ap (map back) is ∙ map_snoc back rest last) joining.numbers joining.members
+module _ {A V Q : Type 0} (hall : HallState (EngineState A V)) (back : Q → SeatState (EngineState A V) V) (n : ℕ) (seat : SeatState (EngineState A V) V) (posts rest : List Q) (last : Q)
+    (is : posts ≡ rest ++ last ∷ []) (team : IsTeam hall n seat (map back posts)) where
+  abbrev at : (m : ℕ) × (n ≡ suc m) × (map number_of (map back rest) ≡ up_to m) × ((back last).view.number ≡ suc m)
+      × AllByRecursion (IsSeated hall) (map back rest) × IsSeated hall (back last)
+  at = last_of_others hall n (map back posts) (map back rest) (back last) (ap (map back) is ∙ map_snoc back rest last) team.numbers team.members
 
-    pub last_here : (back last).hall ≡ hall.id
-    last_here = at.5.seated.here
+  pub last_here : (back last).hall ≡ hall.id
+  last_here = at.5.here
 
-    pub last_unjoined : Contains seat.view.unjoined (back last).view.number
-    last_unjoined = may_join hall joining.n at.0 seat (back last) at.1 joining.unjoined at.3
+  pub last_unjoined : Contains seat.view.unjoined (back last).view.number
+  last_unjoined = may_join hall n at.0 seat (back last) at.1 team.unjoined at.3
 
-    pub joining_goes_on : (next : SeatState (EngineState A V) V) → next ≡ record seat { view = both_views seat.view (back last).view } → IsJoining hall next (map back rest)
-    joining_goes_on next same = record {
-      seated = joined_seated hall seat (back last) next same joining.seated;
-      first = joined_number hall seat (back last) next same ∙ joining.first;
-      n = at.0;
-      unjoined = joined_unjoined hall seat (back last) next same joining.n at.0 at.1 joining.unjoined at.3;
-      numbers = at.2;
-      others = joining.others;
-      members = at.4;
-    }
+  team_goes_on : (next : SeatState (EngineState A V) V) → next ≡ record seat { view = both_views seat.view (back last).view } → IsTeam hall at.0 next (map back rest)
+  team_goes_on next same = record {
+    seated = joined_seated hall seat (back last) next same team.seated;
+    first = joined_number hall seat (back last) next same ∙ team.first;
+    unjoined = joined_unjoined hall seat (back last) next same n at.0 at.1 team.unjoined at.3;
+    numbers = at.2;
+    members = at.4;
+  }
 
-  pub joining_ends : (seat : SeatState (EngineState A V) V) (posts : List Q) → posts ≡ [] → IsJoining hall seat (map back posts) → seat.view.unjoined ≡ []
-  joining_ends seat posts none joining = joining.unjoined ∙ ap down_from (none_left hall joining.n (map back posts) (ap (map back) none) joining.numbers)
+module _ {A V Q : Type 0} (hall : HallState (EngineState A V)) (back : Q → SeatState (EngineState A V) V) (old seat : SeatState (EngineState A V) V) where
+  pub joining_goes_on : (posts rest : List Q) (last : Q) → posts ≡ rest ++ last ∷ [] → IsJoining hall old seat (map back posts)
+      → (next : SeatState (EngineState A V) V) → next ≡ record seat { view = both_views seat.view (back last).view } → IsJoining hall old next (map back rest)
+  joining_goes_on posts rest last is joining next same = record {
+    n = _;
+    team = team_goes_on hall back joining.n seat posts rest last is joining.team next same;
+    drained = joined_drained hall seat (back last) next same ∙ joining.drained;
+  }
 
--- a team has a seat
-pub some_seat : {A V Q : Type 0} (hall : HallState (EngineState A V)) (back : Q → SeatState (EngineState A V) V) (others : ℕ) (posts : List Q) → IsTeam hall others (map back posts) → 0 < length posts
-some_seat hall back others [] team = absurd (no_snoc (up_to others) 0 (sym team.numbers))
-some_seat hall back others (post ∷ posts) team = omega arith
+  pub joining_ends : (posts : List Q) → posts ≡ [] → IsJoining hall old seat (map back posts) → seat.view.unjoined ≡ []
+  joining_ends posts none joining =
+      joining.team.unjoined ∙ ap down_from (none_left hall joining.n (map back posts) (ap (map back) none) joining.team.numbers)
 
 -- what holds at each place
 pub zipped : {X Y : Type 0} (R : X → Y → Type 0) (xs : List X) (ys : List Y) → length ys ≡ length xs → ((k : ℕ) (x : X) (d : Y) → k < length xs → R (get_or xs k x) (get_or ys k d)) → AllZip R xs ys

@@ -10,7 +10,6 @@ use Rattle.run_laws.specs.Progress.{Progress}
 use Rattle.run_laws.specs.Sound.{IsSound}
 use Rattle.graph_update.specs.Engine.{EngineState}
 use Rattle.source_pool.specs.Course.{IsJobDone}
-use Rattle.worker_gate.specs.Fits.{drained_count}
 use Rattle.worker_gate.specs.Turns.{HallState, SeatState}
 use Rattle.free_pool.specs.declared.turns.Next.{Next}
 use Rattle.free_pool.specs.declared.turns.Next.TheVariants as next
@@ -69,8 +68,7 @@ module _ {V : Type 0} (app : Application V) where
   IsAnswer now next.Wait = (now.over ≡ None) × (now.nodes ≢ []) × (clear_nodes app now.nodes ≡ [])
   IsAnswer now next.Stop = (now.over ≢ None) ⊎ (now.nodes ≡ [])
 
--- The seat is of the hall, and knows its origin. The first seat has drained nothing since.
+-- the seat is of the hall, and knows its origin
 pub record IsSeated {A V : Type 0} (hall : HallState (EngineState A V)) (seat : SeatState (EngineState A V) V) : Type 0 where
   pub here : seat.hall ≡ hall.id
   pub origin_is : seat.view.origin ≡ Some hall.origin
-  pub drained : seat.view.number ≡ 0 → seat.view.drained ≡ drained_count hall.origin.progress

@@ -3,12 +3,17 @@
 
 mod acting;
 mod bell;
+mod beside;
 mod free;
 mod hand;
+mod lead;
+mod lead_turn;
 mod plan;
+mod stream;
 mod team;
 mod turns;
 mod worker;
 
 pub use free::run_free;
-pub use source_pool::RunFault;
+pub use source_pool::{Flow, RunFault};
+pub use stream::free_to;

@@ -116,7 +116,7 @@ pub(crate) fn give_up<'h, 'a, R: Wait, A: App>(
 
 /// Ends the tasks that were performed, and lets light tasks act, or claims others. Where an end is refused
 /// or memory runs out, a mark stands afterwards. A task that was to act and didn't end comes back.
-fn work_in_turn<'a, A: App, L: Ledger>(
+pub(crate) fn work_in_turn<'a, A: App, L: Ledger>(
     engine: &mut Engine<'a, A>,
     hand: &mut Hand<A::Val>,
     pick: Pick,
@@ -280,7 +280,7 @@ fn claim_by<A: App>(engine: &mut Engine<'_, A>, pick: Pick) -> Result<Claim<A::V
 
 /// Leaves the turn, in which so many of the tasks that were performed ended, those in the hand were claimed
 /// or acted, and one may be stuck.
-fn leave_as<'h, 'a, A: App>(
+pub(crate) fn leave_as<'h, 'a, A: App>(
     turn: Turn<'h, 'a, A>,
     ended: usize,
     hand: &Hand<A::Val>,

@@ -7,3 +7,4 @@ pub mod Legs
 pub mod Performing
 pub mod Runs
 pub mod Streams
+pub mod TellingLaws

@@ -1,6 +1,7 @@
 ghost use Rattle.source_pool.specs.Basis.{Basis};
 ghost use Rattle.source_pool.specs.KeptLaws.{ActsAreTheRound, ActsPassWithTheRound, DrainedEntriesAreFirst, DrainedTextsAreKept, EndsAreTheRound, EndsPassWithTheRound, KeptTextsAreFronts, RenamingsKeepTexts};
 ghost use Rattle.source_pool.specs.Legs.{LegsBegin, LegsGoOn, RenamingsGoOn};
+ghost use Rattle.source_pool.specs.TellingLaws.{AllIsWritten, FrontsAreWritten, NothingIsTold, TellingsAdd, TellingsBegin};
 ghost use Rattle.source_pool.specs.Laws.{ActsBegin, ActsComeToRest, ActsGoOn, ClaimsGoOn, ClaimsLeaveFewer, DrainsKeepRest, DrawingsBegin, DrawnJobsAreTheRound, DrawnJobsDiffer, EndsComeToRest, EndsGoOn, FirstMayAct, FirstMayEnd, RestWithoutNodesIsTheEnd, RoundsAdd, RoundsAreTaken, RoundsHaveActs, RoundsHaveJobs, StartsAreAtRest, TooManyActsNeverEnd, TooManyNeverEnd, WholeIsHome};
 
 use app_laws::{App, execution_laws, lawful, naming_laws, orderly_laws};
@@ -10,6 +11,7 @@ use commuting::{
     standing_laws,
 };
 use kdg_graph::laws::{node_laws, put_laws};
+use outer_edge::Sink;
 use output_log::{join_laws, part_laws};
 use run_laws::{
     act_laws, clear_claim_laws, clear_laws, course_act_laws, course_claim_laws, course_drain_laws,
@@ -149,4 +151,15 @@ pub fn drained_laws<A: App>()
     ensures { (app : A) → DrainedEntriesAreFirst (A.meaning app) }
 {
     basis::<A>();
+}
+
+/// What an outlet tells adds up, and what a sink has got of it is a front of it; all of it, where nothing is
+/// held and no write has failed.
+pub fn telling_laws<K: Sink>()
+    ensures begins { TellingsBegin K.contents K.faults }
+    ensures none { NothingIsTold K.contents K.faults }
+    ensures add { TellingsAdd K.contents K.faults }
+    ensures all { AllIsWritten }
+    ensures front { FrontsAreWritten }
+{
 }

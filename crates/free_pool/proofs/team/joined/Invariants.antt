@@ -1,9 +1,10 @@
-use Rattle.std.proofs.Common.{map, length}
+use Rattle.std.proofs.Common.{◌≡◌, ℕ, map, length}
+use Rattle.free_pool.specs.Team.{IsTeam}
 use Rattle.free_pool.proofs.Seats.{IsJoining}
 use Rattle.free_pool.proofs.team.joined.Given as goal
 
 abbrev pub invariant-loop-post : goal.invariant-loop-post
-invariant-loop-post g l = IsJoining l.fn.hall l.seat (map (λ post. post.seat) l.posts.items)
+invariant-loop-post g l = IsJoining l.fn.hall l.fn.seat l.seat (map (λ post. post.seat) l.others.items)
 
 abbrev pub decreases-loop-post : goal.decreases-loop-post
-decreases-loop-post g l = length l.posts.items
+decreases-loop-post g l = length l.others.items

@@ -1,31 +1,31 @@
 use denote.Param.{param}
+use denote.Param.Members.{Shared}
 use denote.Param.Send.{IsSend, sendable}
-use denote.Ref.{NamedLft}
-use Rattle.std.proofs.Common.{◌≡◌, List, get_or, length, rules, subst, sym, arith}
-use Rattle.worker_gate.specs.declared.post.Post.{Post}
-use Rattle.free_pool.specs.Team.{HasWorked}
-use Rattle.free_pool.proofs.Seats.{zipped}
+use denote.Ref.{MutBor, NamedLft}
+use Rattle.std.proofs.Common.{rules, subst}
+use Rattle.std.proofs.Crossing.{crosses}
+use Rattle.text_outlet.specs.Sending.{TellsOn}
 use Rattle.worker_gate.specs.contracts.post.Post as post
+use Rattle.free_pool.specs.Beside.{GivesTwo}
 use Rattle.free_pool.proofs.team.work_all.Goals as goal
 
-pub map_vec-requires-send-J : goal.map_vec-requires-send-J
-map_vec-requires-send-J g c κs within =
-    let posts : (h a : NamedLft) → IsSend (post.the_row h a (param 1 g.row.A) (param 3 g.row.A-Val) (param 4 g.row.A-Horizon) g.A.App g.A.Val.Held) =
-    λ h a. record { owned = (c.post_sends.ensures h a).owned; leaving = (c.post_sends.ensures h a).leaving } in
-    search (sendable, posts) depth 40
+-- what is so of the call is so of what it was given and what it left
+of_call : {F S T : Type 0} {g : Shared F (MutBor S × (MutBor T × Unit {0})) (Unit {0} × (MutBor S × (MutBor T × Unit {0})))} {f : F} {x : S} {y : T} {x' : S} {y' : T}
+    (given : GivesTwo g f x y x' y') (R : S → T → S → T → Type 0) → R given.first.now given.second.now given.first_after.now given.second_after.now → R x y x' y'
+of_call {x = x} {y = y} {x' = x'} {y' = y'} given R call =
+    subst (λ s. R s y x' y') given.first_is
+    (subst (λ t. R given.first.now t x' y') given.second_is
+    (subst (λ s. R given.first.now given.second.now s y') given.first_left
+    (subst (λ t. R given.first.now given.second.now given.first_after.now t) given.second_left call)))
 
-pub map_vec-requires-send-X : goal.map_vec-requires-send-X
-map_vec-requires-send-X g c κs within =
-    let posts : (h a : NamedLft) → IsSend (post.the_row h a (param 1 g.row.A) (param 3 g.row.A-Val) (param 4 g.row.A-Horizon) g.A.App g.A.Val.Held) =
+pub beside-requires-send-J : goal.beside-requires-send-J
+beside-requires-send-J g c κs within =
+    let posts : (h a : NamedLft) → IsSend (post.the_row h a (param 1 g.row.A) (param 4 g.row.A-Val) (param 5 g.row.A-Horizon) g.A.App g.A.Val.Held) =
     λ h a. record { owned = (c.post_sends.ensures h a).owned; leaving = (c.post_sends.ensures h a).leaving } in
-    search (sendable, posts) depth 40
+    search (sendable, crosses, posts) depth 40
 
-pub returns : goal.returns
-returns g c =
-    let posts : List (Post g.row.A.Denot g.row.A-Val.Denot g.row.A-Horizon.Denot) = c.args.posts.items in
-    let backs : List (Post g.row.A.Denot g.row.A-Val.Denot g.row.A-Horizon.Denot) = c.in_ok-backs.backs.items in
-    let long : length backs ≡ length posts = omega (arith, c.in_ok-backs.ensures.len, c.in_ok-backs.backs.ok.0, c.args.posts.ok.0) in
-    zipped (λ (post back : Post g.row.A.Denot g.row.A-Val.Denot g.row.A-Horizon.Denot). HasWorked post.hall.now post.seat back.seat) posts backs long (λ k x d inside.
-    let given = (c.in_ok-backs.ensures.each k d inside).1 in
-    let call : HasWorked given.job.hall.now given.job.seat (get_or backs k d).seat = search rules in
-    subst (λ (post : Post g.row.A.Denot g.row.A-Val.Denot g.row.A-Horizon.Denot). HasWorked post.hall.now post.seat (get_or backs k d).seat) (sym (given.job_is x)) call)
+pub returns-clause-tells : goal.returns-clause-tells
+returns-clause-tells g c =
+    let given = c.beside.ensures.own in
+    let call : TellsOn g.K.Sink.contents g.K.Sink.faults given.first.now.outlet given.second.now given.first_after.now.outlet given.second_after.now = search rules in
+    of_call given (λ lead out next next_out. TellsOn g.K.Sink.contents g.K.Sink.faults lead.outlet out next.outlet next_out) call

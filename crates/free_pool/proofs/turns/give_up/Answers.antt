@@ -8,31 +8,22 @@ pub returns-clause-seated : goal.returns-clause-seated
 returns-clause-seated g c =
     let turn = c.enter-turn.result in
     let engine = c.give_up.new.self in
-    let drained : drained_count engine.progress ≡ drained_count turn.engine.progress =
-    ap (λ (e : EngineState g.row.A.Denot g.row.A-Val.Denot). drained_count e.progress) c.give_up.ensures.marked
-    ∙ ap (λ (e : EngineState g.row.A.Denot g.row.A-Val.Denot). drained_count e.progress) c.engine.ensures.value in
     let found = turn_found c.args.hall.now c.args.seat turn c.requires.seated c.enter-turn.ensures in
     still_seated c.args.hall.now c.args.seat turn c.requires.seated c.enter-turn.ensures engine turn.view.jobs [] c.leave.result
-    drained c.leave.ensures.hall (c.leave.ensures.view turn.engine found)
+    c.leave.ensures.hall (c.leave.ensures.view turn.engine found)
 
 pub returns-clause-number : goal.returns-clause-number
 returns-clause-number g c =
     let turn = c.enter-turn.result in
     let engine = c.give_up.new.self in
-    let drained : drained_count engine.progress ≡ drained_count turn.engine.progress =
-    ap (λ (e : EngineState g.row.A.Denot g.row.A-Val.Denot). drained_count e.progress) c.give_up.ensures.marked
-    ∙ ap (λ (e : EngineState g.row.A.Denot g.row.A-Val.Denot). drained_count e.progress) c.engine.ensures.value in
     let found = turn_found c.args.hall.now c.args.seat turn c.requires.seated c.enter-turn.ensures in
     same_number c.args.hall.now c.args.seat turn c.requires.seated c.enter-turn.ensures engine turn.view.jobs [] c.leave.result
-    drained c.leave.ensures.hall (c.leave.ensures.view turn.engine found)
+    c.leave.ensures.hall (c.leave.ensures.view turn.engine found)
 
 pub returns-clause-unjoined : goal.returns-clause-unjoined
 returns-clause-unjoined g c =
     let turn = c.enter-turn.result in
     let engine = c.give_up.new.self in
-    let drained : drained_count engine.progress ≡ drained_count turn.engine.progress =
-    ap (λ (e : EngineState g.row.A.Denot g.row.A-Val.Denot). drained_count e.progress) c.give_up.ensures.marked
-    ∙ ap (λ (e : EngineState g.row.A.Denot g.row.A-Val.Denot). drained_count e.progress) c.engine.ensures.value in
     let found = turn_found c.args.hall.now c.args.seat turn c.requires.seated c.enter-turn.ensures in
     same_unjoined c.args.hall.now c.args.seat turn c.requires.seated c.enter-turn.ensures engine turn.view.jobs [] c.leave.result
-    drained c.leave.ensures.hall (c.leave.ensures.view turn.engine found)
+    c.leave.ensures.hall (c.leave.ensures.view turn.engine found)

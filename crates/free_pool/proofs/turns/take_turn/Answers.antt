@@ -1,7 +1,6 @@
 use Rattle.std.proofs.Common.{◌≡◌, ◌∙◌, List, ◌++◌, Option, sym, subst, ap}
 use Rattle.graph_update.specs.Engine.{EngineState}
 use Rattle.run_laws.specs.Jobs.{Job}
-use Rattle.worker_gate.specs.Fits.{drained_count}
 use Rattle.free_pool.specs.Acted.{jobs_stuck, keys_acted}
 use Rattle.free_pool.specs.declared.acting.Stuck.{Stuck}
 use Rattle.free_pool.specs.Turns.{MayEnd, jobs_left, keys_ended}
@@ -21,11 +20,9 @@ returns-clause-seated g c =
     let hand = c.work_in_turn-stuck.new.hand in
     let jobs = jobs_stuck c.work_in_turn-stuck.result.1 ++ jobs_left turn.view.jobs ended hand.jobs.items in
     let keys = keys_ended turn.view.jobs ended ++ keys_acted hand.acted.items in
-    let drained : drained_count engine.progress ≡ drained_count turn.engine.progress =
-    c.work_in_turn-stuck.ensures.drained ∙ ap (λ (e : EngineState g.row.A.Denot g.row.A-Val.Denot). drained_count e.progress) c.engine.ensures.value in
     let found = turn_found c.args.hall.now c.args.seat turn c.requires.seated c.enter-turn.ensures in
     still_seated c.args.hall.now c.args.seat turn c.requires.seated c.enter-turn.ensures engine jobs keys c.leave_as.result
-    drained c.leave_as.ensures.hall (c.leave_as.ensures.view turn.engine found)
+    c.leave_as.ensures.hall (c.leave_as.ensures.view turn.engine found)
 
 pub returns-clause-number : goal.returns-clause-number
 returns-clause-number g c =
@@ -35,11 +32,9 @@ returns-clause-number g c =
     let hand = c.work_in_turn-stuck.new.hand in
     let jobs = jobs_stuck c.work_in_turn-stuck.result.1 ++ jobs_left turn.view.jobs ended hand.jobs.items in
     let keys = keys_ended turn.view.jobs ended ++ keys_acted hand.acted.items in
-    let drained : drained_count engine.progress ≡ drained_count turn.engine.progress =
-    c.work_in_turn-stuck.ensures.drained ∙ ap (λ (e : EngineState g.row.A.Denot g.row.A-Val.Denot). drained_count e.progress) c.engine.ensures.value in
     let found = turn_found c.args.hall.now c.args.seat turn c.requires.seated c.enter-turn.ensures in
     same_number c.args.hall.now c.args.seat turn c.requires.seated c.enter-turn.ensures engine jobs keys c.leave_as.result
-    drained c.leave_as.ensures.hall (c.leave_as.ensures.view turn.engine found)
+    c.leave_as.ensures.hall (c.leave_as.ensures.view turn.engine found)
 
 pub returns-clause-unjoined : goal.returns-clause-unjoined
 returns-clause-unjoined g c =
@@ -49,11 +44,9 @@ returns-clause-unjoined g c =
     let hand = c.work_in_turn-stuck.new.hand in
     let jobs = jobs_stuck c.work_in_turn-stuck.result.1 ++ jobs_left turn.view.jobs ended hand.jobs.items in
     let keys = keys_ended turn.view.jobs ended ++ keys_acted hand.acted.items in
-    let drained : drained_count engine.progress ≡ drained_count turn.engine.progress =
-    c.work_in_turn-stuck.ensures.drained ∙ ap (λ (e : EngineState g.row.A.Denot g.row.A-Val.Denot). drained_count e.progress) c.engine.ensures.value in
     let found = turn_found c.args.hall.now c.args.seat turn c.requires.seated c.enter-turn.ensures in
     same_unjoined c.args.hall.now c.args.seat turn c.requires.seated c.enter-turn.ensures engine jobs keys c.leave_as.result
-    drained c.leave_as.ensures.hall (c.leave_as.ensures.view turn.engine found)
+    c.leave_as.ensures.hall (c.leave_as.ensures.view turn.engine found)
 
 pub returns-clause-jobs : goal.returns-clause-jobs
 returns-clause-jobs g c on =
@@ -63,10 +56,8 @@ returns-clause-jobs g c on =
     let hand = c.work_in_turn-stuck.new.hand in
     let jobs = jobs_stuck c.work_in_turn-stuck.result.1 ++ jobs_left turn.view.jobs ended hand.jobs.items in
     let keys = keys_ended turn.view.jobs ended ++ keys_acted hand.acted.items in
-    let drained : drained_count engine.progress ≡ drained_count turn.engine.progress =
-    c.work_in_turn-stuck.ensures.drained ∙ ap (λ (e : EngineState g.row.A.Denot g.row.A-Val.Denot). drained_count e.progress) c.engine.ensures.value in
     let found = turn_found c.args.hall.now c.args.seat turn c.requires.seated c.enter-turn.ensures in
     jobs_after c.args.hall.now c.args.seat turn c.requires.seated c.enter-turn.ensures engine jobs keys c.leave_as.result
-    drained c.leave_as.ensures.hall (c.leave_as.ensures.view turn.engine found)
+    c.leave_as.ensures.hall (c.leave_as.ensures.view turn.engine found)
     ∙ ap (λ (stuck : Option (Stuck (EngineState g.row.A.Denot g.row.A-Val.Denot))). jobs_stuck stuck ++ jobs_left turn.view.jobs ended hand.jobs.items) (c.work_in_turn-stuck.ensures.goes_on on)
     ∙ ap (λ (jobs : List (Job g.row.A-Val.Denot)). jobs_left jobs ended hand.jobs.items) (turn_jobs c.args.hall.now c.args.seat turn c.requires.seated c.enter-turn.ensures)
