@@ -1,6 +1,5 @@
 -- The print of a run, and why there is none.
 use Rattle.std.proofs.Common.{◌≡◌, ◌≢◌, ℕ, ◌<◌, List, ◌++◌, ◌&&◌, Bool, true, false, cond, Option, Some, None, Ok, Err, refl, sym, ◌∙◌, ap, subst, inl, inr, arith}
-use Rattle.std.specs.Bool.{then_some}
 use Rattle.std.specs.Prelude.{IfOk, IfErr, IsErrAnd, Result}
 use Rattle.cell_store.specs.Laws.{HomesAreValues}
 use Rattle.cell_store.specs.Values.{AreAllHome, values_of}
@@ -18,7 +17,7 @@ use Rattle.kdg_prog.specs.declared.status.Status.{Status}
 use Rattle.kdg_prog.specs.declared.status.Status.TheVariants as status
 use Rattle.kdg_prog.specs.declared.words.Mode.TheVariants.{Serial}
 use Rattle.kdg_prog.specs.declared.words.Options.{Options}
-use Rattle.kdg_prog.specs.Problem.{Problem, whole_print, start_for, print_of, print_of_finals, answer_by, answer_by_end, answer_read, end_of, is_in_rounds, rounds_of, rounds_text, rounds_told, FirstPassesRead, text_shown}
+use Rattle.kdg_prog.specs.Problem.{Problem, whole_print, start_for, print_of, print_of_finals, answer_by, answer_by_end, answer_read, end_of, is_in_rounds, rounds_shown, rounds_text, rounds_told, FirstPassesRead, text_shown}
 use Rattle.kdg_prog.specs.Refusals.{AnswersRounds, AnswersSerial, IsRefusalBy, IsRunRefusal}
 
 -- cells of a run that has ended are home
@@ -28,6 +27,14 @@ run_is_home act budget start finals laws run = subst AreAllHome (sym run.store) 
 pub refused_with : {T : Type 0} (result : Result T Status) (P Q : Status → Type 0) → ((answer : Status) → P answer → Q answer) → IsErrAnd result P → IfErr result Q
 refused_with (Ok given) P Q implies is = tt
 refused_with (Err answer) P Q implies is = implies answer is
+
+-- where it isn't a mode of rounds, no rounds are told
+pub none_told : (options : Options) → is_in_rounds options.mode ≡ false → (rounds : ℕ) → rounds_shown options rounds ≡ None
+none_told options elsewhere rounds = ap (λ told. cond (options.stats && told) (Some rounds) None) elsewhere ∙ neither options.stats
+  where
+    neither : (stats : Bool) → cond (stats && false) (Some rounds) None ≡ None
+    neither true = refl
+    neither false = refl
 
 module _ {V : Type 0} (options : Options) (problem : Problem V) where
   pub refusal_when_over : (created : ℕ) → IsOverBudget problem.app.act options.budget (start_for problem) created options.budget → IsRunRefusal options problem (status.Budget created options.budget)
@@ -58,23 +65,6 @@ module _ {V : Type 0} (options : Options) (problem : Problem V) where
       let printed : bytes ≡ print_of problem options told run.end =
       is-bytes ∙ (λ i. text_shown options (run.text i) (problem.finals (cells i)) (run.count i) ++ rounds_text told) in
       (λ i. answer_by_end problem options (tells i) (run.ends i)) ∙ ap whole_print (sym printed)
-
-  -- where it isn't a mode of rounds, no rounds are told
-  pub none_told : is_in_rounds options.mode ≡ false → rounds_told options problem ≡ None
-  none_told elsewhere = ap (λ rounds. cond (options.stats && rounds) (Some (rounds_of options problem)) None) elsewhere ∙ neither options.stats
-    where
-      neither : (stats : Bool) → cond (stats && false) (Some (rounds_of options problem)) None ≡ None
-      neither true = refl
-      neither false = refl
-
-  -- in a mode of rounds their number is told, where figures are asked for
-  pub rounds_told_in_rounds : is_in_rounds options.mode ≡ true → (rounds : ℕ) → rounds_of options problem ≡ rounds → rounds_told options problem ≡ then_some options.stats rounds
-  rounds_told_in_rounds in_rounds rounds counted =
-      (λ i. cond (options.stats && in_rounds i) (Some (counted i)) None) ∙ asked options.stats
-    where
-      asked : (stats : Bool) → cond (stats && true) (Some rounds) None ≡ then_some stats rounds
-      asked true = refl
-      asked false = refl
 
   -- the refusal of a run that isn't serial and does not end within the budget
   pub refusal_when_endless : options.mode ≢ Serial → (created limit : ℕ) → end_of options problem ≡ None → limit ≡ options.budget → limit < created → (answer : Status) → answer ≡ status.Budget created limit → IsRunRefusal options problem answer

@@ -7,13 +7,13 @@ use Rattle.std.specs.Option.{option_map}
 use Rattle.std.specs.Io.KnownBytes.{Appends}
 use Rattle.task_order.specs.Key.{end}
 use Rattle.cell_store.specs.Laws.{HomesAreValues}
-use Rattle.cell_store.specs.Values.{values_of}
+use Rattle.cell_store.specs.Values.{AreAllHome, values_of}
 use Rattle.output_log.specs.Entries.{Entry, joined_by_key, joined_texts}
 use Rattle.output_log.specs.Laws.{JoinsWithNone}
 use Rattle.app_laws.specs.Execution.{Execution, Operator, after_steps, is_clear_before, steps_until}
 use Rattle.app_laws.specs.Laws.{IsFirstClear, LogsGrowAtTheEnd, StopsWhenClear}
 use Rattle.app_laws.specs.Order.{IsOrderly}
-use Rattle.app_laws.specs.Serial.{IsRun}
+use Rattle.app_laws.specs.Applications.{Application}
 use Rattle.app_laws.specs.declared.serial_run.Finals.{Finals}
 use Rattle.commuting.specs.States.{State, execution_from}
 use Rattle.crew.specs.declared.answers.OverCause.TheVariants as cause
@@ -24,14 +24,17 @@ use Rattle.run_laws.specs.Answers.{IsBegun}
 use Rattle.run_laws.specs.Progress.{Progress}
 use Rattle.source_pool.specs.Kept.{IsKeptAfter, IsLastRound, sequential_text}
 use Rattle.source_pool.specs.Legs.{IsEndBehind}
-use Rattle.source_pool.specs.Streams.{IsStreamEnd, IsStreamOver, TakesFront, TakesLastKept}
+use Rattle.source_pool.specs.Streams.{IsFitFlow, IsFlow, TakesFront, TakesLastKept}
+use Rattle.source_pool.specs.Runs.{IsRoundsEnd}
+use Rattle.source_pool.specs.declared.flow.Flow.{Flow}
+use Rattle.source_pool.specs.declared.flow.Flow.TheVariants as flow
 use Rattle.kdg_prog.specs.declared.status.Status.{Status}
 use Rattle.kdg_prog.specs.declared.status.Status.TheVariants as status
 use Rattle.kdg_prog.specs.declared.words.Mode.TheVariants.{Rounds, Serial}
 use Rattle.kdg_prog.specs.declared.words.Options.{Options}
-use Rattle.kdg_prog.specs.Problem.{KeepsText, MayStream, Problem, answer_by, first_state, log_within, print_of_finals, rounds_text, rounds_told, start_for, tasks_line, text_shown, whole_print}
-use Rattle.kdg_prog.specs.Serving.{IsRunServed, IsWritten}
-use Rattle.kdg_prog.proofs.AtEnd.{any_end, ascends, begins, left_of_limit, refusal_of_run, run_at_end}
+use Rattle.kdg_prog.specs.Problem.{KeepsText, MayStream, Problem, answer_by, first_state, log_within, print_of_finals, rounds_of, rounds_shown, rounds_text, start_for, tasks_line, text_shown, whole_print}
+use Rattle.kdg_prog.specs.Serving.{IsHomeFlow, IsRunServed, IsStreamEnd, IsStreamed, IsWritten, LeavesRunLog}
+use Rattle.kdg_prog.proofs.AtEnd.{any_end, ascends, begins, home_at_end, left_of_limit, refusal_of_run, run_at_end}
 use Rattle.kdg_prog.proofs.Refusing.{print_from_run}
 use Rattle.kdg_prog.proofs.Serving.{appends_both, front_behind, front_of, front_of_longer, of_error}
 
@@ -69,6 +72,14 @@ module _ {V : Type 0} (options : Options) (problem : Problem V) (read : options.
       ∙ (λ i. (whole.text ++ (problem.finals (values_of (sym behind.store i)) ++ tasks_line (sym behind.count i))) ++ rounds)
       ∙ ap (λ (l : List ℕ). l ++ rounds) (sym (shown whole.text (problem.finals (values_of whole.store)) whole.count))
 
+-- there was no memory
+without_room : {V : Type 0} (options : Options) (problem : Problem V) → MayStream options → (sink : Transfer) → AppendsFront sink.before sink.after (log_within options problem) → LeavesRunLog options problem sink status.NoMemory
+without_room options problem streams sink front = record {
+  front = front;
+  kept = λ created limit told. absurd (let never : status.NoMemory ≡ status.Budget created limit = told in cc);
+  told = λ never. absurd (never streams);
+}
+
 module _ {V : Type 0} (options : Options) (problem : Problem V) (progress : Progress V) (values : HomesAreValues V) (begun : IsBegun problem.app problem.cells problem.tasks options.budget progress)
     (orderly : (steps : ℕ) → IsOrderly (after_steps problem.app.act steps (start_for problem))) (joins : JoinsWithNone) (streams : MayStream options) where
   -- what is kept of the run is kept of the execution
@@ -99,87 +110,90 @@ module _ {V : Type 0} (options : Options) (problem : Problem V) (progress : Prog
       (λ i. joined_texts (joined_by_key (begun.nothing_logged i) (after_steps problem.app.act (left i) (execution_from (start i))).log))
       ∙ ap joined_texts (joins (after_steps problem.app.act options.budget (start_for problem)).log (ascends _ (orderly options.budget).log_ascending)).1
 
-  front_from : (sink : Transfer) → TakesFront problem.app progress sink → AppendsFront sink.before sink.after (log_within options problem)
-  front_from sink took = subst (AppendsFront sink.before sink.after) text_within took
+  module _ (sink : Transfer) where
+    front_from : TakesFront problem.app progress sink → AppendsFront sink.before sink.after (log_within options problem)
+    front_from took = subst (AppendsFront sink.before sink.after) text_within took
 
-  -- the run passed the limit
-  pub served_over : (sink : Transfer) (created limit : ℕ) (failed : Bool) → IsStreamOver problem.app progress sink created limit failed → IsRunServed {T = Unit {0}} options problem sink (Err (status.Budget created limit))
-  served_over sink created limit failed over =
-      inr (
-        refusal_of_run options problem progress values begun (not_serial options streams) (cause.Budget created limit) (status.Budget created limit) over.over refl,
-        record {
-          front = front_from sink over.front;
-          kept = λ most allowed told may fine. kept_from sink (over.kept (without_fault failed sink over.fault fine));
-          told = λ never. absurd (never streams);
-        },
-      )
+    -- what a run in rounds comes to
+    pub streamed_rounds : (flow : Flow V) → IsFlow problem.app progress sink flow → ((finals : Finals V) (rounds : ℕ) → IsRoundsEnd problem.app progress finals rounds → rounds_of options problem ≡ rounds)
+        → IsStreamed options problem sink flow
+    streamed_rounds (flow.Ended finals rounds failed) ended counted = record {
+      whole = ended.whole;
+      run = run_at_end options problem progress values begun orderly joins ended.whole (any_end problem.app progress ended.whole rounds ended.end);
+      told = ap (rounds_shown options) (counted ended.whole rounds ended.end);
+      text = ended.text;
+      behind = ended.behind;
+      all = λ none. let written = (rw (none) at ended.written) in (ended.all none, written.0, written.1);
+      cut = λ some. (rw (some) at ended.written);
+    }
+    streamed_rounds (flow.Budget created limit failed) over counted = (
+      refusal_of_run options problem progress values begun (not_serial options streams) (cause.Budget created limit) (status.Budget created limit) over.over refl,
+      record {
+        front = front_from over.front;
+        kept = λ most allowed told may fine. kept_from sink (over.kept (without_fault failed sink over.fault fine));
+        told = λ never. absurd (never streams);
+      },
+    )
+    streamed_rounds flow.NoRoom took counted = without_room options problem streams sink (front_from took)
 
-  -- it had no memory
-  pub served_without_room : (sink : Transfer) → AppendsFront sink.before sink.after (log_within options problem) → IsRunServed {T = Unit {0}} options problem sink (Err status.NoMemory)
-  served_without_room sink front =
-      inr (
-        inr (inr refl),
-        record {
-          front = front;
-          kept = λ created limit told. absurd (let never : status.NoMemory ≡ status.Budget created limit = told in cc);
-          told = λ never. absurd (never streams);
-        },
-      )
+-- its cells are home
+pub home_in_rounds : {V : Type 0} (app : Application V) (progress : Progress V) (sink : Transfer) (flow : Flow V) → HomesAreValues V → IsFlow app progress sink flow → IsFitFlow app flow → IsHomeFlow app flow
+home_in_rounds app progress sink (flow.Ended finals rounds failed) values ended fit =
+    (subst AreAllHome ended.behind.store (home_at_end app progress ended.whole values (any_end app progress ended.whole rounds ended.end)), fit)
+home_in_rounds app progress sink (flow.Budget created limit failed) values over fit = tt
+home_in_rounds app progress sink flow.NoRoom values took fit = tt
 
-  pub served_no_room : (sink : Transfer) → TakesFront problem.app progress sink → IsRunServed {T = Unit {0}} options problem sink (Err status.NoMemory)
-  served_no_room sink took = served_without_room sink (front_from sink took)
+module _ {V : Type 0} (options : Options) (problem : Problem V) (values : HomesAreValues V) (streams : MayStream options) (finals : Finals V) (rounds : ℕ) (failed : Bool) (sink : Transfer) (ended : IsStreamEnd options problem sink finals rounds failed) where
+  -- the rest of the print
+  abbrev pub rest : List ℕ
+  rest = print_of_finals problem options (rounds_shown options rounds) finals
 
-  module _ (finals : Finals V) (rounds : ℕ) (failed : Bool) (sink : Transfer) (ended : IsStreamEnd problem.app progress sink finals rounds failed) where
-    run : IsRun problem.app.act options.budget (start_for problem) ended.whole
-    run = run_at_end options problem progress values begun orderly joins ended.whole (any_end problem.app progress ended.whole rounds ended.end)
+  -- the print is what was written, and the rest behind it
+  print_is : answer_by options problem ≡ whole_print (ended.text ++ rest)
+  print_is =
+      print_from_run options problem ended.whole (rounds_shown options rounds) (ended.text ++ rest) values ended.told ended.run
+      (print_behind options problem streams.1 ended.text finals ended.whole (rounds_shown options rounds) ended.behind)
 
-    -- the print is what was written, and what the finals print behind it
-    print_is : (told : Option ℕ) → rounds_told options problem ≡ told → answer_by options problem ≡ whole_print (ended.text ++ print_of_finals problem options told finals)
-    print_is told tells =
-        print_from_run options problem ended.whole told (ended.text ++ print_of_finals problem options told finals) values tells run
-        (print_behind options problem streams.1 ended.text finals ended.whole told ended.behind)
+  -- a write had failed
+  pub served_cut : failed ≡ true → IsRunServed {T = Unit {0}} options problem sink (Err status.WriteFault)
+  served_cut is =
+      let written = ended.cut is in
+      inl ((ended.text ++ rest, print_is, front_of_longer sink.before sink.after ended.text rest written.1, written.0), refl)
 
-    -- a write had failed
-    pub served_cut : failed ≡ true → IsRunServed {T = Unit {0}} options problem sink (Err status.WriteFault)
-    served_cut is =
-        let told = rounds_told options problem in
-        let rest = print_of_finals problem options told finals in
-        let written = (rw (is) at ended.written) in
-        inl ((ended.text ++ rest, print_is told refl, front_of_longer sink.before sink.after ended.text rest written.1, written.0), refl)
+  module _ (none : failed ≡ false) where
+    -- the rest of the print couldn't be made
+    pub served_before_rest : {T : Type 0} (result : Result T Status) → IsErrAnd result (λ answer. answer ≡ status.NoMemory) → ((act : Operator V) (e : Execution V) → StopsWhenClear act e) → ((act : Operator V) (e : Execution V) → LogsGrowAtTheEnd act e)
+        → IsRunServed options problem sink result
+    served_before_rest {T} result told stops grows =
+        let act = problem.app.act in
+        let start = start_for problem in
+        let end_of_run = ended.run in
+        let all = ended.all none in
+        let more = ended_in_front act options.budget start end_of_run.end (steps_until act options.budget end start) (stops act start options.budget end) (grows act start) end_of_run.ends in
+        let whole : ended.text ≡ joined_texts end_of_run.end.log = sym (append-nil ended.text) ∙ ap (λ (l : List ℕ). ended.text ++ l) (sym all.0) ∙ sym ended.behind.text_is ∙ end_of_run.text in
+        let log : log_within options problem ≡ ended.text ++ joined_texts more.0 =
+        ap joined_texts more.1 ∙ flat_map-append (λ (entry : Entry). entry.1) end_of_run.end.log more.0 ∙ ap (λ (l : List ℕ). l ++ joined_texts more.0) (sym whole) in
+        let front = subst (AppendsFront sink.before sink.after) (sym log) (front_of sink.before sink.after ended.text (joined_texts more.0) all.1) in
+        of_error (IsRunServed {T = T} options problem sink) status.NoMemory result told (inr (inr (inr refl), without_room options problem streams sink front))
 
-    module _ (none : failed ≡ false) where
-      all_written : Appends sink.before sink.after ended.text × (sink.faults_after ≡ sink.faults_before)
-      all_written = (rw (none) at ended.written)
-
-      -- the rest of the print couldn't be made
-      pub served_before_rest : {T : Type 0} (result : Result T Status) → IsErrAnd result (λ answer. answer ≡ status.NoMemory) → ((act : Operator V) (e : Execution V) → StopsWhenClear act e) → ((act : Operator V) (e : Execution V) → LogsGrowAtTheEnd act e)
-          → IsRunServed options problem sink result
-      served_before_rest {T} result told stops grows =
-          let act = problem.app.act in
-          let start = start_for problem in
-          let more = ended_in_front act options.budget start run.end (steps_until act options.budget end start) (stops act start options.budget end) (grows act start) run.ends in
-          let whole : ended.text ≡ joined_texts run.end.log = sym (append-nil ended.text) ∙ ap (λ (l : List ℕ). ended.text ++ l) (sym (ended.all none)) ∙ sym ended.behind.text_is ∙ run.text in
-          let log : log_within options problem ≡ ended.text ++ joined_texts more.0 =
-          ap joined_texts more.1 ∙ flat_map-append (λ (entry : Entry). entry.1) run.end.log more.0 ∙ ap (λ (l : List ℕ). l ++ joined_texts more.0) (sym whole) in
-          of_error (IsRunServed {T = T} options problem sink) status.NoMemory result told
-          (served_without_room sink (subst (AppendsFront sink.before sink.after) (sym log) (front_of sink.before sink.after ended.text (joined_texts more.0) all_written.0)))
-
-      -- and here it was written behind the log
-      pub served_rest : {T : Type 0} (told : Option ℕ) (rest : List ℕ) (after : Option (List ℕ)) (faults : ℕ) (result : Result T Status) → rounds_told options problem ≡ told → rest ≡ print_of_finals problem options told finals
-          → IsWritten (Ok rest) (record { before = sink.after; after = after; faults_before = sink.faults_after; faults_after = faults }) result
-          → IsRunServed options problem (record { before = sink.before; after = after; faults_before = sink.faults_before; faults_after = faults }) result
-      served_rest told rest after faults (Ok done) tells is written = (
-        ended.text ++ rest,
-        print_is told tells ∙ ap (λ (l : List ℕ). whole_print (ended.text ++ l)) (sym is),
-        appends_both sink.before sink.after after ended.text rest all_written.0 written.0,
-        written.1 ∙ all_written.1,
-      )
-      served_rest told rest after faults (Err answer) tells is written = inl (
-        (
-          ended.text ++ rest,
-          print_is told tells ∙ ap (λ (l : List ℕ). whole_print (ended.text ++ l)) (sym is),
-          front_behind sink.before sink.after after ended.text rest all_written.0 written.0,
-          subst (λ (n : ℕ). HasRisen n faults) all_written.1 written.1,
-        ),
-        written.2,
-      )
+    -- and here it was written behind the log
+    pub served_rest : {T : Type 0} (text : List ℕ) (after : Option (List ℕ)) (faults : ℕ) (result : Result T Status) → text ≡ rest
+        → IsWritten (Ok text) (record { before = sink.after; after = after; faults_before = sink.faults_after; faults_after = faults }) result
+        → IsRunServed options problem (record { before = sink.before; after = after; faults_before = sink.faults_before; faults_after = faults }) result
+    served_rest text after faults (Ok done) is written =
+        let all = ended.all none in (
+          ended.text ++ text,
+          print_is ∙ ap (λ (l : List ℕ). whole_print (ended.text ++ l)) (sym is),
+          appends_both sink.before sink.after after ended.text text all.1 written.0,
+          written.1 ∙ all.2,
+        )
+    served_rest text after faults (Err answer) is written =
+        let all = ended.all none in inl (
+          (
+            ended.text ++ text,
+            print_is ∙ ap (λ (l : List ℕ). whole_print (ended.text ++ l)) (sym is),
+            front_behind sink.before sink.after after ended.text text all.1 written.0,
+            subst (λ (n : ℕ). HasRisen n faults) all.2 written.1,
+          ),
+          written.2,
+        )

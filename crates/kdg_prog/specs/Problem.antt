@@ -84,6 +84,10 @@ is_in_rounds Rounds = true
 is_in_rounds Marks = true
 is_in_rounds mode = false
 
+-- a number of rounds, where it is told: in modes rounds and marks, where figures are asked for
+abbrev pub rounds_shown : Options → ℕ → Option ℕ
+rounds_shown options rounds = if options.stats && is_in_rounds options.mode then Some rounds else None
+
 -- the log may go out while the run goes on; else all is written at the end
 abbrev pub MayStream : Options → Type 0
 MayStream options = (options.mode ≡ Rounds) × (options.big ≡ 0)
@@ -119,9 +123,9 @@ module _ {V : Type 0} (options : Options) (problem : Problem V) where
   abbrev pub rounds_of : ℕ
   rounds_of = rounds_within problem.app options.budget (first_state problem)
 
-  -- their number is told in modes rounds and marks, where figures are asked for
+  -- their number, where it is told
   abbrev pub rounds_told : Option ℕ
-  rounds_told = if options.stats && is_in_rounds options.mode then Some rounds_of else None
+  rounds_told = rounds_shown options rounds_of
 
   -- what the run is answered
   abbrev pub answer_by : Answer

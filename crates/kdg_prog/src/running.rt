@@ -4,9 +4,9 @@ ghost use Rattle.cell_store.specs.Values.{AreAllHome, values_of};
 ghost use Rattle.app_laws.specs.Applications.{AreFitStarts};
 ghost use Rattle.list_rounds.specs.Rounds.{start_state};
 ghost use Rattle.list_rounds.specs.Runs.{IsRoundsEnd};
-ghost use Rattle.kdg_prog.specs.Problem.{MayStream, answer_by, figure_line, is_in_rounds, line_count, made_from, print_of_finals, problem_of, rounds_text, text_shown, whole_print};
+ghost use Rattle.kdg_prog.specs.Problem.{MayStream, answer_by, figure_line, is_in_rounds, line_count, made_from, print_of_finals, problem_of, rounds_shown, rounds_text, text_shown, whole_print};
 ghost use Rattle.kdg_prog.specs.Refusals.{IsAtStart, IsRunRefusal};
-ghost use Rattle.kdg_prog.specs.Serving.{IsRunServed, IsWritten, MayLeaveLog};
+ghost use Rattle.kdg_prog.specs.Serving.{IsHomeFlow, IsRunServed, IsStreamed, IsWritten, MayLeaveLog};
 ghost use Rattle.kdg_prog.specs.Starts.{IsStarted};
 ghost use Rattle.kdg_prog.specs.Words.{IsAllowed};
 
@@ -96,20 +96,39 @@ fn stream_rounds<R: Threads + Sync, A: Runnable, K: Sink, G: Gate + Sync>(
     ensures same_room { K.room sink.new ≡ K.room sink.old }
 {
     value_laws::<A::Val>();
-    execution_laws::<A::Val>();
     orderly_laws::<A>();
     join_laws();
     round_laws::<A>();
     standing_laws::<A>();
     round_count_laws::<A>();
     let engine = start_run(alloc, options, app)?;
-    match rounds_to(rt, alloc, engine, gate, options.seed, options.workers, sink) {
+    let flow = rounds_to(rt, alloc, engine, gate, options.seed, options.workers, sink);
+    end_stream(alloc, options, app, flow, sink)
+}
+
+/// Ends a run whose log has gone out: the rest of the print is written behind it, once it is made whole.
+fn end_stream<A: Runnable, K: Sink>(
+    alloc: Global,
+    options: &Options,
+    app: &A,
+    flow: Flow<A::Val>,
+    sink: &mut K,
+) -> Result<(), Status>
+    requires streams { MayStream options.now }
+    requires home { IsHomeFlow (A.meaning app.now) flow }
+    ensures served { (begin : K) → IsStreamed options.now (problem_of (A.meaning app.now) (A.setting app.now)) (transfer_of K.contents K.faults begin sink.old) flow → IsRunServed options.now (problem_of (A.meaning app.now) (A.setting app.now)) (transfer_of K.contents K.faults begin sink.new) result }
+    ensures may_leave { IfErr result (λ answer. answer ≢ Status.WriteFault → MayLeaveLog options.now answer) }
+    ensures same_room { K.room sink.new ≡ K.room sink.old }
+{
+    value_laws::<A::Val>();
+    execution_laws::<A::Val>();
+    match flow {
         Flow::Ended {
             finals,
             rounds,
             failed: false,
         } => {
-            let told = options.stats.then_some(rounds);
+            let told = rounds_shown(options, rounds);
             let rest = finals_print(alloc, options, app, finals, told)?;
             write_print(sink, Ok(rest))
         }
@@ -208,8 +227,8 @@ fn rounds_print<R: Threads + Sync, A: Runnable, G: Gate + Sync>(
     round_count_laws::<A>();
     let engine = start_run(alloc, options, app)?;
     let (finals, rounds) = run_rounds(rt, alloc, engine, gate, options.seed, options.workers)?;
-    let rounds = options.stats.then_some(rounds);
-    Ok(finals_print(alloc, options, app, finals, rounds)?)
+    let told = rounds_shown(options, rounds);
+    Ok(finals_print(alloc, options, app, finals, told)?)
 }
 
 /// The print of a run in rounds that are found by marks.
@@ -274,7 +293,7 @@ fn listed_print<A: Runnable>(
     round_laws::<A>();
     standing_laws::<A>();
     round_count_laws::<A>();
-    let told = options.stats.then_some(rounds);
+    let told = rounds_shown(options, rounds);
     finals_print(alloc, options, app, finals, told)
 }
 
@@ -298,6 +317,16 @@ pub(crate) fn print_of_free_run<R: Threads + Wait + Sync, A: Runnable, G: Gate +
     let engine = start_run(alloc, options, app)?;
     let finals = run_free(rt, alloc, engine, gate, options.seed, options.workers)?;
     Ok(finals_print(alloc, options, app, finals, None)?)
+}
+
+/// The number of rounds, where it is told.
+fn rounds_shown(options: &Options, rounds: u64) -> Option<u64>
+    ensures { result ≡ rounds_shown options.now rounds }
+{
+    match options.mode {
+        Mode::Rounds | Mode::Marks => options.stats.then_some(rounds),
+        Mode::Serial | Mode::Free => None,
+    }
 }
 
 /// The print of a run that has ended: its log, the finals and the number of tasks, or their figures

@@ -1,8 +1,8 @@
-use Rattle.std.proofs.Common.{◌≡◌, ◌∙◌, List, ℕ, sym}
+use Rattle.std.proofs.Common.{◌≡◌, ◌∙◌, List, ℕ, ap, sym}
 use Rattle.std.proofs.lemmas.Result.{IfOk-weaker}
-use Rattle.kdg_prog.specs.Problem.{answer_by, print_of_finals, problem_of, whole_print}
+use Rattle.kdg_prog.specs.Problem.{answer_by, print_of_finals, problem_of, rounds_shown, whole_print}
 use Rattle.kdg_prog.proofs.AtEnd.{rounds_to_end}
-use Rattle.kdg_prog.proofs.Refusing.{print_from_run, rounds_told_in_rounds, run_is_home}
+use Rattle.kdg_prog.proofs.Refusing.{print_from_run, run_is_home}
 use Rattle.kdg_prog.proofs.running.listed_print.Goals as goal
 
 pub finals_print-requires-clause-home : goal.finals_print-requires-clause-home
@@ -18,6 +18,6 @@ returns g c =
     let values = c.value_laws.ensures.values in
     let ready = c.standing_laws.ensures.starts_ready app setting.cells setting.tasks c.requires.fit_cells c.requires.fit_tasks in
     let counted = rounds_to_end options problem run.end c.args.rounds run.ends c.requires.end.rounds_are (c.round_count_laws.ensures.to_the_end app) (c.round_laws.ensures.one_number app) ready in
-    let told = rounds_told_in_rounds options problem c.requires.mode c.args.rounds counted ∙ sym c.then_some-told.ensures in
-    IfOk-weaker c.finals_print.result (λ bytes. bytes ≡ print_of_finals problem options c.then_some-told.result c.args.finals) (λ bytes. answer_by options problem ≡ whole_print bytes)
-    (λ bytes is-bytes. print_from_run options problem c.args.finals c.then_some-told.result bytes values told run is-bytes) c.finals_print.ensures
+    let told = ap (rounds_shown options) counted ∙ sym c.rounds_shown-told.ensures in
+    IfOk-weaker c.finals_print.result (λ bytes. bytes ≡ print_of_finals problem options c.rounds_shown-told.result c.args.finals) (λ bytes. answer_by options problem ≡ whole_print bytes)
+    (λ bytes is-bytes. print_from_run options problem c.args.finals c.rounds_shown-told.result bytes values told run is-bytes) c.finals_print.ensures

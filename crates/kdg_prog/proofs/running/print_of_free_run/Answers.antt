@@ -5,7 +5,7 @@ use Rattle.app_laws.specs.Order.{IsOrderly}
 use Rattle.free_pool.specs.Runs.{IsRunEnd}
 use Rattle.source_pool.specs.Runs.{IsRunFault}
 use Rattle.kdg_prog.specs.declared.words.Mode.TheVariants.{Free, Serial}
-use Rattle.kdg_prog.specs.Problem.{is_in_rounds, problem_of}
+use Rattle.kdg_prog.specs.Problem.{is_in_rounds, problem_of, rounds_of}
 use Rattle.kdg_prog.specs.Refusals.{AnswersRounds, IsRunRefusal}
 use Rattle.kdg_prog.proofs.AtEnd.{home_at_end, refusal_of_run, run_at_end}
 use Rattle.kdg_prog.proofs.Refusing.{none_told, print_from_run, refused_with}
@@ -43,4 +43,4 @@ returns-clause-print g c =
     let orderly : (steps : ℕ) → IsOrderly (after_steps meaning.act steps (start_of setting.cells setting.tasks)) = λ steps.
     c.orderly_laws.ensures.stays_orderly app (start_of setting.cells setting.tasks) (c.orderly_laws.ensures.starts_fit app setting.cells setting.tasks started.fit_cells started.fit_tasks) (c.orderly_laws.ensures.starts_orderly setting.cells setting.tasks) steps in
     let run = run_at_end options problem progress values started.begun orderly c.join_laws.ensures.none finals ended in
-    print_from_run options problem finals None c.in_ok-finals_print.field-0 values (none_told options problem (ap is_in_rounds c.requires.mode)) run c.in_ok-finals_print.ensures
+    print_from_run options problem finals None c.in_ok-finals_print.field-0 values (none_told options (ap is_in_rounds c.requires.mode) (rounds_of options problem)) run c.in_ok-finals_print.ensures

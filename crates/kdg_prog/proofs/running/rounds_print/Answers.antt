@@ -4,10 +4,10 @@ use Rattle.app_laws.specs.Execution.{after_steps, start_of}
 use Rattle.app_laws.specs.Order.{IsOrderly}
 use Rattle.source_pool.specs.Runs.{IsRoundsEnd, IsRunFault}
 use Rattle.kdg_prog.specs.declared.words.Mode.TheVariants.{Rounds, Serial}
-use Rattle.kdg_prog.specs.Problem.{is_in_rounds, problem_of}
+use Rattle.kdg_prog.specs.Problem.{problem_of, rounds_shown}
 use Rattle.kdg_prog.specs.Refusals.{AnswersRounds, IsRunRefusal}
 use Rattle.kdg_prog.proofs.AtEnd.{any_end, home_at_end, refusal_of_run, rounds_in_rounds, run_at_end}
-use Rattle.kdg_prog.proofs.Refusing.{print_from_run, refused_with, rounds_told_in_rounds}
+use Rattle.kdg_prog.proofs.Refusing.{print_from_run, refused_with}
 use Rattle.kdg_prog.proofs.running.rounds_print.Goals as goal
 
 pub returns-in_err-finals-clause-refusal : goal.returns-in_err-finals-clause-refusal
@@ -46,5 +46,5 @@ returns-clause-print g c =
     let ready = c.standing_laws.ensures.starts_ready app setting.cells setting.tasks started.fit_cells started.fit_tasks in
     let run = run_at_end options problem progress values started.begun orderly c.join_laws.ensures.none finals (any_end meaning progress finals rounds ended) in
     let counted = rounds_in_rounds options problem progress values started.begun finals rounds ended (c.round_count_laws.ensures.to_the_end app) (c.round_laws.ensures.one_number app) ready in
-    let told = rounds_told_in_rounds options problem (ap is_in_rounds c.requires.mode) rounds counted ∙ sym c.then_some-rounds.ensures in
-    print_from_run options problem finals c.then_some-rounds.result c.in_ok-finals_print.field-0 values told run c.in_ok-finals_print.ensures
+    let told = ap (rounds_shown options) counted ∙ sym c.rounds_shown-told.ensures in
+    print_from_run options problem finals c.rounds_shown-told.result c.in_ok-finals_print.field-0 values told run c.in_ok-finals_print.ensures

@@ -1,5 +1,5 @@
 use Rattle.std.proofs.Common.{ap}
-use Rattle.kdg_prog.specs.Problem.{is_in_rounds, problem_of}
+use Rattle.kdg_prog.specs.Problem.{is_in_rounds, problem_of, rounds_of}
 use Rattle.kdg_prog.proofs.Refusing.{none_told, print_from_serial, refusal_from_serial, run_is_home}
 use Rattle.kdg_prog.proofs.running.serial_print.Goals as goal
 
@@ -10,7 +10,7 @@ pub returns-clause-print : goal.returns-clause-print
 returns-clause-print g c =
     let problem = problem_of (g.A.App.meaning c.args.app.now) (g.A.Runnable.setting c.args.app.now) in
     print_from_serial c.args.options.now problem c.in_ok-cells.cells.items c.in_ok-tasks.tasks c.in_ok-cells.ensures.cells c.in_ok-tasks.ensures.tasks
-    c.in_ok-finals.finals c.in_ok-finals_print.field-0 c.value_laws.ensures.values (none_told c.args.options.now problem (ap is_in_rounds c.requires.mode)) c.in_ok-finals.ensures.run c.in_ok-finals_print.ensures
+    c.in_ok-finals.finals c.in_ok-finals_print.field-0 c.value_laws.ensures.values (none_told c.args.options.now (ap is_in_rounds c.requires.mode) (rounds_of c.args.options.now problem)) c.in_ok-finals.ensures.run c.in_ok-finals_print.ensures
 
 pub returns-in_err-finals-clause-refusal : goal.returns-in_err-finals-clause-refusal
 returns-in_err-finals-clause-refusal g c =
