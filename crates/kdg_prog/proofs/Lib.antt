@@ -1,6 +1,5 @@
 pub mod Allowed
 pub mod AtEnd
-pub mod ByCommand
 pub mod Childless
 pub mod Digits
 pub mod FirstBad

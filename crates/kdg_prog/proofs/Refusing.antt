@@ -1,6 +1,6 @@
 -- The print of a run, and why there is none.
 use Rattle.std.proofs.Common.{◌≡◌, ◌≢◌, ℕ, ◌<◌, List, ◌++◌, ◌&&◌, Bool, true, false, cond, Option, Some, None, Ok, Err, refl, sym, ◌∙◌, ap, subst, inl, inr, arith}
-use Rattle.std.specs.Prelude.{IfOk, IfErr, IsErrAnd, Result}
+use Rattle.std.specs.Prelude.{IfErr, IsErrAnd, Result}
 use Rattle.cell_store.specs.Laws.{HomesAreValues}
 use Rattle.cell_store.specs.Values.{AreAllHome, values_of}
 use Rattle.app_laws.specs.Execution.{Execution, Operator, start_of}
@@ -11,14 +11,13 @@ use Rattle.app_laws.specs.declared.serial_run.SerialFault.TheVariants.{Budget, N
 use Rattle.crew.specs.declared.answers.OverCause.{OverCause}
 use Rattle.crew.specs.declared.answers.OverCause.TheVariants as cause
 use Rattle.list_rounds.specs.Rounds.{IsRunFault, start_state}
-use Rattle.kdg_text.specs.declared.fault.Fault.{Fault}
 use Rattle.task_order.specs.declared.start.Start.{Start}
 use Rattle.kdg_prog.specs.declared.status.Status.{Status}
 use Rattle.kdg_prog.specs.declared.status.Status.TheVariants as status
 use Rattle.kdg_prog.specs.declared.words.Mode.TheVariants.{Serial}
 use Rattle.kdg_prog.specs.declared.words.Options.{Options}
-use Rattle.kdg_prog.specs.Problem.{Problem, whole_print, start_for, print_of, print_of_finals, answer_by, answer_by_end, answer_read, end_of, is_in_rounds, rounds_shown, rounds_text, rounds_told, FirstPassesRead, text_shown}
-use Rattle.kdg_prog.specs.Refusals.{AnswersRounds, AnswersSerial, IsRefusalBy, IsRunRefusal}
+use Rattle.kdg_prog.specs.Problem.{Problem, whole_print, start_for, print_of, print_of_finals, answer_by, answer_by_end, end_of, is_in_rounds, rounds_shown, rounds_text, rounds_told, text_shown}
+use Rattle.kdg_prog.specs.Refusals.{AnswersRounds, AnswersSerial, IsRunRefusal}
 
 -- cells of a run that has ended are home
 pub run_is_home : {V : Type 0} (act : Operator V) (budget : ℕ) (start : Execution V) (finals : Finals V) → HomesAreValues V → IsRun act budget start finals → AreAllHome finals.store
@@ -96,15 +95,3 @@ module _ {V : Type 0} (options : Options) (problem : Problem V) where
     -- the print of a serial run
     pub print_from_serial : (finals : Finals V) (bytes : List ℕ) → HomesAreValues V → rounds_told options problem ≡ None → IsRun problem.app.act options.budget (start_of cells tasks) finals → bytes ≡ print_of_finals problem options None finals → answer_by options problem ≡ whole_print bytes
     print_from_serial finals bytes laws tells ran is-bytes = print_from_run finals None bytes laws tells (rw (← is-cells, ← is-tasks) ran) is-bytes
-
--- a run of what an input describes is answered what the input is
-module _ {D V : Type 0} (problem : D → Problem V) (options : Options) (found : Result D Fault) (described : D) (run : Problem V) (spelled : found ≡ Ok described) (is : run ≡ problem described) (result : Result (List ℕ) Status) where
-  pub print_when_read : IfOk result (λ bytes. answer_by options run ≡ whole_print bytes) → IfOk result (λ bytes. answer_read problem options found ≡ whole_print bytes)
-  print_when_read print =
-      subst (λ read. IfOk result (λ bytes. answer_read problem options read ≡ whole_print bytes)) (sym spelled)
-      (subst (λ p. IfOk result (λ bytes. answer_by options p ≡ whole_print bytes)) is print)
-
-  pub refusal_when_read : IfErr result (IsRunRefusal options run) → IfErr result (IsRefusalBy (answer_read problem options found) (FirstPassesRead problem options found) options)
-  refusal_when_read refusal =
-      subst (λ read. IfErr result (IsRefusalBy (answer_read problem options read) (FirstPassesRead problem options read) options)) (sym spelled)
-      (subst (λ p. IfErr result (IsRunRefusal options p)) is refusal)

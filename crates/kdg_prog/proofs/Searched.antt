@@ -8,7 +8,6 @@ use Rattle.mtx_reader.specs.declared.pattern.Pattern.{Pattern}
 use Rattle.mtx_reader.specs.Patterns.{IsPattern}
 use Rattle.level_walk.specs.declared.level.Level.{Level}
 use Rattle.level_walk.specs.Laws.{LevelsAreShortest, LogsAreVisits}
-use Rattle.level_walk.specs.Walks.{Search}
 use Rattle.outer_edge.specs.declared.whole_input.ReadAllFault.{ReadAllFault}
 use Rattle.outer_edge.specs.declared.whole_input.ReadAllFault.TheVariants as faults
 use Rattle.kdg_prog.specs.declared.status.Status.{Status}
@@ -22,7 +21,7 @@ use Rattle.kdg_prog.specs.Inputs.{TakesAll, pattern_for}
 use Rattle.kdg_prog.specs.Problem.{answer_by_end, answer_read, end_of, print_of, rounds_text, rounds_told, whole_print}
 use Rattle.kdg_prog.specs.Refusals.{AnswersRead, IsRefusal}
 use Rattle.kdg_prog.specs.Searches.{AnswersLevels, PrintsLevels, WritesLevels}
-use Rattle.kdg_prog.specs.Serving.{IsServed, IsWritten}
+use Rattle.kdg_prog.specs.Serving.{IsServed}
 use Rattle.kdg_prog.specs.Status.{status_of_fault}
 use Rattle.kdg_prog.proofs.Promising.{taken_from_all}
 
@@ -74,12 +73,6 @@ unread_not_ok faults.NoRoom answer told ok = cc
 pub ok_of : {T E : Type 0} (P : Type 0) → P → (end : Result T E) → IfOk end (λ _. P)
 ok_of P is (Ok done) = is
 ok_of P is (Err fault) = tt
-
--- what is so where the print was made is so where it was written
-pub levels_when_made : {T : Type 0} (P : Type 0) (print : Result (List ℕ) Status) (sink : Transfer) (end : Result T Status) → IfOk print (λ _. P) → IsWritten print sink end → IfOk end (λ _. P)
-levels_when_made P (Ok bytes) sink (Ok done) is written = is
-levels_when_made P (Err refusal) sink (Ok done) is written = absurd written
-levels_when_made P print sink (Err answer) is written = tt
 
 -- where a print was written whole, it is that of the search
 pub levels_when_served : {T : Type 0} (options : Options) (source sink : Transfer) (input : List ℕ) → TakesAll options.big source (Ok input) → (end : Result T Status) (answer : Status) → options.command ≡ Levels

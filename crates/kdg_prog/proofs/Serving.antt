@@ -17,10 +17,10 @@ use Rattle.kdg_prog.specs.declared.status.Status.TheVariants as status
 use Rattle.kdg_prog.specs.declared.words.Command.{Command}
 use Rattle.kdg_prog.specs.declared.words.Command.TheVariants.{Mesh, Rank, Sim}
 use Rattle.kdg_prog.specs.declared.words.Options.{Options}
-use Rattle.kdg_prog.specs.Answer.{Answer, answer_for, answer_of, log_for, log_of, whole_print, circuit_problem, deck_problem, mesh_problem, pattern_problem, simulation_of, FirstPassesBudget, FirstPassesFor, KeepsFor, KeepsOf}
+use Rattle.kdg_prog.specs.Answer.{Answer, answer_for, log_for, whole_print, circuit_problem, deck_problem, mesh_problem, pattern_problem, simulation_of, FirstPassesFor, KeepsFor}
 use Rattle.kdg_prog.specs.Inputs.{deck_for, mesh_for, pattern_for}
-use Rattle.kdg_prog.specs.Problem.{Problem, MayStream, answer_by, answer_read, log_read, log_within, FirstPassesIn, FirstPassesRead, KeepsRead, KeepsText}
-use Rattle.kdg_prog.specs.Refusals.{AnswersReader, IsAtStart, IsBeforeStart, IsRefusal, IsRefusalBy, IsRefusalFor, IsRunRefusal}
+use Rattle.kdg_prog.specs.Problem.{Problem, StreamsRounds, answer_by, answer_read, log_read, log_within, FirstPassesIn, FirstPassesRead, KeepsRead, KeepsText}
+use Rattle.kdg_prog.specs.Refusals.{AnswersReader, IsAtStart, IsBeforeStart, IsRefusalBy, IsRefusalFor, IsRunRefusal}
 use Rattle.kdg_prog.specs.Serving.{IsRunServed, IsServed, IsServedBy, IsServedFor, IsWritten, WritesNothing}
 use Rattle.kdg_prog.proofs.Promising.{fault_kinds}
 
@@ -64,7 +64,7 @@ stays (Some bytes) = sym (append-nil bytes)
 
 module _ (is : Answer) (First : ℕ → Type 0) (log : List ℕ) (Keeps : List ℕ → Type 0) (options : Options) (sink : Transfer) where
   -- there is no print, and nothing was written
-  pub served_unwritten : (answer : Status) → IsRefusalBy is First options answer → ((created limit : ℕ) → answer ≡ status.Budget created limit → MayStream options → Keeps [])
+  pub served_unwritten : (answer : Status) → IsRefusalBy is First options answer → ((created limit : ℕ) → answer ≡ status.Budget created limit → StreamsRounds options → Keeps [])
       → WritesNothing sink → sink.faults_after ≡ sink.faults_before → IsServedBy {T = Unit {0}} is First log Keeps options sink (Err answer)
   served_unwritten answer refused keeps nothing same = inr (
     refused,
@@ -76,14 +76,14 @@ module _ (is : Answer) (First : ℕ → Type 0) (log : List ℕ) (Keeps : List �
   )
 
   -- the same where it was handed on
-  pub unwritten_from : {T : Type 0} (fault : Status) (result : Result T Status) → IsErrAnd result (λ answer. answer ≡ fault) → IsRefusalBy is First options fault → ((created limit : ℕ) → fault ≡ status.Budget created limit → MayStream options → Keeps [])
+  pub unwritten_from : {T : Type 0} (fault : Status) (result : Result T Status) → IsErrAnd result (λ answer. answer ≡ fault) → IsRefusalBy is First options fault → ((created limit : ℕ) → fault ≡ status.Budget created limit → StreamsRounds options → Keeps [])
       → WritesNothing sink → sink.faults_after ≡ sink.faults_before → IsServedBy is First log Keeps options sink result
   unwritten_from {T} fault result told refused keeps nothing same =
       of_error (IsServedBy {T = T} is First log Keeps options sink) fault result told (served_unwritten fault refused keeps nothing same)
 
   -- the print, or why there is none, was told at once
   pub served_at_once : {T : Type 0} (print : Result (List ℕ) Status) (result : Result T Status) → IfOk print (λ bytes. is ≡ whole_print bytes) → IfErr print (IsRefusalBy is First options)
-      → IfErr print (λ answer. (created limit : ℕ) → answer ≡ status.Budget created limit → MayStream options → Keeps []) → IsWritten print sink result → IsServedBy is First log Keeps options sink result
+      → IfErr print (λ answer. (created limit : ℕ) → answer ≡ status.Budget created limit → StreamsRounds options → Keeps []) → IsWritten print sink result → IsServedBy is First log Keeps options sink result
   served_at_once (Ok bytes) (Ok done) printed refused keeps written = (bytes, printed, written.0, written.1)
   served_at_once (Ok bytes) (Err answer) printed refused keeps written = inl ((bytes, printed, written.0, written.1), written.2)
   served_at_once (Err refusal) (Ok done) printed refused keeps written = absurd written
@@ -97,17 +97,6 @@ module _ {D V T : Type 0} (problem : D → Problem V) (options : Options) (found
   served_when_read served =
       subst (λ (read : Result D Fault). IsServedBy (answer_read problem options read) (FirstPassesRead problem options read) (log_read problem options read) (KeepsRead problem options read) options sink result) (sym spelled)
       (subst (λ (p : Problem V). IsRunServed options p sink result) is served)
-
--- an input is served where its print, or why there is none, was told at once, in a mode in which no log goes out before
-pub served_at_end : {T : Type 0} (options : Options) (input : List ℕ) (sink : Transfer) (print : Result (List ℕ) Status) (result : Result T Status) → IfOk print (λ bytes. answer_of options input ≡ whole_print bytes) → IfErr print (IsRefusal options input)
-    → ¬ MayStream options → IsWritten print sink result → IsServed options input sink result
-served_at_end options input sink print result printed refused never written =
-    served_at_once (answer_of options input) (FirstPassesBudget options input) (log_of options input) (KeepsOf options input) options sink print result printed refused
-    (never_streams print) written
-  where
-    never_streams : (print : Result (List ℕ) Status) → IfErr print (λ answer. (created limit : ℕ) → answer ≡ status.Budget created limit → MayStream options → KeepsOf options input [])
-    never_streams (Ok bytes) = tt
-    never_streams (Err answer) = λ created limit told streams. absurd (never streams)
 
 -- a run that was refused before anything has acted
 pub run_unwritten : {V T : Type 0} (options : Options) (problem : Problem V) (sink : Transfer) (fault : Status) (result : Result T Status) → IsErrAnd result (λ answer. answer ≡ fault) → IsRunRefusal options problem fault → IsAtStart options problem fault
@@ -125,11 +114,11 @@ unwritten_for command options input sink fault result told refused before nothin
 
 -- the print of a run, or why there is none, was told at once: where its log might have gone out before, it is over the budget at the start alone
 pub run_at_once : {V T : Type 0} (options : Options) (problem : Problem V) (sink : Transfer) (print : Result (List ℕ) Status) (result : Result T Status) → IfOk print (λ bytes. answer_by options problem ≡ whole_print bytes) → IfErr print (IsRunRefusal options problem)
-    → IfErr print (λ answer. MayStream options → IsAtStart options problem answer) → IsWritten print sink result → IsRunServed options problem sink result
+    → IfErr print (λ answer. StreamsRounds options → IsAtStart options problem answer) → IsWritten print sink result → IsRunServed options problem sink result
 run_at_once options problem sink print result printed refused at_start written =
     served_at_once (answer_by options problem) (FirstPassesIn options problem) (log_within options problem) (KeepsText options problem) options sink print result printed refused (by_print print at_start) written
   where
-    by_print : (print : Result (List ℕ) Status) → IfErr print (λ answer. MayStream options → IsAtStart options problem answer) → IfErr print (λ answer. (created limit : ℕ) → answer ≡ status.Budget created limit → MayStream options → KeepsText options problem [])
+    by_print : (print : Result (List ℕ) Status) → IfErr print (λ answer. StreamsRounds options → IsAtStart options problem answer) → IfErr print (λ answer. (created limit : ℕ) → answer ≡ status.Budget created limit → StreamsRounds options → KeepsText options problem [])
     by_print (Ok bytes) at_start = tt
     by_print (Err answer) at_start = λ created limit told streams. inl (at_start streams created limit told, refl)
 

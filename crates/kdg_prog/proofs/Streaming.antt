@@ -1,4 +1,4 @@
--- What a run in rounds makes of the sink that its log goes to.
+-- What a run makes of the sink that its log goes to, in rounds and in mode free.
 use Rattle.std.proofs.Common.{◌≡◌, ◌≢◌, ℕ, ◌+◌, ◌-◌, ◌≤◌, Bool, true, false, List, [], ◌++◌, append-nil, append_assoc, Option, Some, None, Ok, Err, refl, sym, ap, subst, ◌∙◌, inl, inr, arith, eq-eqb}
 use Rattle.std.proofs.lemmas.Bool.{cond-true}
 use Rattle.std.proofs.lemmas.Grind.{flat_map-append}
@@ -28,14 +28,15 @@ use Rattle.source_pool.specs.Streams.{IsFitFlow, IsFlow, TakesFront, TakesLastKe
 use Rattle.source_pool.specs.Runs.{IsRoundsEnd}
 use Rattle.source_pool.specs.declared.flow.Flow.{Flow}
 use Rattle.source_pool.specs.declared.flow.Flow.TheVariants as flow
+use Rattle.free_pool.specs.Streams as free
 use Rattle.kdg_prog.specs.declared.status.Status.{Status}
 use Rattle.kdg_prog.specs.declared.status.Status.TheVariants as status
-use Rattle.kdg_prog.specs.declared.words.Mode.TheVariants.{Rounds, Serial}
+use Rattle.kdg_prog.specs.declared.words.Mode.TheVariants.{Free, Rounds, Serial}
 use Rattle.kdg_prog.specs.declared.words.Options.{Options}
-use Rattle.kdg_prog.specs.Problem.{KeepsText, MayStream, Problem, answer_by, first_state, log_within, print_of_finals, rounds_of, rounds_shown, rounds_text, start_for, tasks_line, text_shown, whole_print}
+use Rattle.kdg_prog.specs.Problem.{KeepsText, MayStream, Problem, answer_by, first_state, is_in_rounds, is_streamed, log_within, print_of_finals, rounds_of, rounds_shown, rounds_text, start_for, tasks_line, text_shown, whole_print}
 use Rattle.kdg_prog.specs.Serving.{IsHomeFlow, IsRunServed, IsStreamEnd, IsStreamed, IsWritten, LeavesRunLog}
 use Rattle.kdg_prog.proofs.AtEnd.{any_end, ascends, begins, home_at_end, left_of_limit, refusal_of_run, run_at_end}
-use Rattle.kdg_prog.proofs.Refusing.{print_from_run}
+use Rattle.kdg_prog.proofs.Refusing.{none_told, print_from_run}
 use Rattle.kdg_prog.proofs.Serving.{appends_both, front_behind, front_of, front_of_longer, of_error}
 
 -- what was logged when the run ended stays in front, whatever the budget
@@ -54,7 +55,7 @@ without_fault true sink fault fine = absurd (fine (fault refl))
 without_fault false sink fault fine = refl
 
 not_serial : (options : Options) → MayStream options → options.mode ≢ Serial
-not_serial options streams serial = let both : Serial ≡ Rounds = sym serial ∙ streams.0 in cc
+not_serial options streams serial = let both : false ≡ true = sym (ap is_streamed serial) ∙ streams.0 in cc
 
 -- the print of the whole end is the text that comes before the finals, and then what they print
 module _ {V : Type 0} (options : Options) (problem : Problem V) (read : options.big ≡ 0) where
@@ -136,12 +137,39 @@ module _ {V : Type 0} (options : Options) (problem : Problem V) (progress : Prog
     )
     streamed_rounds flow.NoRoom took counted = without_room options problem streams sink (front_from took)
 
+    -- what a run in mode free comes to
+    pub streamed_free : options.mode ≡ Free → (flow : Flow V) → free.IsFlow problem.app progress sink flow → IsStreamed options problem sink flow
+    streamed_free mode (flow.Ended finals rounds failed) ended =
+        let elsewhere = ap is_in_rounds mode in record {
+          whole = ended.whole;
+          run = run_at_end options problem progress values begun orderly joins ended.whole ended.end;
+          told = none_told options elsewhere (rounds_of options problem) ∙ sym (none_told options elsewhere rounds);
+          text = ended.text;
+          behind = ended.behind;
+          all = λ none. let written = (rw (none) at ended.written) in (ended.all none, written.0, written.1);
+          cut = λ some. (rw (some) at ended.written);
+        }
+    streamed_free mode (flow.Budget created limit failed) over = (
+      refusal_of_run options problem progress values begun (not_serial options streams) (cause.Budget created limit) (status.Budget created limit) over.over refl,
+      record {
+        front = front_from over.front;
+        kept = λ most allowed told rounds. absurd (let both : Rounds ≡ Free = sym rounds.0 ∙ mode in cc);
+        told = λ never. absurd (never streams);
+      },
+    )
+    streamed_free mode flow.NoRoom took = without_room options problem streams sink (front_from took)
+
 -- its cells are home
 pub home_in_rounds : {V : Type 0} (app : Application V) (progress : Progress V) (sink : Transfer) (flow : Flow V) → HomesAreValues V → IsFlow app progress sink flow → IsFitFlow app flow → IsHomeFlow app flow
 home_in_rounds app progress sink (flow.Ended finals rounds failed) values ended fit =
     (subst AreAllHome ended.behind.store (home_at_end app progress ended.whole values (any_end app progress ended.whole rounds ended.end)), fit)
 home_in_rounds app progress sink (flow.Budget created limit failed) values over fit = tt
 home_in_rounds app progress sink flow.NoRoom values took fit = tt
+
+pub home_in_free : {V : Type 0} (app : Application V) (progress : Progress V) (sink : Transfer) (flow : Flow V) → HomesAreValues V → free.IsFlow app progress sink flow → IsFitFlow app flow → IsHomeFlow app flow
+home_in_free app progress sink (flow.Ended finals rounds failed) values ended fit = (subst AreAllHome ended.behind.store (home_at_end app progress ended.whole values ended.end), fit)
+home_in_free app progress sink (flow.Budget created limit failed) values over fit = tt
+home_in_free app progress sink flow.NoRoom values took fit = tt
 
 module _ {V : Type 0} (options : Options) (problem : Problem V) (values : HomesAreValues V) (streams : MayStream options) (finals : Finals V) (rounds : ℕ) (failed : Bool) (sink : Transfer) (ended : IsStreamEnd options problem sink finals rounds failed) where
   -- the rest of the print

@@ -12,7 +12,7 @@ use Rattle.kdg_prog.specs.declared.words.Options.{Options}
 use Rattle.kdg_prog.specs.Answer.{Answer, input_fault, over_budget, whole_print, answer_of, log_of, FirstPassesBudget, KeepsOf}
 use Rattle.kdg_prog.specs.Bounds.{input_bound}
 use Rattle.kdg_prog.specs.Inputs.{Offers, TakesInput}
-use Rattle.kdg_prog.specs.Problem.{MayStream}
+use Rattle.kdg_prog.specs.Problem.{StreamsRounds}
 use Rattle.kdg_prog.specs.Serving.{MayLeaveLog, WritesNothing}
 use Rattle.kdg_prog.specs.Status.{status_of_fault}
 
@@ -56,7 +56,7 @@ pub record ExceedsBudget (options : Options) (source sink : Transfer) (created l
   -- no more than a front of the log was written
   pub front : AppendsFront sink.before sink.after (log_of options input)
   -- in mode rounds, unless a write failed or the input is made from a number, it is just what is kept after the last round within the limit
-  pub kept : MayStream options → ¬ HasFailed sink → (text : List ℕ) × KeepsOf options input text × Appends sink.before sink.after text
+  pub kept : StreamsRounds options → ¬ HasFailed sink → (text : List ℕ) × KeepsOf options input text × Appends sink.before sink.after text
 
 -- what an answer tells is of an input that is read
 abbrev pub TellsOfReading : Status → Type 0

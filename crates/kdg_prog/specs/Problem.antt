@@ -13,7 +13,7 @@ use Rattle.app_laws.specs.Serial.{FirstPasses}
 use Rattle.commuting.specs.States.{State, state_of}
 use Rattle.source_pool.specs.Kept.{IsKeptAfter, IsLastRound}
 use Rattle.kdg_prog.specs.declared.words.Mode.{Mode}
-use Rattle.kdg_prog.specs.declared.words.Mode.TheVariants.{Rounds, Marks}
+use Rattle.kdg_prog.specs.declared.words.Mode.TheVariants.{Rounds, Free, Marks}
 use Rattle.kdg_prog.specs.declared.words.Options.{Options}
 use Rattle.kdg_prog.specs.RoundCount.{rounds_within}
 use Rattle.kdg_prog.specs.Words.{word_of}
@@ -88,9 +88,19 @@ is_in_rounds mode = false
 abbrev pub rounds_shown : Options → ℕ → Option ℕ
 rounds_shown options rounds = if options.stats && is_in_rounds options.mode then Some rounds else None
 
+-- the modes in which a run may write its log while it goes on
+abbrev pub is_streamed : Mode → Bool
+is_streamed Rounds = true
+is_streamed Free = true
+is_streamed mode = false
+
 -- the log may go out while the run goes on; else all is written at the end
 abbrev pub MayStream : Options → Type 0
-MayStream options = (options.mode ≡ Rounds) × (options.big ≡ 0)
+MayStream options = (is_streamed options.mode ≡ true) × (options.big ≡ 0)
+
+-- it may go out between two rounds
+abbrev pub StreamsRounds : Options → Type 0
+StreamsRounds options = (options.mode ≡ Rounds) × (options.big ≡ 0)
 
 module _ {V : Type 0} (problem : Problem V) where
   -- the execution before anything has acted

@@ -15,7 +15,7 @@ use Rattle.kdg_prog.specs.declared.status.Status.TheVariants as status
 use Rattle.kdg_prog.specs.declared.words.Command.{Command}
 use Rattle.kdg_prog.specs.declared.words.Options.{Options}
 use Rattle.kdg_prog.specs.Answer.{Answer, whole_print, answer_for, log_for, FirstPassesFor, KeepsFor}
-use Rattle.kdg_prog.specs.Problem.{Problem, MayStream, answer_by, log_within, rounds_shown, rounds_told, start_for, FirstPassesIn, KeepsText}
+use Rattle.kdg_prog.specs.Problem.{Problem, MayStream, StreamsRounds, answer_by, log_within, rounds_shown, rounds_told, start_for, FirstPassesIn, KeepsText}
 use Rattle.kdg_prog.specs.Refusals.{IsRefusalBy, IsRunRefusal}
 
 -- answers before which some of the log may have gone out, and which a failed write of it doesn't keep from coming
@@ -32,7 +32,7 @@ WritesNothing sink = Appends sink.before sink.after []
 -- has failed, it is just what is kept.
 pub record LeavesLog (log : List ℕ) (Keeps : List ℕ → Type 0) (options : Options) (sink : Transfer) (answer : Status) : Type 0 where
   pub front : AppendsFront sink.before sink.after log
-  pub kept : (created limit : ℕ) → answer ≡ status.Budget created limit → MayStream options → ¬ HasFailed sink →
+  pub kept : (created limit : ℕ) → answer ≡ status.Budget created limit → StreamsRounds options → ¬ HasFailed sink →
       (text : List ℕ) × Keeps text × Appends sink.before sink.after text
   pub told : ¬ MayLeaveLog options answer → sink.faults_after ≡ sink.faults_before
 

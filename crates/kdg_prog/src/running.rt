@@ -16,7 +16,7 @@ use crate::{Mode, Options, Status};
 use app_laws::{App, Finals, execution_laws, orderly_laws, serial};
 use cell_store::value_laws;
 use commuting::{round_laws, standing_laws};
-use free_pool::run_free;
+use free_pool::{free_to, run_free};
 use graph_update::Engine;
 use kdg_text::{NoRoom, Text, push_u64};
 use mark_rounds::run_marks;
@@ -53,14 +53,36 @@ pub(crate) fn serve_run<R: Threads + Sync, A: Runnable, K: Sink, G: Gate + Sync>
     write_print(sink, print_of_run(rt, alloc, options, app, gate))
 }
 
+/// `serve_run` in mode free. The log goes out while the run goes on, unless only its figures are asked for.
+pub(crate) fn serve_free_run<R: Threads + Wait + Sync, A: Runnable, K: Sink, G: Gate + Sync>(
+    rt: &R,
+    alloc: Global,
+    options: &Options,
+    app: &A,
+    sink: &mut K,
+    gate: &G,
+) -> Result<(), Status>
+    requires allowed { IsAllowed options.now }
+    requires mode { options.now.mode ≡ Mode.Free }
+    ensures served { IsRunServed options.now (problem_of (A.meaning app.now) (A.setting app.now)) (transfer_of K.contents K.faults sink.old sink.new) result }
+    ensures no_write { IfErr result (λ answer. answer ≢ Status.WriteFault → ¬ MayLeaveLog options.now answer → sink.new ≡ sink.old) }
+    ensures same_room { K.room sink.new ≡ K.room sink.old }
+{
+    check_start(options, app)?;
+    if may_stream(options) {
+        return stream_free(rt, alloc, options, app, sink, gate);
+    }
+    write_print(sink, free_print(rt, alloc, options, app, gate))
+}
+
 /// Whether the log may go out while the run goes on.
 fn may_stream(options: &Options) -> bool
     ensures yes { result ≡ true → MayStream options.now }
     ensures no { result ≡ false → ¬ MayStream options.now }
 {
     match options.mode {
-        Mode::Rounds => options.big == 0,
-        Mode::Serial | Mode::Free | Mode::Marks => false,
+        Mode::Rounds | Mode::Free => options.big == 0,
+        Mode::Serial | Mode::Marks => false,
     }
 }
 
@@ -103,6 +125,31 @@ fn stream_rounds<R: Threads + Sync, A: Runnable, K: Sink, G: Gate + Sync>(
     round_count_laws::<A>();
     let engine = start_run(alloc, options, app)?;
     let flow = rounds_to(rt, alloc, engine, gate, options.seed, options.workers, sink);
+    end_stream(alloc, options, app, flow, sink)
+}
+
+/// Runs an application in mode free. The log goes to the sink while the run goes on, and the rest of the print
+/// behind it. After a failed write nothing more is written, and the run goes on: it may be over the budget.
+fn stream_free<R: Threads + Wait + Sync, A: Runnable, K: Sink, G: Gate + Sync>(
+    rt: &R,
+    alloc: Global,
+    options: &Options,
+    app: &A,
+    sink: &mut K,
+    gate: &G,
+) -> Result<(), Status>
+    requires allowed { IsAllowed options.now }
+    requires streams { MayStream options.now }
+    requires mode { options.now.mode ≡ Mode.Free }
+    ensures served { IsRunServed options.now (problem_of (A.meaning app.now) (A.setting app.now)) (transfer_of K.contents K.faults sink.old sink.new) result }
+    ensures no_write { IfErr result (λ answer. answer ≢ Status.WriteFault → ¬ MayLeaveLog options.now answer → sink.new ≡ sink.old) }
+    ensures same_room { K.room sink.new ≡ K.room sink.old }
+{
+    value_laws::<A::Val>();
+    orderly_laws::<A>();
+    join_laws();
+    let engine = start_run(alloc, options, app)?;
+    let flow = free_to(rt, alloc, engine, gate, options.seed, options.workers, sink);
     end_stream(alloc, options, app, flow, sink)
 }
 
@@ -297,8 +344,8 @@ fn listed_print<A: Runnable>(
     finals_print(alloc, options, app, finals, told)
 }
 
-/// Runs an application in mode free, and gives the print, or why there is none.
-pub(crate) fn print_of_free_run<R: Threads + Wait + Sync, A: Runnable, G: Gate + Sync>(
+/// The print of a run in mode free.
+fn free_print<R: Threads + Wait + Sync, A: Runnable, G: Gate + Sync>(
     rt: &R,
     alloc: Global,
     options: &Options,
@@ -313,7 +360,6 @@ pub(crate) fn print_of_free_run<R: Threads + Wait + Sync, A: Runnable, G: Gate +
     value_laws::<A::Val>();
     orderly_laws::<A>();
     join_laws();
-    check_start(options, app)?;
     let engine = start_run(alloc, options, app)?;
     let finals = run_free(rt, alloc, engine, gate, options.seed, options.workers)?;
     Ok(finals_print(alloc, options, app, finals, None)?)

@@ -5,15 +5,13 @@ ghost use Rattle.outer_edge.specs.Transfers.{transfer_of};
 ghost use Rattle.hook_app.specs.Kept.{DoesDeeds, IsAnswered, IsAsked};
 ghost use Rattle.level_walk.specs.Levels.{vertex_sets, walking};
 ghost use Rattle.level_walk.specs.Walks.{vertex_count};
-ghost use Rattle.kdg_prog.specs.Answer.{answer_for, search_problem, whole_print};
-ghost use Rattle.kdg_prog.specs.Problem.{answer_by};
-ghost use Rattle.kdg_prog.specs.Refusals.{IsRefusalFor, IsRunRefusal};
+ghost use Rattle.kdg_prog.specs.Answer.{search_problem};
 ghost use Rattle.kdg_prog.specs.Searches.{AnswersLevels};
 ghost use Rattle.kdg_prog.specs.Serving.{IsRunServed, IsServedFor, MayLeaveLog};
 ghost use Rattle.kdg_prog.specs.Words.{IsAllowed};
 
 use crate::described::walk_for;
-use crate::running::{print_of_free_run, serve_run};
+use crate::running::{serve_free_run, serve_run};
 use crate::{Command, Mode, Options, Status};
 use app_laws::Effect;
 use cell_store::Bundle;
@@ -74,20 +72,22 @@ fn serve_levels_by<R: Threads + Sync, H: Hook<Level> + Sync, K: Sink, G: Gate + 
     serve_run(rt, alloc, options, &app, sink, gate)
 }
 
-/// The print for a graph in mode free, or why there is none.
-pub(crate) fn free_levels_print<R: Threads + Wait + Sync, G: Gate + Sync>(
+/// `serve_levels` in mode free.
+pub(crate) fn serve_free_levels<R: Threads + Wait + Sync, K: Sink, G: Gate + Sync>(
     rt: &R,
     alloc: Global,
     options: &Options,
     input: Text,
+    sink: &mut K,
     gate: &G,
-) -> Result<Text, Status>
+) -> Result<(), Status>
     requires allowed { IsAllowed options.now }
     requires big { options.now.big ≡ 0 }
     requires mode { options.now.mode ≡ Mode.Free }
-    ensures print { IfOk result (λ bytes. answer_for Command.Levels options.now input ≡ whole_print bytes) }
-    ensures refusal { IfErr result (IsRefusalFor Command.Levels options.now input) }
+    ensures served { IsServedFor Command.Levels options.now input (transfer_of K.contents K.faults sink.old sink.new) result }
     ensures levels { IfOk result (λ _. AnswersLevels options.now input) }
+    ensures no_write { IfErr result (λ answer. answer ≢ Status.WriteFault → ¬ MayLeaveLog options.now answer → sink.new ≡ sink.old) }
+    ensures same_room { K.room sink.new ≡ K.room sink.old }
 {
     levels_are_shortest();
     let walk = walk_for(alloc, options, input)?;
@@ -96,24 +96,26 @@ pub(crate) fn free_levels_print<R: Threads + Wait + Sync, G: Gate + Sync>(
         requires { IsAsked (walking graph.now.pattern) (vertex_sets (vertex_count graph.now.pattern)) task.now bundle }
         ensures { IsAnswered (walking graph.entry.now.pattern) (vertex_sets (vertex_count graph.entry.now.pattern)) task.now bundle result }
     { visit(graph, task, bundle) };
-    free_levels_by(rt, alloc, options, graph, act, gate)
+    serve_free_levels_by(rt, alloc, options, graph, act, sink, gate)
 }
 
-/// The print in mode free, by an operator that does the deed of the search.
-fn free_levels_by<R: Threads + Wait + Sync, H: Hook<Level> + Sync, G: Gate + Sync>(
+/// Writes the print in mode free, by an operator that does the deed of the search.
+fn serve_free_levels_by<R: Threads + Wait + Sync, H: Hook<Level> + Sync, K: Sink, G: Gate + Sync>(
     rt: &R,
     alloc: Global,
     options: &Options,
     walk: &Walk,
     hook: H,
+    sink: &mut K,
     gate: &G,
-) -> Result<Text, Status>
+) -> Result<(), Status>
     requires allowed { IsAllowed options.now }
     requires mode { options.now.mode ≡ Mode.Free }
     requires does { DoesDeeds (walking walk.now.pattern) (vertex_sets (vertex_count walk.now.pattern)) (H.may hook) (H.gives hook) }
-    ensures print { IfOk result (λ bytes. answer_by options.now (search_problem walk.now) ≡ whole_print bytes) }
-    ensures refusal { IfErr result (IsRunRefusal options.now (search_problem walk.now)) }
+    ensures served { IsRunServed options.now (search_problem walk.now) (transfer_of K.contents K.faults sink.old sink.new) result }
+    ensures no_write { IfErr result (λ answer. answer ≢ Status.WriteFault → ¬ MayLeaveLog options.now answer → sink.new ≡ sink.old) }
+    ensures same_room { K.room sink.new ≡ K.room sink.old }
 {
     let app = HookApp::new(walk, walk.count(), walk.sets()?, 1, hook);
-    print_of_free_run(rt, alloc, options, &app, gate)
+    serve_free_run(rt, alloc, options, &app, sink, gate)
 }

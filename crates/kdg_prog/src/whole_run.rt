@@ -1,17 +1,16 @@
 ghost use Rattle.std.specs.Prelude.{◌≡◌, ◌≢◌, ◌<◌, map, string_bytes, IfOk, IfErr};
 ghost use Rattle.outer_edge.specs.Transfers.{transfer_of};
-ghost use Rattle.kdg_prog.specs.Answer.{answer_of, pattern_problem, whole_print};
+ghost use Rattle.kdg_prog.specs.Answer.{pattern_problem};
 ghost use Rattle.kdg_prog.specs.Headline.{CompletesInMemory, Promises, TellsBadWord};
 ghost use Rattle.kdg_prog.specs.Inputs.{read_of};
-ghost use Rattle.kdg_prog.specs.Refusals.{IsRefusal};
 ghost use Rattle.kdg_prog.specs.Searches.{AnswersLevels, TellsLevels};
 ghost use Rattle.kdg_prog.specs.Serving.{IsRunServed, IsServed, MayLeaveLog};
 ghost use Rattle.kdg_prog.specs.Words.{IsAllowed, options_of};
 
 use crate::described::{circuit_for, matrix_for, mesh_for};
 use crate::inputs::read_input;
-use crate::running::{print_of_free_run, resting_print, serve_run, write_print};
-use crate::searching::{free_levels_print, serve_levels};
+use crate::running::{resting_print, serve_free_run, serve_run, write_print};
+use crate::searching::{serve_free_levels, serve_levels};
 use crate::{Command, Mode, Options, Status, read_words};
 use gf2_eliminate::Matrix;
 use kdg_text::Text;
@@ -23,9 +22,9 @@ use std::thread::Threads;
 /// Reads the words and then the whole input, runs the circuit, the elimination, the mesh or the search
 /// that it describes, and writes the print: the log, the finals, the number of tasks, and, where figures
 /// are asked for in modes rounds and marks, that of rounds. Where the words say so, the input is made from a
-/// number in place of being read, and the print has but figures of the log and the finals. In mode rounds
-/// the log goes out while the run goes on, unless there are but figures, or a matrix is eliminated at an
-/// open gate; what follows it is written at the end, as all is in the other modes.
+/// number in place of being read, and the print has but figures of the log and the finals. In modes rounds
+/// and free the log goes out while the run goes on, unless there are but figures, or a matrix is eliminated
+/// in rounds at an open gate; what follows it is written at the end, as all is in the other modes.
 ///
 /// In mode serial always the earliest pending task runs. In mode rounds the gate chooses among the
 /// tasks that are clear, and workers perform them. In mode free each worker claims the next one as
@@ -97,10 +96,7 @@ fn run_asked<R: Threads + Wait + Sync, S: Source, K: Sink, G: Gate + Sync>(
             rt, alloc, options, source, sink, gate,
         ),
         Mode::Free => match read_input(alloc, options.big, source) {
-            Ok(input) => {
-                let print = free_print_of(rt, alloc, options, input, gate);
-                status_of(write_print(sink, print))
-            }
+            Ok(input) => status_of(serve_free(rt, alloc, options, input, sink, gate)),
             Err(fault) => Status::from(fault),
         },
     }
@@ -220,33 +216,35 @@ fn serve_matrix<R: Threads + Sync, K: Sink, G: Gate + Sync>(
     }
 }
 
-/// The print for an input in mode free, or why there is none.
-fn free_print_of<R: Threads + Wait + Sync, G: Gate + Sync>(
+/// `serve` in mode free.
+fn serve_free<R: Threads + Wait + Sync, K: Sink, G: Gate + Sync>(
     rt: &R,
     alloc: Global,
     options: &Options,
     input: Text,
+    sink: &mut K,
     gate: &G,
-) -> Result<Text, Status>
+) -> Result<(), Status>
     requires allowed { IsAllowed options.now }
     requires mode { options.now.mode ≡ Mode.Free }
-    ensures print { IfOk result (λ bytes. answer_of options.now input ≡ whole_print bytes) }
-    ensures refusal { IfErr result (IsRefusal options.now input) }
+    ensures served { IsServed options.now input (transfer_of K.contents K.faults sink.old sink.new) result }
     ensures levels { options.now.command ≡ Command.Levels → IfOk result (λ _. AnswersLevels options.now input) }
+    ensures no_write { IfErr result (λ answer. answer ≢ Status.WriteFault → ¬ MayLeaveLog options.now answer → sink.new ≡ sink.old) }
+    ensures same_room { K.room sink.new ≡ K.room sink.old }
 {
     match options.command {
         Command::Sim => {
             let circuit = circuit_for(alloc, options, input)?;
-            print_of_free_run(rt, alloc, options, &circuit, gate)
+            serve_free_run(rt, alloc, options, &circuit, sink, gate)
         }
         Command::Rank => {
             let matrix = matrix_for(alloc, options, input)?;
-            print_of_free_run(rt, alloc, options, &matrix, gate)
+            serve_free_run(rt, alloc, options, &matrix, sink, gate)
         }
         Command::Mesh => {
             let mesh = mesh_for(alloc, options, input)?;
-            print_of_free_run(rt, alloc, options, &mesh, gate)
+            serve_free_run(rt, alloc, options, &mesh, sink, gate)
         }
-        Command::Levels => free_levels_print(rt, alloc, options, input, gate),
+        Command::Levels => serve_free_levels(rt, alloc, options, input, sink, gate),
     }
 }

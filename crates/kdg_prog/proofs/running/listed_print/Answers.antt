@@ -1,4 +1,4 @@
-use Rattle.std.proofs.Common.{◌≡◌, ◌∙◌, List, ℕ, ap, sym}
+use Rattle.std.proofs.Common.{◌≡◌, ◌∙◌, ap, sym}
 use Rattle.std.proofs.lemmas.Result.{IfOk-weaker}
 use Rattle.kdg_prog.specs.Problem.{answer_by, print_of_finals, problem_of, rounds_shown, whole_print}
 use Rattle.kdg_prog.proofs.AtEnd.{rounds_to_end}

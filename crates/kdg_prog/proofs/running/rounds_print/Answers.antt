@@ -1,5 +1,4 @@
 use Rattle.std.proofs.Common.{◌≡◌, ◌∙◌, ℕ, ap, subst, sym}
-use Rattle.app_laws.specs.Applications.{AreFitStarts}
 use Rattle.app_laws.specs.Execution.{after_steps, start_of}
 use Rattle.app_laws.specs.Order.{IsOrderly}
 use Rattle.source_pool.specs.Runs.{IsRoundsEnd, IsRunFault}

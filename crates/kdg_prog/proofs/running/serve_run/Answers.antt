@@ -1,6 +1,6 @@
-use Rattle.std.proofs.Common.{refl}
+use Rattle.std.proofs.Common.{ap, refl}
 use Rattle.outer_edge.specs.Transfers.{transfer_of}
-use Rattle.kdg_prog.specs.Problem.{MayStream, problem_of}
+use Rattle.kdg_prog.specs.Problem.{StreamsRounds, is_streamed, problem_of}
 use Rattle.kdg_prog.specs.Refusals.{IsAtStart}
 use Rattle.kdg_prog.proofs.Serving.{in_no_mode, run_at_once, run_unwritten, stays}
 use Rattle.kdg_prog.proofs.running.serve_run.Goals as goal
@@ -19,4 +19,4 @@ returns-clause-served g c =
     let problem = problem_of (g.A.App.meaning app) (g.A.Runnable.setting app) in
     let sink = transfer_of g.K.Sink.contents g.K.Sink.faults c.args.sink.now c.write_print.new.sink in
     run_at_once options problem sink c.print_of_run.result c.write_print.result c.print_of_run.ensures.print c.print_of_run.ensures.refusal
-    (in_no_mode (MayStream options) (IsAtStart options problem) c.print_of_run.result (c.may_stream.ensures.no c.if-may_stream.false)) c.write_print.ensures.written
+    (in_no_mode (StreamsRounds options) (IsAtStart options problem) c.print_of_run.result (λ rounds. c.may_stream.ensures.no c.if-may_stream.false (ap is_streamed rounds.0, rounds.1))) c.write_print.ensures.written

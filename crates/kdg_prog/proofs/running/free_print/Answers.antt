@@ -1,5 +1,4 @@
 use Rattle.std.proofs.Common.{◌≡◌, ◌∙◌, ℕ, None, ap, subst, sym}
-use Rattle.app_laws.specs.Applications.{AreFitStarts}
 use Rattle.app_laws.specs.Execution.{after_steps, start_of}
 use Rattle.app_laws.specs.Order.{IsOrderly}
 use Rattle.free_pool.specs.Runs.{IsRunEnd}
@@ -9,7 +8,7 @@ use Rattle.kdg_prog.specs.Problem.{is_in_rounds, problem_of, rounds_of}
 use Rattle.kdg_prog.specs.Refusals.{AnswersRounds, IsRunRefusal}
 use Rattle.kdg_prog.proofs.AtEnd.{home_at_end, refusal_of_run, run_at_end}
 use Rattle.kdg_prog.proofs.Refusing.{none_told, print_from_run, refused_with}
-use Rattle.kdg_prog.proofs.running.print_of_free_run.Goals as goal
+use Rattle.kdg_prog.proofs.running.free_print.Goals as goal
 
 pub returns-in_err-finals-clause-refusal : goal.returns-in_err-finals-clause-refusal
 returns-in_err-finals-clause-refusal g c =
