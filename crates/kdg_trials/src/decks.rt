@@ -20,6 +20,9 @@ pub const C17_STIMULUS_PRINT: &str =
 /// A gate that reads itself, with a stimulus.
 pub const RING: &str = "INPUT(a)\nOUTPUT(q)\nq = NAND(a, q)\n@ 2 1\n";
 
+/// The first lines of its log, more than 10 tasks write.
+pub const RING_LOG: &str = "1 q 1\n3 q 0\n4 q 1\n5 q 0\n6 q 1\n7 q 0\n8 q 1\n9 q 0\n";
+
 /// The lines of its rounds of at most 10 tasks.
 pub const RING_WITHIN_TEN: &str = "1 q 1\n3 q 0\n4 q 1\n";
 

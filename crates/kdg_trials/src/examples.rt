@@ -3,7 +3,7 @@
 use crate::answering::{MODES, answer, answer_in, tells_more_than};
 use crate::decks::{
     C17, C17_PRINT, C17_ROUNDS_PRINT, C17_SHORT_STIMULUS, C17_STIMULUS, C17_STIMULUS_PRINT,
-    C17_WITH_HEADER, FEEDBACK, RING, RING_WITHIN_TEN,
+    C17_WITH_HEADER, FEEDBACK, RING, RING_LOG, RING_WITHIN_TEN,
 };
 use crate::matrices::DIAGONAL;
 use crate::meshes::SPRING;
@@ -157,22 +157,31 @@ fn no_choice_shows_in_a_print(rt: HostRuntime) -> Result<(), Fail> {
     Ok(())
 }
 
-/// In mode rounds the lines of the rounds within the budget that come before all pending tasks have gone out.
+/// In mode rounds the lines of the rounds within the budget that come before all pending tasks have gone out, in
+/// mode free a front of the log.
 #[test]
 fn more_tasks_than_the_budget_are_told(rt: HostRuntime) -> Result<(), Fail> {
-    for (words, input, created, limit, kept) in [
-        ("sim --budget 19", C17, 20u64, 19u64, "1 22 1\n1 23 1\n"),
-        ("sim --budget 5", C17, 6, 5, ""),
-        ("sim --budget 10", "q = NOT(q)\n", 11, 10, ""),
+    for (words, input, created, limit, kept, log) in [
+        (
+            "sim --budget 19",
+            C17,
+            20u64,
+            19u64,
+            "1 22 1\n1 23 1\n",
+            C17_PRINT,
+        ),
+        ("sim --budget 5", C17, 6, 5, "", C17_PRINT),
+        ("sim --budget 10", "q = NOT(q)\n", 11, 10, "", ""),
         (
             "sim --until 1000000000 --budget 10",
             RING,
             11,
             10,
             RING_WITHIN_TEN,
+            RING_LOG,
         ),
-        ("rank --budget 1", DIAGONAL, 2, 1, ""),
-        ("mesh --budget 1", SPRING, 2, 1, ""),
+        ("rank --budget 1", DIAGONAL, 2, 1, "", ""),
+        ("mesh --budget 1", SPRING, 2, 1, "", ""),
     ] {
         let (told, sink) = answer_in(&rt, rt.alloc(), "serial", words, input, 3)?;
         assert_eq!(rt; told, Status::Budget { created, limit }, "{words} {input}");
@@ -182,6 +191,12 @@ fn more_tasks_than_the_budget_are_told(rt: HostRuntime) -> Result<(), Fail> {
             assert!(rt; tells_more_than(&told, limit), "{words} {mode} {input}");
             assert_eq!(rt; sink.held(), written.as_bytes(), "{words} {mode} {input}");
         }
+        let (told, sink) = answer_in(&rt, rt.alloc(), "free", words, input, 3)?;
+        assert!(rt; tells_more_than(&told, limit), "{words} free {input}");
+        assert!(rt;
+            log.as_bytes().starts_with(sink.held()),
+            "{words} free {input}"
+        );
     }
     Ok(())
 }
