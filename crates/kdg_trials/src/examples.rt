@@ -201,6 +201,16 @@ fn more_tasks_than_the_budget_are_told(rt: HostRuntime) -> Result<(), Fail> {
     Ok(())
 }
 
+/// A worker alone at a closed gate writes what it has ended before it passes the budget.
+#[test]
+fn a_free_worker_alone_writes_as_it_goes(rt: HostRuntime) -> Result<(), Fail> {
+    let words = "sim --workers 1 --until 1000000000 --budget 10";
+    let (told, sink) = answer_in(&rt, rt.alloc(), "free", words, RING, 3)?;
+    assert!(rt; tells_more_than(&told, 10));
+    assert_eq!(rt; sink.held(), RING_WITHIN_TEN.as_bytes());
+    Ok(())
+}
+
 #[test]
 fn bad_decks_are_told_by_line_and_fault(rt: HostRuntime) -> Result<(), Fail> {
     for (input, line, kind) in [
