@@ -8,6 +8,7 @@ use std::alloc::Global;
 use std::io;
 use std::io::{Error, ErrorKind, Read, Write};
 use std::marker::Brand;
+use std::process::Abort;
 use std::sync::ledger::{Blank, Ledger};
 use std::test::Fail;
 use task_order::Key;
@@ -17,39 +18,62 @@ fn input(alloc: Global, bytes: &[u8], fails: &[u64]) -> Result<MemSource, NoRoom
     Ok(source)
 }
 
+/// An input, the limit, the numbers of the reads that fail, and what is read.
+type Reading = (
+    &'static str,
+    u64,
+    &'static [u64],
+    Result<&'static str, ReadAllFault>,
+);
+
+const READINGS: &[Reading] = &[
+    ("abcde", 5, &[0], Ok("abcde")),
+    ("abcde", 4, &[0], Err(ReadAllFault::TooLarge)),
+    ("abcde", 5, &[2], Err(ReadAllFault::ReadFault)),
+    ("abcde", 5, &[4], Err(ReadAllFault::ReadFault)),
+    ("abcde", 3, &[3], Err(ReadAllFault::TooLarge)),
+    ("abcde", u64::MAX, &[9], Ok("abcde")),
+    ("", 0, &[9], Ok("")),
+    ("a", 0, &[9], Err(ReadAllFault::TooLarge)),
+];
+
 #[test]
 fn inputs_are_read_to_their_end(rt: HostRuntime) -> Result<(), Fail> {
-    for (bytes, limit, fails, want) in [
-        ("abcde", 5, [0].as_slice(), Ok("abcde")),
-        ("abcde", 4, [0].as_slice(), Err(ReadAllFault::TooLarge)),
-        ("abcde", 5, [2].as_slice(), Err(ReadAllFault::ReadFault)),
-        ("abcde", 5, [4].as_slice(), Err(ReadAllFault::ReadFault)),
-        ("abcde", 3, [3].as_slice(), Err(ReadAllFault::TooLarge)),
-        ("abcde", u64::MAX, [9].as_slice(), Ok("abcde")),
-        ("", 0, [9].as_slice(), Ok("")),
-        ("a", 0, [9].as_slice(), Err(ReadAllFault::TooLarge)),
-    ] {
+    for &(bytes, limit, fails, want) in READINGS {
         let mut source = input(rt.alloc(), bytes.as_bytes(), fails)?;
-        match (read_all(rt.alloc(), &mut source, limit), want) {
-            (Ok(text), Ok(want)) => assert_eq!(rt; text.bytes(), want.as_bytes()),
-            (Err(fault), Err(want)) => assert_eq!(rt; fault, want, "{bytes} {limit}"),
-            _ => panic!(rt; "{bytes} {limit}"),
-        }
+        let is_wanted = comes_to(rt.alloc(), &mut source, limit, want);
+        assert!(rt; is_wanted, "{bytes} {limit}");
     }
     Ok(())
+}
+
+/// Whether what is left of a source, of which at most `limit` bytes are read, comes to this.
+fn comes_to<S: Source>(
+    alloc: Global,
+    source: &mut S,
+    limit: u64,
+    want: Result<&str, ReadAllFault>,
+) -> bool {
+    match read_all(alloc, source, limit) {
+        Ok(text) => want.is_ok_and(|want| text.bytes() == want.as_bytes()),
+        Err(fault) => want == Err(fault),
+    }
 }
 
 #[test]
 fn long_inputs_are_read_in_many_reads(rt: HostRuntime) -> Result<(), Fail> {
     let bytes = vec![in rt.alloc(); 7; 20000]?;
     let mut clean = CleanSource::new(bytes.clone()?, 3000);
-    let text = read_all(rt.alloc(), &mut clean, 20000)?;
-    assert_eq!(rt; text.bytes(), bytes.as_slice());
-
+    assert!(rt; has_all(rt.alloc(), &mut clean, bytes.as_slice())?);
     let mut reader = ReadEdge::new(bytes.as_slice());
-    let text = read_all(rt.alloc(), &mut reader, 20000)?;
-    assert_eq!(rt; text.bytes(), bytes.as_slice());
+    assert!(rt; has_all(rt.alloc(), &mut reader, bytes.as_slice())?);
     Ok(())
+}
+
+/// Whether a source has these bytes and no others.
+fn has_all<S: Source>(alloc: Global, source: &mut S, bytes: &[u8]) -> Result<bool, ReadAllFault> {
+    let text = read_all(alloc, source, 20000)?;
+    Ok(text.bytes() == bytes)
 }
 
 /// Reads an input of at most three bytes, one byte with each read, and counts the reads.
@@ -67,7 +91,7 @@ fn read_three<L: Ledger>(alloc: Global, bytes: Vec<u8>, blank: Blank) -> Result<
 fn reads_are_counted(rt: HostRuntime) -> Result<(), Fail> {
     let bytes = b"abc".to_vec(rt.alloc())?;
     let text = read_three::<Brand>(rt.alloc(), bytes, Blank::new(1))?;
-    assert_eq!(rt; text.bytes(), b"abc".as_slice());
+    assert!(rt; text.bytes() == b"abc".as_slice());
     Ok(())
 }
 
@@ -82,31 +106,43 @@ fn write_within_room(sink: &mut CleanSink, piece: &[u8])
 #[test]
 fn pieces_are_written_whole(rt: HostRuntime) -> Result<(), Fail> {
     let mut clean = CleanSink::with_room(rt.alloc(), 4, 9)?;
-    assert_eq!(rt; write_whole(&mut clean, b""), Ok(()));
+    assert!(rt; write_whole(&mut clean, b"") == Ok(()));
     write_within_room(&mut clean, b"1234");
-    assert_eq!(rt; write_whole(&mut clean, b"56789"), Ok(()));
-    assert_eq!(rt; clean.held(), b"123456789".as_slice());
-    assert_eq!(rt; write_whole(&mut clean, b""), Ok(()));
-    assert_eq!(rt;
-        write_whole(&mut clean, b"x"),
-        Err(WriteAllFault::WriteFault)
-    );
-    assert_eq!(rt; clean.held(), b"123456789".as_slice());
+    fill(&rt, &mut clean);
+    Ok(())
+}
 
-    for (room, fails, want, held) in [
-        (
-            9,
-            [3].as_slice(),
-            Err(WriteAllFault::WriteFault),
-            "12345678",
-        ),
-        (9, [1].as_slice(), Err(WriteAllFault::WriteFault), ""),
-        (6, [9].as_slice(), Err(WriteAllFault::WriteFault), "123456"),
-        (9, [4].as_slice(), Ok(()), "123456789"),
-    ] {
+/// Fills a sink that has room for five more bytes, which takes nothing but an empty piece then.
+fn fill(rt: &impl Abort, sink: &mut CleanSink) {
+    assert!(rt; write_whole(sink, b"56789") == Ok(()));
+    assert!(rt; sink.held() == b"123456789".as_slice());
+    assert!(rt; write_whole(sink, b"") == Ok(()));
+    assert!(rt; write_whole(sink, b"x") == Err(WriteAllFault::WriteFault));
+    assert!(rt; sink.held() == b"123456789".as_slice());
+}
+
+/// The room of a sink that takes four bytes at a time, the numbers of the writes that fail, and what comes of
+/// nine bytes and is held then.
+type Writing = (
+    usize,
+    &'static [u64],
+    Result<(), WriteAllFault>,
+    &'static str,
+);
+
+const WRITINGS: &[Writing] = &[
+    (9, &[3], Err(WriteAllFault::WriteFault), "12345678"),
+    (9, &[1], Err(WriteAllFault::WriteFault), ""),
+    (6, &[9], Err(WriteAllFault::WriteFault), "123456"),
+    (9, &[4], Ok(()), "123456789"),
+];
+
+#[test]
+fn failed_writes_leave_a_front(rt: HostRuntime) -> Result<(), Fail> {
+    for &(room, fails, want, held) in WRITINGS {
         let mut sink = MemSink::with_room(rt.alloc(), 4, room, fails.to_vec(rt.alloc())?)?;
-        assert_eq!(rt; write_whole(&mut sink, b"123456789"), want);
-        assert_eq!(rt; sink.held(), held.as_bytes());
+        let written = write_whole(&mut sink, b"123456789");
+        assert!(rt; written == want && sink.held() == held.as_bytes(), "{held}");
     }
     Ok(())
 }
@@ -163,57 +199,66 @@ impl Flaky {
     }
 }
 
+/// A piece, the number of the write that takes nothing and of the flush that fails, and what is answered.
+const FLAKY_WRITINGS: &[(&str, u8, u8, Result<(), WriteAllFault>)] = &[
+    ("123", 0, 0, Ok(())),
+    ("1234", 0, 0, Err(WriteAllFault::WriteFault)),
+    ("123", 2, 0, Err(WriteAllFault::WriteFault)),
+    ("123", 0, 3, Err(WriteAllFault::WriteFault)),
+];
+
 #[test]
-fn errors_of_readers_and_writers_are_handed_on(rt: HostRuntime) -> Result<(), Fail> {
+fn errors_of_readers_are_handed_on(rt: HostRuntime) {
     let mut reader = ReadEdge::new(Flaky::new(0, 0));
     let fault = read_all(rt.alloc(), &mut reader, 9).err();
-    assert_eq!(rt; fault, Some(ReadAllFault::ReadFault));
+    assert!(rt; fault == Some(ReadAllFault::ReadFault));
+}
 
-    for (piece, zero_at, broken_flush, want) in [
-        ("123", 0, 0, Ok(())),
-        ("1234", 0, 0, Err(WriteAllFault::WriteFault)),
-        ("123", 2, 0, Err(WriteAllFault::WriteFault)),
-        ("123", 0, 3, Err(WriteAllFault::WriteFault)),
-    ] {
+#[test]
+fn errors_of_writers_are_handed_on(rt: HostRuntime) {
+    for &(piece, zero_at, broken_flush, want) in FLAKY_WRITINGS {
         let mut writer = WriteEdge::new(Flaky::new(zero_at, broken_flush));
-        assert_eq!(rt; write_whole(&mut writer, piece.as_bytes()), want);
+        assert!(rt;
+            write_whole(&mut writer, piece.as_bytes()) == want,
+            "{piece}"
+        );
     }
+}
 
+#[test]
+fn pieces_are_written_to_a_vector(rt: HostRuntime) {
     let mut bytes = Vec::new(rt.alloc());
     let mut writer = WriteEdge::new(&mut bytes);
-    assert_eq!(rt; write_whole(&mut writer, b"ab"), Ok(()));
-    assert_eq!(rt; write_whole(&mut writer, b"c"), Ok(()));
-    assert_eq!(rt; bytes.as_slice(), b"abc".as_slice());
-    Ok(())
+    assert!(rt; write_whole(&mut writer, b"ab") == Ok(()));
+    assert!(rt; write_whole(&mut writer, b"c") == Ok(()));
+    assert!(rt; bytes.as_slice() == b"abc".as_slice());
 }
 
 /// The first words of the demonstration in PCG's C code, whose state is 42 and whose stream is 54.
+const WORDS: &[(u64, u64)] = &[
+    (0, 0xa15c02b7),
+    (1, 0x7b47f409),
+    (2, 0xba1d3330),
+    (3, 0x83d2f293),
+    (4, 0xbfa4784b),
+    (5, 0xcbed606e),
+];
+
 #[test]
-fn a_seed_gives_its_words(rt: HostRuntime) -> Result<(), Fail> {
-    for (turn, word) in [
-        (0, 0xa15c02b7),
-        (1, 0x7b47f409),
-        (2, 0xba1d3330),
-        (3, 0x83d2f293),
-        (4, 0xbfa4784b),
-        (5, 0xcbed606e),
-    ] {
-        assert_eq!(rt; choice(&Seeded, 42, 54, turn), word);
+fn a_seed_gives_its_words(rt: HostRuntime) {
+    for &(turn, word) in WORDS {
+        assert!(rt; choice(&Seeded, 42, 54, turn) == word);
     }
-    assert_eq!(rt; choice(&Still, 42, 54, 3), 0);
-    Ok(())
+    assert!(rt; choice(&Still, 42, 54, 3) == 0);
 }
 
 /// A gate gives for many turns at once what it gives for each: by a body of its own, and by the one
 /// that it has from the trait.
 #[test]
 fn turns_ahead_have_their_own_words(rt: HostRuntime) {
-    assert_eq!(rt;
-        four_ahead(&Seeded, 42, 54, 1),
-        [0x7b47f409, 0xba1d3330, 0x83d2f293, 0xbfa4784b]
-    );
-    assert_eq!(rt; four_ahead(&Still, 42, 54, 1), [0, 0, 0, 0]);
-    assert_eq!(rt; four_ahead(&Turns, 42, 54, 1), [1, 2, 3, 4]);
+    assert!(rt; four_ahead(&Seeded, 42, 54, 1) == [0x7b47f409, 0xba1d3330, 0x83d2f293, 0xbfa4784b]);
+    assert!(rt; four_ahead(&Still, 42, 54, 1) == [0, 0, 0, 0]);
+    assert!(rt; four_ahead(&Turns, 42, 54, 1) == [1, 2, 3, 4]);
 }
 
 /// A gate that chooses the number of the turn.

@@ -4,6 +4,7 @@ ghost use Rattle.std.specs.Prelude.{◌≡◌, ◌+◌, ◌<◌, ◌≤◌, leng
 
 use kdg_text::NoRoom;
 use std::alloc::Global;
+use std::process::Abort;
 use std::test::Fail;
 use tiered_list::TieredList;
 
@@ -41,6 +42,15 @@ fn put(
     Ok(())
 }
 
+/// Takes the item at a place out of a list, and out of a vector.
+fn take(rt: &impl Abort, list: &mut TieredList<u64>, items: &mut Vec<u64>, place: usize)
+    requires same { list.old.items ≡ items.old.items }
+    requires place { place < length items.old.items }
+    ensures same { list.new.items ≡ items.new.items }
+{
+    assert!(rt; list.remove(place) == items.remove(place));
+}
+
 #[test]
 fn calls_are_those_on_a_vector(rt: HostRuntime) -> Result<(), Fail> {
     let alloc = rt.alloc();
@@ -51,18 +61,22 @@ fn calls_are_those_on_a_vector(rt: HostRuntime) -> Result<(), Fail> {
         seed = next(seed);
         let len = items.len();
         if step % 4 == 3 && len > 0 {
-            let place = place_below(seed, len);
-            assert_eq!(rt; list.remove(place), items.remove(place));
+            take(&rt, &mut list, &mut items, place_below(seed, len));
         } else if len < 10000 {
             put(&mut list, &mut items, place_below(seed, len + 1), step)?;
         }
     }
-    assert_eq!(rt; list.len(), items.len());
-    for (place, item) in items.iter().enumerate() {
-        assert_eq!(rt; list.get(place).copied(), Some(*item));
-    }
-    assert_eq!(rt; list.get(items.len()).copied(), None);
+    check_items(&rt, &list, items.as_slice());
     Ok(())
+}
+
+/// Checks that a list has these items and no others.
+fn check_items(rt: &impl Abort, list: &TieredList<u64>, items: &[u64]) {
+    assert!(rt; list.len() == items.len());
+    for (place, item) in items.iter().enumerate() {
+        assert!(rt; list.get(place).copied() == Some(*item));
+    }
+    assert!(rt; list.get(items.len()).copied() == None);
 }
 
 /// Lists of few items: each comes and goes in place at first, and then also in a ring.
@@ -80,16 +94,20 @@ fn few_items_come_and_go(rt: HostRuntime) -> Result<(), Fail> {
             if len == 0 || (len < most && (seed >> 45) % 2 == 0) {
                 put(&mut list, &mut items, place_below(seed, len + 1), step)?;
             } else {
-                let place = place_below(seed, len);
-                assert_eq!(rt; list.remove(place), items.remove(place));
+                take(&rt, &mut list, &mut items, place_below(seed, len));
             }
-            assert_eq!(rt; list.len(), items.len());
-            for place in 0..15 {
-                assert_eq!(rt; list.get(place).copied(), items.get(place).copied());
-            }
+            check_places(&rt, &list, items.as_slice());
         }
     }
     Ok(())
+}
+
+/// Checks the first fifteen places of a list, with items and without.
+fn check_places(rt: &impl Abort, list: &TieredList<u64>, items: &[u64]) {
+    assert!(rt; list.len() == items.len());
+    for place in 0..15 {
+        assert!(rt; list.get(place).copied() == items.get(place).copied());
+    }
 }
 
 #[test]
@@ -100,12 +118,12 @@ fn items_leave_from_both_ends(rt: HostRuntime) -> Result<(), Fail> {
         list.insert(list.len(), item);
     }
     for item in 0..400u64 {
-        assert_eq!(rt; list.remove(0), item);
-        assert_eq!(rt; list.remove(list.len() - 1), 999 - item);
+        assert!(rt; list.remove(0) == item);
+        assert!(rt; list.remove(list.len() - 1) == 999 - item);
     }
-    assert_eq!(rt; list.len(), 200);
-    assert_eq!(rt; list.get(0).copied(), Some(400));
-    assert_eq!(rt; list.get(199).copied(), Some(599));
+    assert!(rt; list.len() == 200);
+    assert!(rt; list.get(0).copied() == Some(400));
+    assert!(rt; list.get(199).copied() == Some(599));
     Ok(())
 }
 
@@ -126,9 +144,9 @@ fn refused_room_leaves_the_items(rt: HostRuntime) -> Result<(), Fail> {
         for additional in [usize::MAX, 1 << 63] {
             assert!(rt; list.reserve(additional).is_err());
         }
-        assert_eq!(rt; list.len() as u64, count);
+        assert!(rt; list.len() as u64 == count);
         for number in 0..count {
-            assert_eq!(rt; list.get(number as usize).copied(), Some(number));
+            assert!(rt; list.get(number as usize).copied() == Some(number));
         }
     }
     Ok(())

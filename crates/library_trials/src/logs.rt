@@ -22,9 +22,8 @@ fn text(alloc: Global, bytes: &[u8]) -> Result<Text, NoRoom> {
     Ok(text)
 }
 
-#[test]
-fn texts_are_joined_in_key_order(rt: HostRuntime) -> Result<(), Fail> {
-    let alloc = rt.alloc();
+/// The log of three tasks, put in out of order: the first two wrote a letter, and the last nothing.
+fn three_texts(alloc: Global) -> Result<Log, NoRoom> {
     let mut log = Log::new(alloc);
     log.reserve(2)?;
     log.put(key(alloc, 1)?, text(alloc, b"b")?);
@@ -32,12 +31,18 @@ fn texts_are_joined_in_key_order(rt: HostRuntime) -> Result<(), Fail> {
     let silent = text(alloc, b"")?;
     log.reserve_for(&silent)?;
     log.put(key(alloc, 2)?, silent);
-    let bound = key(alloc, 1)?;
-    assert_eq!(rt; log.all()?.bytes(), b"ab".as_slice());
-    assert_eq!(rt; log.take_below(&bound)?.bytes(), b"a".as_slice());
-    assert_eq!(rt; log.all()?.bytes(), b"b".as_slice());
+    Ok(log)
+}
+
+#[test]
+fn texts_are_joined_in_key_order(rt: HostRuntime) -> Result<(), Fail> {
+    let mut log = three_texts(rt.alloc())?;
+    let bound = key(rt.alloc(), 1)?;
+    assert!(rt; log.all()?.bytes() == b"ab".as_slice());
+    assert!(rt; log.take_below(&bound)?.bytes() == b"a".as_slice());
+    assert!(rt; log.all()?.bytes() == b"b".as_slice());
     assert!(rt; !log.is_silent());
-    assert_eq!(rt; log.take_all()?.bytes(), b"b".as_slice());
+    assert!(rt; log.take_all()?.bytes() == b"b".as_slice());
     assert!(rt; log.is_silent());
     assert!(rt; log.take_all()?.is_empty());
     Ok(())

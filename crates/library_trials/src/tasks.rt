@@ -1,6 +1,7 @@
 //! Keys, and lists of tasks in their order.
 
 ghost use Rattle.std.specs.Bool.{OnTrue};
+ghost use Rattle.std.specs.Prelude.{◌≡◌, IfOk};
 ghost use Rattle.task_order.specs.TaskList.{IsNewKey};
 
 use kdg_text::NoRoom;
@@ -44,28 +45,20 @@ fn put(rt: &impl Abort, tasks: &mut TaskList, task: Task) -> Result<(), NoRoom> 
 
 #[test]
 fn paths_and_keys_grow(rt: HostRuntime) -> Result<(), Fail> {
-    let root = Path::root(rt.alloc(), 2)?;
-    let child = root.child(1)?;
-    let parent = Key {
-        prio: 3,
-        path: root,
-    };
-    let key = parent.child(1, 3)?;
-    assert_eq!(rt; format!(in rt.alloc(); "{child:?}")?.as_str(), "[2, 1]");
-    assert_eq!(rt;
-        format!(in rt.alloc(); "{parent:?}")?.as_str(),
-        "Key { prio: 3, path: [2] }"
-    );
-    assert_eq!(rt;
-        key,
-        Key {
-            prio: 3,
-            path: child
-        }
-    );
-    assert_eq!(rt; key.copy()?, key);
+    let parent = root_key(rt.alloc(), 2)?;
+    let path = parent.path.child(1)?;
+    assert!(rt; format!(in rt.alloc(); "{path:?}")?.as_str() == "[2, 1]");
+    assert!(rt; format!(in rt.alloc(); "{parent:?}")?.as_str() == "Key { prio: 3, path: [2] }");
+    assert!(rt; parent.child(1, 3)? == Key { prio: 3, path });
+    Ok(())
+}
+
+#[test]
+fn keys_and_tasks_are_copied(rt: HostRuntime) -> Result<(), Fail> {
+    let key = root_key(rt.alloc(), 2)?.child(1, 3)?;
+    assert!(rt; key.copy()? == key);
     let task = Task { key, body: BODY };
-    assert_eq!(rt; task.copy()?, task);
+    assert!(rt; task.copy()? == task);
     Ok(())
 }
 
@@ -77,7 +70,7 @@ fn first_tasks_are_listed(rt: HostRuntime) -> Result<(), Fail> {
     };
     let mut starts = StartList::new(rt.alloc());
     starts.push(start)?;
-    assert_eq!(rt; starts.items(), [start].as_slice());
+    assert!(rt; starts.items() == [start].as_slice());
     Ok(())
 }
 
@@ -114,14 +107,11 @@ fn tasks_are_walked_in_key_order(rt: HostRuntime) -> Result<(), Fail> {
     for task in tasks.iter() {
         assert!(rt; place < tasks.len());
         assert!(rt; place < IN_ORDER.len());
-        assert_eq!(rt;
-            format!(in rt.alloc(); "{:?}", task.key)?.as_str(),
-            IN_ORDER[place]
-        );
-        assert_eq!(rt; task, tasks.at(place));
+        assert!(rt; format!(in rt.alloc(); "{:?}", task.key)?.as_str() == IN_ORDER[place]);
+        assert!(rt; task == tasks.at(place));
         place += 1;
     }
-    assert_eq!(rt; place, 5);
+    assert!(rt; place == 5);
     Ok(())
 }
 
@@ -131,40 +121,54 @@ fn tasks_come_out_in_key_order(rt: HostRuntime) -> Result<(), Fail> {
     assert!(rt; !tasks.is_empty());
     for key in IN_ORDER {
         let task = tasks.take_first().ok_or("none is left")?;
-        assert_eq!(rt; format!(in rt.alloc(); "{:?}", task.key)?.as_str(), key);
+        assert!(rt; format!(in rt.alloc(); "{:?}", task.key)?.as_str() == key);
     }
     assert!(rt; tasks.is_empty());
-    assert_eq!(rt; tasks.take_first(), None);
+    assert!(rt; tasks.take_first() == None);
     Ok(())
+}
+
+/// The key of a first task at priority 3.
+fn root_key(alloc: Global, number: u32) -> Result<Key, NoRoom>
+    ensures { IfOk result (λ key. key.prio ≡ 3) }
+{
+    let path = Path::root(alloc, number)?;
+    Ok(Key { prio: 3, path })
 }
 
 #[test]
 fn tasks_are_found_by_key(rt: HostRuntime) -> Result<(), Fail> {
-    let alloc = rt.alloc();
-    let mut tasks = five_tasks(&rt, alloc)?;
-    let present = Key {
-        prio: 3,
-        path: path(alloc, 3, &[])?,
-    };
-    let absent = Key {
-        prio: 3,
-        path: path(alloc, 9, &[])?,
-    };
-    assert_eq!(rt; tasks.rank(&present), 3);
+    let tasks = five_tasks(&rt, rt.alloc())?;
+    let present = root_key(rt.alloc(), 3)?;
+    assert!(rt; tasks.rank(&present) == 3);
     let found = tasks.get(&present).ok_or("the task is not there")?;
-    assert_eq!(rt; found.key, present);
-    assert_eq!(rt; found.body, BODY);
-    assert!(rt; tasks.get(&absent).is_none());
-    assert_eq!(rt; tasks.remove(&absent), None);
-    assert_eq!(rt; tasks.len(), 5);
+    assert!(rt; found.key == present);
+    assert!(rt; found.body == BODY);
     let first = tasks.first().ok_or("none is there")?;
-    assert_eq!(rt; format!(in alloc; "{:?}", first.key)?.as_str(), IN_ORDER[0]);
+    assert!(rt; format!(in rt.alloc(); "{:?}", first.key)?.as_str() == IN_ORDER[0]);
+    Ok(())
+}
+
+#[test]
+fn tasks_without_the_key_stay(rt: HostRuntime) -> Result<(), Fail> {
+    let mut tasks = five_tasks(&rt, rt.alloc())?;
+    let absent = root_key(rt.alloc(), 9)?;
+    assert!(rt; tasks.get(&absent).is_none());
+    assert!(rt; tasks.remove(&absent) == None);
+    assert!(rt; tasks.len() == 5);
+    Ok(())
+}
+
+#[test]
+fn tasks_leave_by_key(rt: HostRuntime) -> Result<(), Fail> {
+    let mut tasks = five_tasks(&rt, rt.alloc())?;
+    let present = root_key(rt.alloc(), 3)?;
     let removed = tasks.remove(&present).ok_or("the task is not there")?;
-    assert_eq!(rt; removed.key, present);
+    assert!(rt; removed.key == present);
     assert!(rt; tasks.get(&present).is_none());
     let taken = tasks.take_first().ok_or("none is left")?;
-    assert_eq!(rt; format!(in alloc; "{:?}", taken.key)?.as_str(), IN_ORDER[0]);
-    assert_eq!(rt; tasks.len(), 3);
+    assert!(rt; format!(in rt.alloc(); "{:?}", taken.key)?.as_str() == IN_ORDER[0]);
+    assert!(rt; tasks.len() == 3);
     Ok(())
 }
 
@@ -176,9 +180,9 @@ fn keys_are_sorted_by_priority_and_path(rt: HostRuntime) -> Result<(), Fail> {
         keys.push(Key { prio, path })?;
     }
     keys.sort()?;
-    assert_eq!(rt;
-        format!(in rt.alloc(); "{keys:?}")?.as_str(),
-        "[Key { prio: 2, path: [7] }, Key { prio: 3, path: [0] }, Key { prio: 3, path: [1] }]"
+    assert!(rt;
+        format!(in rt.alloc(); "{keys:?}")?.as_str()
+            == "[Key { prio: 2, path: [7] }, Key { prio: 3, path: [0] }, Key { prio: 3, path: [1] }]"
     );
     Ok(())
 }

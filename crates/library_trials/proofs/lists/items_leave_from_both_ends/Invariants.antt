@@ -7,4 +7,4 @@ invariant-loop-item g l = (length l.list.items ≡ l.item) × (1000 ≤ l.list.c
 
 -- two items leave at each step
 abbrev pub invariant-loop-item-2 : goal.invariant-loop-item-2
-invariant-loop-item-2 g l = length l.list.items + 2 * l.item-counter ≡ 1000
+invariant-loop-item-2 g l = length l.list.items + 2 * l.item ≡ 1000
