@@ -49,7 +49,7 @@ abbrev pub SaysForm : Result Said LineFault → LineForm → Type 0
 SaysForm (Ok said) form = (form ≡ line_form said.statement) × (said.limit ≡ own_limit (line_form said.statement))
 SaysForm (Err fault) form = form ≡ FaultyLine fault
 
--- the same of a line that may say nothing
+-- what was said is this form, of a line that may say nothing
 abbrev pub Says : Result (Option Said) LineFault → Option LineForm → Type 0
 Says (Ok None) form = form ≡ None
 Says (Ok (Some said)) form = (form ≡ Some (line_form said.statement)) × (said.limit ≡ own_limit (line_form said.statement))

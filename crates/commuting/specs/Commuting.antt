@@ -22,7 +22,7 @@ BothEnd R (Some e) (Some other) = R e other
 abbrev pub LogsMore : {V : Type 0} → List Entry → Execution V → Execution V → Type 0
 LogsMore entries e other = e.log ≡ joined_by_key other.log entries
 
--- the same, while the cells and the pending tasks are the same
+-- the first log is that join, and the cells and the pending tasks are the same
 pub record IsSameButLogsMore {V : Type 0} (entries : List Entry) (e other : Execution V) : Type 0 where
   pub cells-are : e.cells ≡ other.cells
   pub pending-are : e.pending ≡ other.pending

@@ -18,11 +18,11 @@ use Rattle.free_pool.specs.declared.turns.Next.TheVariants as next
 abbrev pub keys_of : {V : Type 0} → List (Job V) → List Key
 keys_of jobs = map (λ job. job.task.key) jobs
 
--- the jobs that a worker has after a turn: those that it claimed, and what it had but for the first ones, of which so many ended
+-- the jobs that a worker has after a turn: those that it `claimed`, and what it `had` but for the first `ended` ones
 abbrev pub jobs_left : {V : Type 0} → List (Job V) → ℕ → List (Job V) → List (Job V)
 jobs_left had ended claimed = claimed ++ drop ended had
 
--- the keys of the tasks that ended in a turn, so many, the first ones of the jobs that the worker had
+-- the keys of the tasks that ended in a turn, the first `ended` ones of the jobs that the worker had
 abbrev pub keys_ended : {V : Type 0} → List (Job V) → ℕ → List Key
 keys_ended had ended = keys_of (take ended had)
 

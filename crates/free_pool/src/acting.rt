@@ -48,7 +48,7 @@ enum Act<E> {
     Stuck(Stuck<E>),
 }
 
-/// Lets clear tasks act where they are, so many at most, or until none is clear. The list then has the
+/// Lets clear tasks act where they are, `most` at most, or until none is clear. `acted` then has the
 /// keys of those that acted, for contracts alone.
 pub(crate) fn act_tasks<'a, A: App, L: Ledger>(
     engine: &mut Engine<'a, A>,

@@ -53,7 +53,7 @@ impl Plan {
         }
     }
 
-    /// How many tasks a worker claims in a turn at most, where so many are pending: no more than its share,
+    /// How many tasks a worker claims in a turn at most, of the `pending` ones: no more than its share,
     /// so that others find some.
     pub(crate) fn batch(&self, pending: usize) -> usize
         ensures { 1 ≤ result }

@@ -204,7 +204,7 @@ fn end_task<A: App, L: Ledger>(
     }
 }
 
-/// Claims tasks until there are so many, or none is to be had.
+/// Claims tasks until `jobs` has `most`, or none is to be had.
 fn claim_tasks<A: App>(
     engine: &mut Engine<'_, A>,
     pick: Pick,
@@ -278,7 +278,7 @@ fn claim_by<A: App>(engine: &mut Engine<'_, A>, pick: Pick) -> Result<Claim<A::V
     }
 }
 
-/// Leaves the turn, in which so many of the tasks that were performed ended, those in the hand were claimed
+/// Leaves the turn, in which the first `ended` tasks that were performed ended, those in the hand were claimed
 /// or acted, and one may be stuck.
 pub(crate) fn leave_as<'h, 'a, A: App>(
     turn: Turn<'h, 'a, A>,

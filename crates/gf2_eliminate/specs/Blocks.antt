@@ -1,4 +1,4 @@
--- A pattern that is made from a number: so many blocks of three rows and columns along the diagonal.
+-- A pattern that is made from a number, which is that of its blocks of three rows and columns along the diagonal.
 use Rattle.std.specs.Prelude.{ℕ, ◌+◌, ◌*◌, List, [], ◌∷◌}
 use Rattle.std.specs.List.{flat_map}
 use Rattle.mtx_reader.specs.declared.pattern.Pattern.{Pattern}
@@ -8,7 +8,7 @@ use Rattle.mtx_reader.specs.Places.{Place}
 abbrev pub most_blocks : ℕ
 most_blocks = 1365
 
--- the places of a block behind so many rows and columns
+-- the places of a block behind `before` rows and columns
 abbrev pub places_behind : ℕ → List Place
 places_behind before =
     (before + 1, before + 1) ∷ (before + 1, before + 2) ∷ (before + 2, before + 1) ∷ (before + 2, before + 3) ∷ (before + 3, before + 3) ∷ []

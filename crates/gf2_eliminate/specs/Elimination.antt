@@ -50,7 +50,7 @@ free_line column = codes "col " ++ decimal (suc column) ++ codes " free" ++ 10 �
 abbrev pub pivot_line : ℕ → ℕ → List ℕ
 pivot_line column pivot = codes "col " ++ decimal (suc column) ++ codes " row " ++ decimal (suc pivot) ++ 10 ∷ []
 
--- where there are so many rows and columns
+-- in a matrix of this size
 module _ (rows columns : ℕ) where
   -- whether some row has a one in both columns
   abbrev pub is_shared : List Line2 → ℕ → ℕ → Bool

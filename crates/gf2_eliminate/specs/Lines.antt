@@ -30,7 +30,7 @@ line_at cells loc = slice_index_or cells loc no_line
 abbrev pub holds : List Line2 → ℕ → ℕ → Bool
 holds cells row column = has (numbers_in (line_at cells row)) (suc column)
 
--- whether a column has a one in a row, by what the column's cell says, where there are so many rows
+-- whether a column has a one in a row, by what the column's cell says, in a matrix of `rows` rows
 abbrev pub is_held : ℕ → List Line2 → ℕ → ℕ → Bool
 is_held rows cells row column = has (numbers_in (line_at cells (rows + column))) (suc row)
 

@@ -49,7 +49,7 @@ module _ (line : ℕ → Line2) where
   abbrev pub pivot_among : List ℕ → Option ℕ
   pivot_among holders = first_of (filter (λ loc. not (is_used (line loc))) (locations holders))
 
-  -- the lines of these numbers, which count from 1 behind so many lines, with these ones added
+  -- the lines of these numbers, which count from 1 behind `before` lines, with the ones of `added`
   abbrev pub sums : ℕ → ℕ → List ℕ → List ℕ → List (ℕ × Line2)
   sums before bound added numbers = map (λ number. (before + (number - 1), with_sum bound added (line (before + (number - 1))))) numbers
 
@@ -83,7 +83,7 @@ pub record HasRow (has_line : ℕ → Type 0) (row : ℕ) : Type 0 where
   pub from_one : 1 ≤ row
   pub there : has_line (row - 1)
 
--- a number whose line is there and has a one, behind so many lines
+-- a number whose line is there and has a one, counted from 1 behind `before` lines
 pub record CanTake (before : ℕ) (line : ℕ → Line2) (has_line : ℕ → Type 0) (number : ℕ) : Type 0 where
   pub from_one : 1 ≤ number
   pub fits : before + number < 2 ^ 32

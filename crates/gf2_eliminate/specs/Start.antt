@@ -54,6 +54,6 @@ abbrev pub with_number : Line2 → ℕ → Line2
 with_number (Row columns used) number = Row (columns ++ number ∷ []) used
 with_number (Col rows) number = Col (rows ++ number ∷ [])
 
--- a line without a one, where there are so many rows
+-- a line without a one, in a matrix of `rows` rows
 abbrev pub empty_line : ℕ → ℕ → Line2
 empty_line rows loc = if nat_lt loc rows then Row [] false else Col []

@@ -24,6 +24,6 @@ touched_locs rows columns column holders cells =
 abbrev pub AreRowsTo : ℕ → List ℕ → Type 0
 AreRowsTo rows numbers = AllByRecursion (λ row. (1 ≤ row) × (row ≤ rows)) numbers
 
--- the ones of each of these rows are in so many columns
+-- the ones of each of these rows are in the first `columns` columns
 abbrev pub HaveColumns : List (Cell Line2) → ℕ → List ℕ → Type 0
 HaveColumns cells columns rows = AllByRecursion (λ row. AllByRecursion (λ number. (1 ≤ number) × (number ≤ columns)) (ones_at cells (row - 1))) rows

@@ -49,7 +49,7 @@ abbrev pub cmp_if : Key → Option Node → Ordering
 cmp_if key None = Greater
 cmp_if key (Some node) = key_cmp node.task.key key
 
--- the same for the node with an id
+-- how the node with an id compares with the key
 abbrev pub cmp_in : Slab Node → Key → NodeId → Ordering
 cmp_in slots key id = cmp_if key (get slots id.at)
 
@@ -57,7 +57,7 @@ abbrev pub cmp_in_if : Slab Node → Key → Option NodeId → Ordering
 cmp_in_if slots key None = Greater
 cmp_in_if slots key (Some id) = cmp_in slots key id
 
--- the same for the node whose id is at a place
+-- how the node whose id is at a place compares with the key
 abbrev pub cmp_at : Slab Node → Key → List NodeId → ℕ → Ordering
 cmp_at slots key ids place = cmp_in_if slots key (slice_get ids place)
 

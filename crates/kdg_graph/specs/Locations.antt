@@ -76,7 +76,7 @@ abbrev pub ids_for : Access → Location → List NodeId
 ids_for Read location = location.writers
 ids_for Write location = location.named
 
--- the same by the number of the location, where no ids are kept for those beyond the list
+-- the ids that are kept for an access to the location of a number: none beyond the list
 abbrev pub lane_of : List Location → ℕ → Access → List NodeId
 lane_of [] loc access = []
 lane_of (location ∷ locations) zero access = ids_for access location

@@ -9,7 +9,7 @@ pub record NodeShelf : Type 0 where
   pub numbers : ℕ
   pub keys : ℕ
 
--- for so many more there is room, but at the locations of their sets, and at each location for so many
+-- for `room` more nodes there is room, but at the locations of their sets, and at each location for as many as `rooms` has there
 pub record NodeStock : Type 0 where
   pub nodes : List Node
   pub room : ℕ

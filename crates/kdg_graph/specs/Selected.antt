@@ -108,7 +108,7 @@ recent_among standings arrivals = filter (λ arrival. is_recent (get_or standing
 abbrev pub HasGone : List Standing → List NodeId → ℕ → Type 0
 HasGone standings ids gone = length ids ≡ gone + length (settled_among standings ids)
 
--- ids that were put in order, those that came since, how each number is marked, and room for so many in order: an id that is marked otherwise counts no more
+-- ids that were put in order, those that came since, how each number is marked, and for how many in order there is room: an id that is marked otherwise counts no more
 pub record MarkedIds : Type 0 where
   pub entries : List NodeId
   pub arrivals : List Arrival
@@ -156,7 +156,7 @@ abbrev pub is_later : Option Node → Node → Bool
 is_later None node = true
 is_later (Some last) node = is_lt (key_cmp last.task.key node.task.key)
 
--- the same by the other's id
+-- whether the node is later than the one with an id, if an id is given
 abbrev pub is_behind : List Node → Option NodeId → Node → Bool
 is_behind nodes None node = true
 is_behind nodes (Some last) node = is_later (node_at nodes last) node

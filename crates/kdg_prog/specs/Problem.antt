@@ -30,7 +30,7 @@ pub record Setting (V : Type 0) : Type 0 where
   pub tasks : List Start
   pub finals : List V → List ℕ
 
--- the same, with the application
+-- a setting, with the application
 pub record Problem (V : Type 0) : Type 1 where
   pub app : Application V
   pub cells : List V
@@ -115,7 +115,7 @@ module _ {V : Type 0} (problem : Problem V) where
   abbrev pub print_of : Options → Option ℕ → Execution V → List ℕ
   print_of options told end = text_shown options (joined_texts end.log) (problem.finals end.cells) (length end.log) ++ rounds_text told
 
-  -- the same of what a run leaves
+  -- the print of what a run leaves
   abbrev pub print_of_finals : Options → Option ℕ → Finals V → List ℕ
   print_of_finals options told finals = text_shown options finals.text (problem.finals (values_of finals.store)) finals.count ++ rounds_text told
 
@@ -156,11 +156,11 @@ module _ {V : Type 0} (options : Options) (problem : Problem V) where
     pub keeps : IsKeptAfter problem.app options.budget [] (first_state problem) rounds state text
     pub last : IsLastRound problem.app options.budget (first_state problem) rounds state
 
-  -- the same, or nothing where the first tasks alone are more than the budget
+  -- what is kept, or nothing where the first tasks alone are more than the budget
   abbrev pub KeepsText : List ℕ → Type 0
   KeepsText text = ((options.budget < length problem.tasks) × (text ≡ [])) ⊎ IsLastKept text
 
--- the same for what an input describes, where it has no fault
+-- the answer for what an input describes, where it has no fault
 module _ {D V : Type 0} (problem : D → Problem V) (options : Options) where
   abbrev pub answer_read : Result D Fault → Answer
   answer_read (Err fault) = input_fault fault

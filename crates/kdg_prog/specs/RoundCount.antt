@@ -13,7 +13,7 @@ one_more [] rounds = 0
 one_more (task ∷ tasks) rounds = suc rounds
 
 module _ {V : Type 0} (app : Application V) where
-  -- how many rounds there are until nothing is pending, of at most so many
+  -- how many rounds there are until nothing is pending, counted up to this most
   unfoldable pub rounds_within : ℕ → State V → ℕ
   rounds_within zero state = 0
   rounds_within (suc most) state = one_more state.pending (rounds_within most (after_round app state))

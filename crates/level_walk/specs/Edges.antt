@@ -10,7 +10,7 @@ use Rattle.level_walk.specs.Walks.{vertex_count}
 abbrev pub edges_to : List Place → ℕ → ℕ
 edges_to edges vertex = length (filter (λ edge. nat_le edge.0 vertex) edges)
 
--- the same for each number from 0 to that of the last vertex
+-- how many edges begin up to each number from 0 to that of the last vertex
 abbrev pub edge_ends : List Place → ℕ → List ℕ
 edge_ends edges vertices = map (edges_to edges) (range_with_len 0 (vertices + 1))
 

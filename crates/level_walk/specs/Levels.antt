@@ -35,7 +35,7 @@ pub record IsVisit (vertices prio : ℕ) (body : Body) : Type 0 where
 abbrev pub next_visits : Pattern → ℕ → ℕ → List Start
 next_visits pattern vertex level = if nat_lt level most_level then map (λ edge. visit_of (suc level) edge.1) (edges_from pattern vertex) else []
 
--- the same as they are handed over, each with its set
+-- a visit as it is handed over, with its set
 abbrev pub child_at : ℕ → ℕ → Child
 child_at level vertex = record { prio = level; body = record { kind = 0; at = vertex - 1; arg = 0 }; set = own_set (vertex - 1) }
 

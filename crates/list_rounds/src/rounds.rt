@@ -194,7 +194,7 @@ impl<'a, A: App> ListRounds<'a, A> {
         })
     }
 
-    /// The same run, whose pending tasks have short paths now where that pays: they are numbered in the
+    /// Gives the pending tasks short paths where that pays, and leaves all else: they are numbered in the
     /// order of their paths, as first tasks are. So they keep their order, and what is left comes to the
     /// same. It is done only where nobody sees a path: the application ignores them, and the gate is open.
     /// What was handed in is dropped where memory runs out.

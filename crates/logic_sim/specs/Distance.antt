@@ -31,8 +31,8 @@ pub record IsGap (c : Simulation) (from to gap : ℕ) : Type 0 where
 abbrev pub moment_of : Simulation → ℕ → Body → ℕ
 moment_of c prio body = if body.kind == change_kind then time_of prio else time_of prio + delay_of c body.at
 
--- whether a change of one signal at a moment may lead to a change of the other before the limit, along chains of fewer than
--- so many signals
+-- whether a change of one signal at a moment may lead to a change of the other before the limit, along chains of at most
+-- `fuel` signals
 unfoldable pub leads : ℕ → Simulation → ℕ → ℕ → ℕ → ℕ → Bool
 leads zero c moment from to limit = false
 leads (suc fuel) c moment from to limit =

@@ -63,7 +63,7 @@ pub record Bars (mark : Mark) (rank : ℕ) (set : Accesses) : Type 0 where
 abbrev pub IsFree : List Mark → ℕ → Accesses → Type 0
 IsFree marks rank set = (mark : Mark) → Contains marks mark → Bars mark rank set → ⊥
 
--- the same for one location and the access to it
+-- the mark bars an access to one location
 pub record BarsAt (mark : Mark) (rank loc : ℕ) (access : Access) : Type 0 where
   pub lower : mark.rank < rank
   pub here : mark.loc ≡ loc

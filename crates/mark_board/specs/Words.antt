@@ -31,7 +31,7 @@ abbrev pub least_at : ℕ → List Mark → ℕ
 least_at word [] = no_rank
 least_at word (mark ∷ marks) = if word_of mark.loc mark.access == word then min mark.rank (least_at word marks) else least_at word marks
 
--- the same over all views
+-- the least number of the marks of all views at a word
 abbrev pub least_of : ℕ → List View → ℕ
 least_of word [] = no_rank
 least_of word (v ∷ views) = min (least_at word v.marks) (least_of word views)

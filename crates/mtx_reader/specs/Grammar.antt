@@ -21,7 +21,7 @@ answer_below banner end lines =
     unless_fault (first_fault (line_fault banner.symmetry) lines)
     (unless_fault (option_map (fault_on end) (end_fault lines)) (Ok (pattern_with banner lines)))
 
--- the same of the lines below what the first one says
+-- the pattern of the lines below what the first one says, or the first fault
 abbrev pub answer_by : Result Banner LineFault → List (List ℕ) → Result Pattern Fault
 answer_by (Err fault) lines = Err (fault_on 1 fault)
 answer_by (Ok banner) lines = answer_below banner (2 + length lines) (forms_from (form_of banner.field) 2 lines)

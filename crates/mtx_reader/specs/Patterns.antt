@@ -53,7 +53,7 @@ place_fault size (Some entry) = if is_number_to size.rows entry.row && is_number
 abbrev pub entry_fault : Size → ℕ → Option Entry → Option LineFault
 entry_fault size count entry = if nat_lt count size.entries then place_fault size entry else Some many
 
--- the same behind the line of the size, which was right
+-- what is wrong with a line behind that of the size, which was right
 abbrev pub later_fault : Option Size → ℕ → Option Entry → Option LineFault
 later_fault None count entry = None
 later_fault (Some size) count entry = entry_fault size count entry

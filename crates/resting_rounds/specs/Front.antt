@@ -7,12 +7,12 @@ use Rattle.resting_rounds.specs.declared.front.Reach.{Reach}
 use Rattle.resting_rounds.specs.Sets.{HasSets, any_has}
 
 module _ {V C : Type 0} (app : Application V) (covers : C → ℕ → Bool) where
-  -- of so many first tasks, none of them behind the place, the declared sets, and nothing else
+  -- of the first `reach.count` tasks, none of them behind the place, the declared sets, and nothing else
   pub record HasFirstSets (cells : List V) (tasks : List Task) (place : ℕ) (reach : Reach C) : Type 0 where
     pub behind : reach.count ≤ place
     pub sets : HasSets app (covers reach.cover) cells (take reach.count tasks)
 
-  -- of so many first tasks, none of them behind the place, nothing but what their declared sets always have
+  -- of the first `reach.count` tasks, none of them behind the place, nothing but what their declared sets always have
   pub record HasCores (tasks : List Task) (place : ℕ) (reach : Reach C) : Type 0 where
     pub behind : reach.count ≤ place
     pub within : (cells : List V) (loc : ℕ) → app.is_fit_cells cells → IsTrue (covers reach.cover loc) → IsTrue (any_has app cells (take reach.count tasks) loc)

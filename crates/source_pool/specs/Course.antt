@@ -42,7 +42,7 @@ module _ {V : Type 0} (app : Application V) where
     pub each : (job : Job V) → Contains jobs job → (done : Done V) × Contains dones done × IsJobDone job done
     pub no_other : (done : Done V) → Contains dones done → (job : Job V) × Contains jobs job × IsJobDone job done
 
-  -- so many rounds, each of which had a task, lead from one state to the other
+  -- this number of rounds, each of which had a task, lead from one state to the other
   abbrev pub LeadsByRounds : ℕ → State V → State V → Type 0
   LeadsByRounds zero state now = now ≡ state
   LeadsByRounds (suc rounds) state now = (state.pending ≢ []) × LeadsByRounds rounds (after_round app state) now

@@ -60,7 +60,7 @@ module _ {V : Type 0} (app : Application V) where
   abbrev pub sequential_entries : Progress V → List Entry
   sequential_entries start = joined_by_key start.log (after_steps app.act (start.limit - start.ended) (execution_from (state_at_rest start))).log
 
-  -- What is kept after some rounds from an execution is kept from an earlier start too, behind this text and after so many rounds more.
+  -- What is kept after `more` rounds from an execution is kept from an earlier start too, behind `text` and after `rounds` rounds before.
   -- Where that round is the last one within the limit, it is so from the start.
   pub record KeepsBehind (start : Progress V) (text : List ℕ) (rounds : ℕ) (now : Progress V) (more : ℕ) (state : State V) (kept : List ℕ) : Type 0 where
     pub there : State V

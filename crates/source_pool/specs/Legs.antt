@@ -11,7 +11,7 @@ use Rattle.source_pool.specs.Course.{IsAtRest, LeadsByRounds}
 use Rattle.source_pool.specs.Kept.{KeepsAfter, KeepsBehind, acted_in}
 use Rattle.source_pool.specs.Runs.{IsRoundsEnd, rest_of_run, state_at_rest}
 
--- the same end with this text in front of its own
+-- the end `whole` is that of `finals`, with this text in front of its own
 pub record IsEndBehind {V : Type 0} (text : List ℕ) (finals whole : Finals V) : Type 0 where
   pub store : whole.store ≡ finals.store
   pub text_is : whole.text ≡ text ++ finals.text
@@ -22,7 +22,7 @@ module _ {V : Type 0} (app : Application V) where
   abbrev pub BeginsAtRest : Progress V → Type 0
   BeginsAtRest start = IsAtRest app start (values_of start.cells) (state_at_rest start) [] start
 
-  -- what is left of the run from the start is the run from here, behind this text and so many rounds
+  -- what is left of the run from the start is the run from here, behind `text` and `rounds` rounds
   pub record GoesOnFrom (start : Progress V) (text : List ℕ) (rounds : ℕ) (now : Progress V) : Type 0 where
     pub ends : (finals whole : Finals V) (more : ℕ) → IsRoundsEnd app now finals more → IsEndBehind text finals whole → IsRoundsEnd app start whole (rounds + more)
     pub too_long : rest_of_run app now ≡ None → rest_of_run app start ≡ None

@@ -56,7 +56,7 @@ first_from file time spring a b = first_after spring (mass_at file spring.a) (br
 abbrev pub second_from : MeshFile → ℕ → Spring → MeshNode → MeshNode → MeshNode
 second_from file time spring a b = second_after spring (mass_at file spring.b) (brought_to time a) (brought_to time b)
 
--- the same among all cells
+-- the ends of a spring after a step, by all cells
 abbrev pub first_stepped : MeshFile → ℕ → Spring → List MeshNode → MeshNode
 first_stepped file time spring cells = first_from file time spring (node_at cells spring.a) (node_at cells spring.b)
 

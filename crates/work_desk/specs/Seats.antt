@@ -6,7 +6,7 @@ pub record SeatState (K : Type 0) : Type 0 where
   pub desk : TableId
   pub key : K
 
--- the same, with what was given and hasn't come back, or what was taken and isn't finished
+-- a ticket or a task: desk and key, with what was given and hasn't come back, or was taken and isn't finished
 pub record BusyState (T K : Type 0) : Type 0 where
   pub desk : TableId
   pub key : K

@@ -5,11 +5,11 @@ use crate::steps::Deed;
 use std::hint::spin_loop;
 use std::thread::yield_now;
 
-/// At so many looks one spins between two looks; at later ones one lets another thread run.
+/// At the first looks, this many, one spins between two; at later ones one lets another thread run.
 const SPINS: u32 = 200;
 
 impl<T: Drop, K, D: Deed<T, K>> Desk<T, K, D> {
-    /// Looks until there is work or none will come, so many times at most. A look is a plain load.
+    /// Looks until there is work or none will come, `looks` times at most. A look is a plain load.
     pub fn look_for_work(&self, looks: u32) {
         for look in 0..looks {
             let word = self.table.shared.peek(0);
@@ -20,7 +20,7 @@ impl<T: Drop, K, D: Deed<T, K>> Desk<T, K, D> {
         }
     }
 
-    /// Looks until no worker has the work in hand, so many times at most.
+    /// Looks until no worker has the work in hand, `looks` times at most.
     pub fn look_for_end(&self, looks: u32) {
         for look in 0..looks {
             if self.table.shared.peek(0) != TAKEN {

@@ -11,12 +11,12 @@ use std::thread::yield_now;
 /// How often the one that waits looks before it tries again.
 const LOOKS: u32 = 32;
 
-/// At so many of the first looks it spins, twice as long each time; at others it lets another thread
+/// At the first looks, this many, it spins, twice as long each time; at others it lets another thread
 /// run.
 const SPINS: u32 = 6;
 
 impl<E: Drop, V: Held, P: TableRule<Option<Box<E>>, View<E, V>, Snapshot<E>>> HallOf<E, V, P> {
-    /// Looks until nobody has the turn, a number of times at most. A look is a plain load, which takes
+    /// Looks until nobody has the turn, `LOOKS` times at most. A look is a plain load, which takes
     /// the word from no other thread.
     pub(crate) fn wait_a_while(&self) {
         for look in 0..LOOKS {
@@ -32,7 +32,7 @@ impl<E: Drop, V: Held, P: TableRule<Option<Box<E>>, View<E, V>, Snapshot<E>>> Ha
     }
 }
 
-/// Spins so many times.
+/// Spins `times` times.
 fn spin(times: u32) {
     for _ in 0..times {
         spin_loop();
