@@ -1,5 +1,5 @@
 -- What a seat finds in its turn, and what it is after it.
-use Rattle.std.proofs.Common.{◌≡◌, ◌==◌, ℕ, List, ◌++◌, if◌then◌else◌, Some, sym, ap, subst, ◌∙◌}
+use Rattle.std.proofs.Common.{◌≡◌, List, ◌++◌, Some, sym, ap, subst, ◌∙◌}
 use Rattle.std.proofs.lemmas.Option.{same_Some}
 use Rattle.task_order.specs.declared.key.Key.{Key}
 use Rattle.app_laws.specs.Applications.{Application}

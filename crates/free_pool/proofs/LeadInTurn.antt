@@ -1,5 +1,5 @@
 -- What the first seat has told after a turn in which it drained.
-use Rattle.std.proofs.Common.{◌≡◌, ◌==◌, ℕ, List, [], ◌++◌, append-nil, if◌then◌else◌, Option, Some, None, sym, ap, subst, ◌∙◌}
+use Rattle.std.proofs.Common.{◌≡◌, ◌==◌, ℕ, List, ◌++◌, append-nil, if◌then◌else◌, Option, Some, None, sym, ap, subst, ◌∙◌}
 use Rattle.std.proofs.lemmas.Option.{same_Some}
 use Rattle.std.specs.Prelude.{IfOk, Result, Ok, Err}
 use Rattle.task_order.specs.declared.key.Key.{Key}
@@ -13,8 +13,8 @@ use Rattle.run_laws.specs.Moves.{Moved}
 use Rattle.run_laws.specs.Progress.{Progress}
 use Rattle.graph_update.specs.Engine.{EngineState}
 use Rattle.source_pool.specs.KeptLaws.{DrainedEntriesAreFirst}
-use Rattle.worker_gate.specs.Fits.{Continues, Sum, beside, drained_count}
-use Rattle.worker_gate.specs.Laws.{MovesContinue, new_mark}
+use Rattle.worker_gate.specs.Fits.{Continues, Sum, drained_count}
+use Rattle.worker_gate.specs.Laws.{MovesContinue}
 use Rattle.worker_gate.specs.Steps.{Seen, left_by, with_others}
 use Rattle.worker_gate.specs.Turns.{HallState, HasMoved, HasWaited, MayLeave, SeatState, TurnState}
 use Rattle.free_pool.specs.Streams.{HasDrainedAt, IsDrain, IsTellable, IsToldTo, text_of}

@@ -1,8 +1,7 @@
 -- What holds between two turns of the worker that tells.
-use Rattle.std.proofs.Common.{◌≡◌, ℕ, List, [], ◌++◌, append-nil, append_assoc, Option, Some, None, refl, sym, ap, subst, ◌∙◌}
+use Rattle.std.proofs.Common.{◌≡◌, ℕ, List, [], ◌++◌, append-nil, append_assoc, Option, Some, None, sym, ap, subst, ◌∙◌}
 use Rattle.std.proofs.lemmas.Bool.{true≢false}
 use Rattle.std.specs.Prelude.{IfOk, IfSome, IsOk, Result, Ok, Err}
-use Rattle.output_log.specs.Laws.{TextsFollow}
 use Rattle.app_laws.specs.Applications.{Application}
 use Rattle.run_laws.specs.Jobs.{Done}
 use Rattle.graph_update.specs.Engine.{EngineState}
@@ -10,9 +9,8 @@ use Rattle.source_pool.specs.TellingLaws.{NothingIsTold, TellingsAdd}
 use Rattle.text_outlet.specs.declared.outlet.Outlet.{Outlet}
 use Rattle.text_outlet.specs.Sending.{TellsOn}
 use Rattle.worker_gate.specs.Turns.{HallState, SeatState}
-use Rattle.free_pool.specs.Streams.{IsFrontTold, IsToldTo, text_of}
+use Rattle.free_pool.specs.Streams.{IsToldTo, text_of}
 use Rattle.free_pool.specs.Team.{HasWorked}
-use Rattle.free_pool.proofs.Told.{front_told}
 use Rattle.free_pool.proofs.Working.{IsWorking}
 
 -- ---- what the outlet has told

@@ -1,10 +1,10 @@
 -- What was told of a run while it goes on comes first in the sequential run's text.
-use Rattle.std.proofs.Common.{◌≡◌, ◌≤◌, ◌-◌, ◌+◌, ℕ, List, [], ◌∷◌, ◌++◌, append_assoc, length, Option, Some, None, refl, sym, ap, subst, ◌∙◌, arith}
+use Rattle.std.proofs.Common.{◌≡◌, ◌≤◌, ◌-◌, ◌+◌, ℕ, List, [], ◌∷◌, ◌++◌, length, Option, Some, None, refl, sym, ap, subst, ◌∙◌, arith}
 use Rattle.std.specs.Prelude.{IfOk, IsSomeAnd, Result, Ok, Err}
 use Rattle.task_order.specs.declared.key.Key.{Key}
 use Rattle.std.proofs.lemmas.List.{length-append}
 use Rattle.cell_store.specs.Values.{values_of}
-use Rattle.output_log.specs.Entries.{Entry, joined_by_key, joined_texts}
+use Rattle.output_log.specs.Entries.{Entry, joined_texts}
 use Rattle.output_log.specs.Laws.{JoinsAddLengths, TextsFollow}
 use Rattle.app_laws.specs.Applications.{Application}
 use Rattle.app_laws.specs.declared.serial_run.Finals.{Finals}
@@ -17,11 +17,10 @@ use Rattle.run_laws.specs.Jobs.{Job}
 use Rattle.run_laws.specs.Moves.{Moved}
 use Rattle.run_laws.specs.Progress.{Progress}
 use Rattle.run_laws.specs.Sound.{IsSound}
-use Rattle.source_pool.specs.Kept.{sequential_entries, sequential_text}
+use Rattle.source_pool.specs.Kept.{sequential_entries}
 use Rattle.source_pool.specs.KeptLaws.{DrainedEntriesAreFirst}
 use Rattle.source_pool.specs.Runs.{rest_of_run}
 use Rattle.worker_gate.specs.Fits.{Continues, Sum, drained_count}
-use Rattle.free_pool.specs.Runs.{IsRunEnd}
 use Rattle.free_pool.specs.Streams.{HasDrainedAt, IsDrain, IsFrontTold, IsToldEnd, IsToldTo}
 use Rattle.free_pool.proofs.Numbers.{head_same, tail_same}
 

@@ -288,6 +288,7 @@ fn work_first<'h, 'a, R: Wait, A: App, G: Gate, K: Sink>(
         worker,
     };
     if done.is_ok() {
+        // Nothing is there; an assignment would owe how long each of its fields lives.
         drop(lead.post.replace(post));
     } else {
         drop(post);

@@ -1,4 +1,4 @@
-use Rattle.std.proofs.Common.{◌≡◌, rules, refl, sym, subst}
+use Rattle.std.proofs.Common.{◌≡◌, rules, sym, subst}
 use denote.Ref.{MutBor}
 use denote.Param.Members.{Shared}
 use Rattle.free_pool.specs.Beside.{GivesTwo}

@@ -1,4 +1,4 @@
-use Rattle.std.proofs.Common.{◌≡◌, ◌∙◌, refl, sym, subst}
+use Rattle.std.proofs.Common.{◌∙◌, refl, sym, subst}
 use Rattle.free_pool.specs.Streams.{IsFrontTold}
 use Rattle.free_pool.specs.Turns.{AreToPerform, GoesOn}
 use Rattle.free_pool.proofs.Leading.{leading_begins, leads_on, tells_on_both, told_with, where_some}

@@ -1,4 +1,4 @@
-use Rattle.std.proofs.Common.{◌≡◌, ◌∙◌, List, ◌++◌, Option, sym, subst, ap}
+use Rattle.std.proofs.Common.{◌∙◌, List, ◌++◌, Option, sym, subst, ap}
 use Rattle.std.specs.Prelude.{IfOk}
 use Rattle.graph_update.specs.Engine.{EngineState}
 use Rattle.run_laws.specs.Jobs.{Job}

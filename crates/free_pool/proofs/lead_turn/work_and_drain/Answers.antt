@@ -1,9 +1,9 @@
-use Rattle.std.proofs.Common.{◌≡◌, ◌∙◌, List, [], ◌++◌, append-nil, sym, subst}
+use Rattle.std.proofs.Common.{List, [], ◌++◌, append-nil, subst}
 use Rattle.std.specs.Prelude.{IfOk}
 use Rattle.task_order.specs.declared.key.Key.{Key}
 use Rattle.run_laws.specs.Moves.{Moved}
 use Rattle.free_pool.specs.Acted.{jobs_stuck, keys_acted}
-use Rattle.free_pool.specs.Streams.{HasDrainedAt, IsDrain}
+use Rattle.free_pool.specs.Streams.{IsDrain}
 use Rattle.free_pool.specs.Turns.{jobs_left, keys_ended}
 use Rattle.free_pool.proofs.Told.{drained_at}
 use Rattle.free_pool.proofs.lead_turn.work_and_drain.Goals as goal

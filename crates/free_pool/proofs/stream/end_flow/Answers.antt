@@ -1,4 +1,4 @@
-use Rattle.std.proofs.Common.{◌≡◌, ◌∙◌, [], ◌∷◌, ℕ, List, subst}
+use Rattle.std.proofs.Common.{◌∙◌, [], ◌∷◌, ℕ, List, subst}
 use Rattle.outer_edge.specs.Transfers.{transfer_of}
 use Rattle.run_laws.specs.Answers.{IsClaimAnswer}
 use Rattle.source_pool.specs.Runs.{IsOverLimit, IsRunFault}

@@ -1,4 +1,4 @@
-use Rattle.std.proofs.Common.{◌≡◌, ◌∙◌, [], ◌++◌, List, ℕ, sym, subst, ap}
+use Rattle.std.proofs.Common.{◌∙◌, ◌++◌, List, ℕ, sym, subst, ap}
 use Rattle.outer_edge.specs.Transfers.{transfer_of}
 use Rattle.output_log.specs.Entries.{joined_texts}
 use Rattle.graph_update.specs.Engine.{EngineState}

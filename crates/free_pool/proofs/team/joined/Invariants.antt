@@ -1,5 +1,4 @@
-use Rattle.std.proofs.Common.{◌≡◌, ℕ, map, length}
-use Rattle.free_pool.specs.Team.{IsTeam}
+use Rattle.std.proofs.Common.{map, length}
 use Rattle.free_pool.proofs.Seats.{IsJoining}
 use Rattle.free_pool.proofs.team.joined.Given as goal
 

@@ -1,6 +1,4 @@
-use Rattle.std.proofs.Common.{◌≡◌, ◌∙◌, [], ap}
-use Rattle.graph_update.specs.Engine.{EngineState}
-use Rattle.worker_gate.specs.Fits.{drained_count}
+use Rattle.std.proofs.Common.{[]}
 use Rattle.free_pool.proofs.InTurn.{same_number, same_unjoined, still_seated, turn_found}
 use Rattle.free_pool.proofs.turns.give_up.Goals as goal
 

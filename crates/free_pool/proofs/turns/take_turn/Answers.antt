@@ -1,4 +1,4 @@
-use Rattle.std.proofs.Common.{◌≡◌, ◌∙◌, List, ◌++◌, Option, sym, subst, ap}
+use Rattle.std.proofs.Common.{◌∙◌, List, ◌++◌, Option, sym, subst, ap}
 use Rattle.graph_update.specs.Engine.{EngineState}
 use Rattle.run_laws.specs.Jobs.{Job}
 use Rattle.free_pool.specs.Acted.{jobs_stuck, keys_acted}
