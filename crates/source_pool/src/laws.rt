@@ -161,5 +161,4 @@ pub fn telling_laws<K: Sink>()
     ensures add { TellingsAdd K.contents K.faults }
     ensures all { AllIsWritten }
     ensures front { FrontsAreWritten }
-{
-}
+{}
