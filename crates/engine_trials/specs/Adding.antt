@@ -62,5 +62,13 @@ first_additions =
     ∷ record { prio = 3; body = record { kind = 0; at = 2; arg = 0 } }
     ∷ []
 
+-- one that sums up, and two that add behind it
+abbrev pub later_additions : List Start
+later_additions =
+    record { prio = 0; body = record { kind = 0; at = 2; arg = 0 } }
+    ∷ record { prio = 0; body = record { kind = 0; at = 0; arg = 1 } }
+    ∷ record { prio = 0; body = record { kind = 0; at = 1; arg = 10 } }
+    ∷ []
+
 abbrev pub zeros : List ℕ
 zeros = 0 ∷ 0 ∷ 0 ∷ []

@@ -20,7 +20,7 @@ use task_order::{Body, Start, StartList, Task};
 /// Three cells. A task at cell 0 or 1 adds its number there, and a task like it follows at the next
 /// priority, as long as that is at most 2. A task at cell 2 puts the sum of the others there.
 #[derive(Drop)]
-struct Adder;
+pub struct Adder;
 
 impl Deed for Adder {
     ghost use Rattle.engine_trials.specs.Adding.{adding};
@@ -63,7 +63,8 @@ fn runs_by<R: Threads + Wait + Sync, H: Hook<u64> + Sync>(
     runs_of(rt, alloc, &app, &[0, 0, 0], first.items(), budget)
 }
 
-fn sets(alloc: Global) -> Result<Vec<RwSet>, NoRoom>
+/// The set of each kind of task.
+pub fn sets(alloc: Global) -> Result<Vec<RwSet>, NoRoom>
     ensures { IfOk result (λ sets. sets.items ≡ adding_sets) }
 {
     let mut total = RwSet::new(alloc);
@@ -103,7 +104,7 @@ pub fn start(prio: u64, at: u32, arg: u64) -> Start
 }
 
 /// Does what a task does.
-fn act(alloc: Global, task: &Task, bundle: Bundle<u64>) -> Result<Effect<u64>, Bundle<u64>>
+pub fn act(alloc: Global, task: &Task, bundle: Bundle<u64>) -> Result<Effect<u64>, Bundle<u64>>
     requires { IsAsked adding adding_sets task.now bundle }
     ensures { IsAnswered adding adding_sets task.now bundle result }
 {

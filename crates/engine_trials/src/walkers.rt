@@ -68,14 +68,14 @@ fn runs_by<R: Threads + Wait + Sync, H: Hook<u64> + Sync>(
 }
 
 /// The set of each place.
-pub fn sets(alloc: Global) -> Result<Vec<RwSet>, NoRoom>
+fn sets(alloc: Global) -> Result<Vec<RwSet>, NoRoom>
     ensures { IfOk result (λ sets. sets.items ≡ place_sets) }
 {
     Ok(vec![in alloc; own_set(alloc, 0)?, own_set(alloc, 1)?, own_set(alloc, 2)?]?)
 }
 
 /// A walker on each place.
-pub fn first_tasks(alloc: Global) -> Result<StartList, NoRoom>
+fn first_tasks(alloc: Global) -> Result<StartList, NoRoom>
     ensures { IfOk result (λ first. first ≡ first_walkers) }
 {
     let mut first = StartList::new(alloc);

@@ -1,17 +1,15 @@
 use Rattle.std.proofs.Common.{rules, arith, subst, sym}
 use Rattle.task_order.specs.declared.task.Task.{Task}
 use Rattle.hook_app.specs.Kept.{IsAnswered, IsAsked}
-use Rattle.engine_trials.specs.Walking.{AreArrows, place_sets, walking}
-use Rattle.engine_trials.proofs.Walking.{walking_together}
+use Rattle.engine_trials.specs.Adding.{adding, adding_sets}
+use Rattle.engine_trials.proofs.Adding.{adding_together}
 use Rattle.engine_trials.proofs.tight.all_are_tight.Goals as goal
 
 pub are_tight_by-requires-clause-keeps : goal.are_tight_by-requires-clause-keeps
 are_tight_by-requires-clause-keeps g c κs within = record {
-  together = walking_together c.args.to.items 1 c.requires.arrows (omega arith);
+  together = adding_together 1 (omega arith);
   does_deeds = record {
-    callable = λ task bundle asked p is.
-        let leads : AreArrows c.args.to.items = c.requires.arrows in
-        let here : IsAsked (walking c.args.to.items) place_sets p.now bundle = subst (λ (t : Task). IsAsked (walking c.args.to.items) place_sets t bundle) (sym is) asked in search rules;
-    does = λ task bundle answer asked given. subst (λ (t : Task). IsAnswered (walking c.args.to.items) place_sets t bundle answer) given.1 given.2.1;
+    callable = λ task bundle asked p is. let here : IsAsked adding adding_sets p.now bundle = subst (λ (t : Task). IsAsked adding adding_sets t bundle) (sym is) asked in search rules;
+    does = λ task bundle answer asked given. subst (λ (t : Task). IsAnswered adding adding_sets t bundle answer) given.1 given.2.1;
   };
 }
