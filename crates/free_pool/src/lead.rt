@@ -9,7 +9,7 @@ use crate::bell::Bell;
 use crate::hand::{Hand, perform_all};
 use crate::lead_turn::{LeadTurned, Wish, take_lead_turn};
 use crate::plan::Plan;
-use crate::turns::{Next, Pick, give_up};
+use crate::turns::{Next, give_up};
 use app_laws::App;
 use kdg_text::{NoRoom, Steps, Text};
 use outer_edge::{Gate, Sink};
@@ -103,7 +103,11 @@ pub(crate) fn work_and_tell<'h, 'a, R: Wait, A: App, G: Gate, K: Sink>(
     ensures same_room { K.room out.new ≡ K.room out.old }
 {
     let blank = Blank::new(1);
-    work_counted::<R, A, G, K, Brand>(rt, shift, post, outlet, out, blank)
+    let (plan, bell) = (shift.plan, shift.bell);
+    let led = work_counted::<R, A, G, K, Brand>(rt, shift, post, outlet, out, blank);
+    plan.backlog.close();
+    bell.ring();
+    led
 }
 
 /// The same, with a count of the sets that are asked for.
@@ -144,14 +148,13 @@ fn work_counted<'h, 'a, R: Wait, A: App, G: Gate, K: Sink, L: Ledger>(
     } = shift;
     let mut steps = Steps::<L>::new(blank);
     let mut hand = Hand::new(alloc);
-    let is_open = gate.is_open();
     let mut rhythm = Rhythm::new(app.task_nanos());
     let mut turns = 0u64;
     for _ in rt.forever() {
         // Read before the claims: an end after them is heard.
         let rung = bell.rung();
         let wish = Wish {
-            pick: Pick::at(is_open, gate.choose(plan.seed, worker, turns)),
+            pick: plan.pick(worker, gate.choose(plan.seed, worker, turns)),
             due: rhythm.due(outlet),
         };
         turns = turns.saturating_add(1);

@@ -11,8 +11,9 @@ ghost use Rattle.free_pool.specs.Turns.{AreDone, AreToPerform, GoesOn, IsSeated,
 
 use crate::acting::Stuck;
 use crate::hand::Hand;
+use crate::pick::Pick;
 use crate::plan::Plan;
-use crate::turns::{Pick, Turned, leave_as, work_in_turn};
+use crate::turns::{Turned, leave_as, work_in_turn};
 use app_laws::App;
 use graph_update::Engine;
 use kdg_text::{NoRoom, Steps, Text};
@@ -111,6 +112,7 @@ fn work_and_drain<'a, A: App, L: Ledger>(
     ensures goes_on { GoesOn result.0.turned.next → result.1 ≡ None }
 {
     move_laws::<A>();
+    plan.backlog.meet(engine.ended());
     let (turned, stuck) = work_in_turn(engine, hand, wish.pick, plan, steps);
     let ended = engine.ended();
     let more = drain_where(engine, wish.is_due(ended));

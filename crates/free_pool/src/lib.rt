@@ -2,12 +2,14 @@
 #![tactic(auto)]
 
 mod acting;
+mod backlog;
 mod bell;
 mod beside;
 mod free;
 mod hand;
 mod lead;
 mod lead_turn;
+mod pick;
 mod plan;
 mod stream;
 mod team;

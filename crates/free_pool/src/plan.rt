@@ -2,9 +2,12 @@
 
 ghost use Rattle.std.specs.Prelude.{◌≡◌, ◌≤◌, IsFalse};
 
+use crate::backlog::Backlog;
+use crate::pick::{Pick, WHOLE};
+
 /// About how many nanoseconds the tasks that a worker claims in a turn may have to do. A turn for a single
 /// task took two to three microseconds where the engine came from another processor's cache.
-const BATCH: u64 = 50_000;
+const BATCH: u64 = 200_000;
 
 /// How many tasks a worker claims in a turn at most: others wait while as many end and are claimed.
 const MOST: u64 = 64;
@@ -18,16 +21,19 @@ const LIGHT: u64 = 1_000;
 const ACTS: usize = 4_096;
 
 /// By what the workers of a run claim.
-#[derive(Clone, Copy)]
+#[derive(Drop)]
 pub(crate) struct Plan {
     /// What the gate chooses by.
     pub(crate) seed: u64,
     /// How many workers there are.
     workers: u32,
+    is_open: bool,
     /// How many tasks a worker claims in a turn at most.
     most: usize,
     /// How many tasks act in a turn at most. Where some may, none is claimed.
     pub(crate) acts: usize,
+    /// How far the telling is behind.
+    pub(crate) backlog: Backlog,
 }
 
 impl Plan {
@@ -48,17 +54,32 @@ impl Plan {
         Plan {
             seed,
             workers,
+            is_open,
             most,
             acts,
+            backlog: Backlog::new(is_open),
         }
     }
 
-    /// How many tasks a worker claims in a turn at most, of the `pending` ones: no more than its share,
-    /// so that others find some.
+    /// What a worker claims where the gate gives this number. At an open one, where nobody sees which task
+    /// comes next, the number draws a place in the first half of the worker's own part of the pending tasks.
+    /// So it mostly works on what is in its processor's cache from the turns before.
+    pub(crate) fn pick(&self, worker: u32, number: u64) -> Pick {
+        if !self.is_open {
+            return Pick::Exact(number);
+        }
+        let workers = u64::from(self.workers).max(1);
+        let before = (WHOLE / workers).saturating_mul(u64::from(worker));
+        let drawn = number % WHOLE / workers / 2;
+        Pick::Known(before.saturating_add(drawn))
+    }
+
+    /// How many tasks a worker claims in a turn at most, of the `pending` ones: no more than half its share,
+    /// so that others find some, and where one is late they take of what would be its own.
     pub(crate) fn batch(&self, pending: usize) -> usize
         ensures { 1 ≤ result }
     {
         let share = pending / (self.workers as usize).max(1);
-        self.most.min(share).max(1)
+        self.most.min(share / 2).max(1)
     }
 }

@@ -16,6 +16,7 @@ ghost use Rattle.free_pool.specs.Turns.{AreClaimed, AreDone, AreToPerform, GoesO
 
 use crate::acting::{Acting, Stuck, act_tasks};
 use crate::hand::Hand;
+use crate::pick::{Pick, place};
 use crate::plan::Plan;
 use app_laws::App;
 use graph_update::{Claim, Done, Engine, Job};
@@ -47,26 +48,6 @@ pub(crate) struct Turned {
     /// How many of the tasks that were performed ended, from the first one on.
     pub(crate) ended: usize,
     pub(crate) next: Next,
-}
-
-/// Which of the clear tasks a worker claims: in key order the one at the remainder of the gate's number.
-#[derive(Clone, Copy)]
-pub(crate) enum Pick {
-    /// Of all.
-    Exact(u64),
-    /// Of those that are known.
-    Known(u64),
-}
-
-impl Pick {
-    /// At an open gate nobody sees which task comes next, so those that are known will do.
-    pub(crate) fn at(is_open: bool, number: u64) -> Pick {
-        if is_open {
-            Pick::Known(number)
-        } else {
-            Pick::Exact(number)
-        }
-    }
 }
 
 /// Takes the turn, ends in it the tasks that were performed, and lets light tasks act there, or claims
@@ -142,6 +123,10 @@ pub(crate) fn work_in_turn<'a, A: App, L: Ledger>(
     let ended = end_tasks(engine, &mut hand.dones, steps);
     if ended < performed {
         let next = Next::Stop;
+        return (Turned { ended, next }, None);
+    }
+    if plan.backlog.is_long(engine.ended(), engine.is_silent()) {
+        let next = Next::Again;
         return (Turned { ended, next }, None);
     }
     if plan.acts > 0 {
@@ -274,7 +259,7 @@ fn claim_by<A: App>(engine: &mut Engine<'_, A>, pick: Pick) -> Result<Claim<A::V
 {
     match pick {
         Pick::Exact(number) => engine.claim(number),
-        Pick::Known(number) => engine.claim_known(number),
+        Pick::Known(parts) => engine.claim_known(place(parts, engine.graph().len())),
     }
 }
 

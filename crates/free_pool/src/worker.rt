@@ -7,7 +7,7 @@ ghost use Rattle.free_pool.specs.Turns.{IsSeated};
 use crate::bell::Bell;
 use crate::hand::{Hand, perform_all};
 use crate::plan::Plan;
-use crate::turns::{Next, Pick, give_up, take_turn};
+use crate::turns::{Next, give_up, take_turn};
 use app_laws::App;
 use kdg_text::Steps;
 use outer_edge::Gate;
@@ -69,12 +69,11 @@ fn work_counted<'h, 'a, R: Wait, A: App, G: Gate, L: Ledger>(
     } = post;
     let mut steps = Steps::<L>::new(blank);
     let mut hand = Hand::new(alloc);
-    let is_open = gate.is_open();
     let mut turns = 0u64;
     for _ in rt.forever() {
         // Read before the claims: an end after them is heard.
         let rung = bell.rung();
-        let pick = Pick::at(is_open, gate.choose(plan.seed, worker, turns));
+        let pick = plan.pick(worker, gate.choose(plan.seed, worker, turns));
         turns = turns.saturating_add(1);
         let (back, turned) = take_turn(rt, hall, seat, &mut hand, pick, plan, &mut steps);
         seat = back;
@@ -90,7 +89,8 @@ fn work_counted<'h, 'a, R: Wait, A: App, G: Gate, L: Ledger>(
                     return seat;
                 };
             }
-            Next::Again => {}
+            // Where tasks acted, its own ring lets it go on at once.
+            Next::Again => bell.wait(rt, rung),
             Next::Wait => bell.wait(rt, rung),
             Next::Stop => {
                 bell.ring();
