@@ -6,3 +6,4 @@ pub mod Addends
 pub mod Patterns
 pub mod Grammar
 pub mod Readings
+pub mod PlainLines

@@ -1,6 +1,8 @@
-ghost use Rattle.std.specs.Prelude.{◌≡◌, ◌<◌, ◌≤◌, ◌∷◌, [], Ok, None, Some, length, take, IfSome};
+ghost use Rattle.std.specs.Prelude.{◌≡◌, ◌&&◌, ◌∷◌, [], Some, IsTrue};
 ghost use Rattle.kdg_text.specs.Numbers.{u64_of};
 ghost use Rattle.mtx_reader.specs.LineForms.{is_comment, form_of, form_of_words, size_from, entry_from};
+ghost use Rattle.mtx_reader.specs.Patterns.{is_number_to};
+ghost use Rattle.mtx_reader.specs.Places.{IsWithin};
 
 use crate::banner::{Field, NO_MARKS};
 use kdg_text::{NumFault, Tokens, read_i64, read_u64};
@@ -11,6 +13,18 @@ pub(crate) struct Size {
     pub(crate) rows: u64,
     pub(crate) columns: u64,
     pub(crate) entries: u64,
+}
+
+impl Size {
+    /// Whether an entry lies within a matrix of that size.
+    #[inline(always)]
+    pub(crate) fn has(self, entry: Entry) -> bool
+        ensures has { result ≡ (is_number_to self.rows entry.row && is_number_to self.columns entry.column) }
+        ensures within { IsTrue result → IsWithin self.rows self.columns (entry.row, entry.column) }
+    {
+        let is_in_rows = 1 <= entry.row && entry.row <= self.rows;
+        is_in_rows && 1 <= entry.column && entry.column <= self.columns
+    }
 }
 
 /// A place, and what is added there: 1 where entries have no value.
@@ -28,36 +42,13 @@ pub(crate) struct LineForm {
     pub(crate) entry: Option<Entry>,
 }
 
-/// No number of so many digits is too great.
-const MOST_DIGITS: usize = 19;
-
 const NEITHER: LineForm = LineForm {
     size: None,
     entry: None,
 };
 
 /// What a line says where entries have that field, or nothing where it is a comment or has no words.
-#[inline(always)]
 pub(crate) fn form_of(field: Field, line: &[u8]) -> Option<LineForm>
-    ensures { result ≡ form_of field line.now }
-{
-    let plain = match field {
-        Field::Pattern => plain_entry(line),
-        Field::Integer => None,
-    };
-    match plain {
-        Some(entry) => Some(LineForm {
-            size: None,
-            entry: Some(entry),
-        }),
-        None => form_by_words(field, line),
-    }
-}
-
-/// What it says, by its words. This is apart, so that the lines that are read without their words take
-/// less time.
-#[inline(never)]
-fn form_by_words(field: Field, line: &[u8]) -> Option<LineForm>
     ensures { result ≡ form_of field line.now }
 {
     if is_comment(line) {
@@ -66,57 +57,6 @@ fn form_by_words(field: Field, line: &[u8]) -> Option<LineForm>
     let mut words = Tokens::new(line, NO_MARKS);
     let first = words.next_token()?;
     Some(form_by(field, first, &mut words))
-}
-
-/// The entry of a pattern that a line says by two numbers with one space between, as most lines do. That
-/// takes less time than to cut the line into words.
-#[inline(always)]
-fn plain_entry(line: &[u8]) -> Option<Entry>
-    ensures { IfSome result (λ entry. form_of Field.Pattern line.now ≡ Some (record { size = None; entry = Some entry })) }
-{
-    if line.len() > MOST_DIGITS {
-        return None;
-    }
-    let row = leading_number(line);
-    if row.len == 0 || row.len == line.len() || line[row.len] != b' ' {
-        return None;
-    }
-    let rest = &line[row.len + 1..];
-    let column = leading_number(rest);
-    if column.len == 0 || column.len < rest.len() {
-        return None;
-    }
-    Some(Entry {
-        row: row.value,
-        column: column.value,
-        value: 1,
-    })
-}
-
-/// A number, and how many digits spell it. Without a digit it is 0.
-#[derive(Clone, Copy)]
-struct Leading {
-    value: u64,
-    len: usize,
-}
-
-/// The number that the digits in front of anything else spell, in one pass.
-#[inline(always)]
-fn leading_number(bytes: &[u8]) -> Leading
-    requires { length bytes.now ≤ MOST_DIGITS }
-    ensures within { result.len ≤ length bytes.now }
-    ensures number { 0 < result.len → u64_of (take result.len bytes.now) ≡ Ok result.value }
-{
-    let mut value = 0u64;
-    let mut len = 0;
-    for byte in bytes {
-        if !byte.is_ascii_digit() {
-            return Leading { value, len };
-        }
-        value = 10 * value + u64::from(byte - b'0');
-        len += 1;
-    }
-    Leading { value, len }
 }
 
 /// Whether a line is a comment.

@@ -10,8 +10,9 @@ ghost use Rattle.mtx_reader.specs.Readings.{answer_from, end_of, forms_left, is_
 use crate::banner::{Banner, Field, Symmetry, banner_of};
 use crate::faults::{BANNER, ENTRY, FEW, MANY, PLACE, SIZE, beyond};
 use crate::line_form::{Entry, LineForm, Size, form_of};
+use crate::unread::Unread;
 use crate::{Pattern, PlaceList};
-use kdg_text::{LineFault, Lines, NoRoom, ReadFail};
+use kdg_text::{LineFault, NoRoom, ReadFail};
 use std::alloc::Global;
 
 const MOST_ROWS: u64 = 4096;
@@ -40,7 +41,7 @@ fn pattern_in(alloc: Global, input: &[u8]) -> Result<Pattern, ReadFail>
     ensures answer { Answers result (pattern_of input.now) }
     ensures pattern { IfOk result IsPattern }
 {
-    let mut lines = Lines::new(input);
+    let mut lines = Unread::new(input);
     match lines.next_line() {
         None => Err(ReadFail::Bad(BANNER.on_line(1))),
         Some(line) => match banner_of(line.bytes) {
@@ -51,7 +52,7 @@ fn pattern_in(alloc: Global, input: &[u8]) -> Result<Pattern, ReadFail>
 }
 
 /// The pattern that the lines below the banner spell.
-fn pattern_below(alloc: Global, banner: Banner, lines: &mut Lines) -> Result<Pattern, ReadFail>
+fn pattern_below(alloc: Global, banner: Banner, lines: &mut Unread) -> Result<Pattern, ReadFail>
     ensures answer { Answers result (answer_below banner (end_of lines.old) (forms_left banner.field lines.old)) }
     ensures pattern { IfOk result IsPattern }
 {
@@ -82,7 +83,7 @@ pub(crate) struct SaidLine {
 
 /// The next line that says something. Where there is none, the lines are at their end.
 #[inline(always)]
-fn next_said(field: Field, lines: &mut Lines) -> Option<SaidLine>
+fn next_said(field: Field, lines: &mut Unread) -> Option<SaidLine>
     ensures said { MatchOption result (forms_left field lines.old ≡ []) (λ line. forms_left field lines.old ≡ numbered_form line ∷ forms_left field lines.new) }
     ensures end { end_of lines.new ≡ end_of lines.old }
     ensures at_end { IfNone result (lines.new.number ≡ end_of lines.old) }
@@ -146,7 +147,7 @@ fn kept_places(
     alloc: Global,
     banner: Banner,
     size: Size,
-    lines: &mut Lines,
+    lines: &mut Unread,
 ) -> Result<Vec<(u32, u32)>, ReadFail>
     requires right { size_fault banner.symmetry (Some size) ≡ None }
     ensures found { IfOk result (λ named. answer_from banner size 0 [] (end_of lines.old) (forms_left banner.field lines.old) ≡ Ok (pattern_of_kept banner.field size named.items)) }
@@ -154,7 +155,7 @@ fn kept_places(
     ensures refused { IfErr result (λ fail. Answers (Err fail) (answer_from banner size 0 [] (end_of lines.old) (forms_left banner.field lines.old))) }
 {
     let mut named = Vec::new(alloc);
-    let mut count = 0u64;
+    let mut count = keep_plain_lines(&mut named, banner, size, 0, lines)?;
     while let Some(line) = next_said(banner.field, lines) {
         if count == size.entries {
             return Err(ReadFail::Bad(MANY.on_line(line.number)));
@@ -163,12 +164,41 @@ fn kept_places(
             Err(fault) => return Err(ReadFail::Bad(fault.on_line(line.number))),
             Ok(entry) => push_kept(&mut named, banner, entry)?,
         }
-        count += 1;
+        count = keep_plain_lines(&mut named, banner, size, count + 1, lines)?;
     }
     if count < size.entries {
         return Err(ReadFail::Bad(FEW.on_line(lines.number())));
     }
     Ok(named)
+}
+
+/// Keeps the places of the plain lines in front, up to a line that is another or has a fault, and answers
+/// how many entries there are then. That takes less time than to cut the lines into words.
+fn keep_plain_lines(
+    named: &mut Vec<(u32, u32)>,
+    banner: Banner,
+    size: Size,
+    before: u64,
+    lines: &mut Unread,
+) -> Result<u64, NoRoom>
+    requires right { size_fault banner.symmetry (Some size) ≡ None }
+    requires few { before ≤ size.entries }
+    requires within { AllByRecursion (IsWithin size.rows size.columns) named.old.items }
+    ensures whole { IfOk result (λ count. answer_from banner size before named.old.items (end_of lines.old) (forms_left banner.field lines.old) ≡ answer_from banner size count named.new.items (end_of lines.old) (forms_left banner.field lines.new)) }
+    ensures few { IfOk result (λ count. count ≤ size.entries) }
+    ensures within { OnOk result (AllByRecursion (IsWithin size.rows size.columns) named.new.items) }
+    ensures end { OnOk result (end_of lines.new ≡ end_of lines.old) }
+    ensures shorter { OnOk result (length lines.new.lines ≤ length lines.old.lines) }
+{
+    let mut count = before;
+    while count < size.entries {
+        let Some(entry) = lines.next_plain(banner.field, size) else {
+            break;
+        };
+        push_kept(named, banner, entry)?;
+        count += 1;
+    }
+    Ok(count)
 }
 
 /// The entry that a line says, unless that is wrong.
@@ -181,8 +211,7 @@ fn entry_of(size: Size, form: LineForm) -> Result<Entry, LineFault>
     let Some(entry) = form.entry else {
         return Err(ENTRY);
     };
-    let Entry { row, column, .. } = entry;
-    if 1 <= row && row <= size.rows && 1 <= column && column <= size.columns {
+    if size.has(entry) {
         Ok(entry)
     } else {
         Err(PLACE)
