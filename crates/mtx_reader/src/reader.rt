@@ -14,6 +14,7 @@ use crate::unread::Unread;
 use crate::{Pattern, PlaceList};
 use kdg_text::{LineFault, NoRoom, ReadFail};
 use std::alloc::Global;
+use std::mem;
 
 const MOST_ROWS: u64 = 4096;
 
@@ -191,13 +192,16 @@ fn keep_plain_lines(
     ensures shorter { OnOk result (length lines.new.lines ≤ length lines.old.lines) }
 {
     let mut count = before;
+    // held by the loop itself, so that it stays in registers
+    let mut left = mem::replace(lines, Unread::new(&[]));
     while count < size.entries {
-        let Some(entry) = lines.next_plain(banner.field, size) else {
+        let Some(entry) = left.next_plain(banner.field, size) else {
             break;
         };
         push_kept(named, banner, entry)?;
         count += 1;
     }
+    *lines = left;
     Ok(count)
 }
 

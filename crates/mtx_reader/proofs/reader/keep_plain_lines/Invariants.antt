@@ -6,11 +6,11 @@ use Rattle.mtx_reader.proofs.reader.keep_plain_lines.Given as goal
 
 abbrev pub invariant-loop-count : goal.invariant-loop-count
 invariant-loop-count l = record {
-  whole : answer_from l.banner l.size l.before l.fn.named.items (end_of l.fn.lines) (forms_left l.banner.field l.fn.lines) ≡ answer_from l.banner l.size l.count l.named.items (end_of l.fn.lines) (forms_left l.banner.field l.lines);
-  end : end_of l.lines ≡ end_of l.fn.lines;
+  whole : answer_from l.banner l.size l.before l.fn.named.items (end_of l.fn.lines) (forms_left l.banner.field l.fn.lines) ≡ answer_from l.banner l.size l.count l.named.items (end_of l.fn.lines) (forms_left l.banner.field l.left);
+  end : end_of l.left ≡ end_of l.fn.lines;
   few : l.count ≤ l.size.entries;
   within : AllByRecursion (IsWithin l.size.rows l.size.columns) l.named.items;
-  shorter : length l.lines.lines ≤ length l.fn.lines.lines;
+  shorter : length l.left.lines ≤ length l.fn.lines.lines;
 }
 
 abbrev pub decreases-loop-count : goal.decreases-loop-count
