@@ -1,16 +1,15 @@
 -- Lines that are put into others one after the other, each where no earlier one was.
-use Rattle.std.specs.Prelude.{◌≡◌, ◌≢◌, ℕ, ◌+◌, ◌-◌, ◌*◌, ◌<◌, ◌≤◌, List, [], ◌∷◌, ◌++◌, length, drop, Some, None, refl}
+use Rattle.std.specs.Prelude.{◌≡◌, ◌≢◌, ℕ, ◌+◌, ◌-◌, ◌*◌, ◌<◌, true, false, not, if◌then◌else◌, List, [], ◌∷◌, ◌++◌, length, filter, Some, None, refl}
 use Rattle.std.specs.List.{AllByRecursion}
 use Rattle.std.specs.Ordering.{nat_cmp}
 use Rattle.std.specs.declared.cmp.Ordering.TheVariants.{Less}
-use Rattle.std.proofs.Common.{add-one, arith, get_or, inl, inr, sym, ap, ◌∙◌, subst}
-use Rattle.std.proofs.Math.Seq.{drop-cons}
-use Rattle.std.proofs.lemmas.List.{drop_all}
+use Rattle.std.proofs.Common.{arith, inl, inr, sym, ap, ◌∙◌, subst}
 use Rattle.mtx_reader.specs.Ascending.{IsAscendingBy, IsIn, all_in, all_from_in, less_from_cmp}
 use Rattle.gf2_eliminate.specs.declared.line.Line2.{Line2}
-use Rattle.gf2_eliminate.specs.Lines.{numbers_in, line_at, IsListTo}
+use Rattle.gf2_eliminate.specs.Elimination.{first_of}
+use Rattle.gf2_eliminate.specs.Lines.{is_used, numbers_in, line_at, IsListTo}
 use Rattle.gf2_eliminate.specs.Ones.{least_words}
-use Rattle.gf2_eliminate.specs.Plans.{as_used, pivot_among, planned, planned_with, sums, with_lines, with_sum, without, AreHeld, AreLists, CanTake, PutsOneLine}
+use Rattle.gf2_eliminate.specs.Plans.{as_used, locations, pivot_among, planned, planned_with, sums, with_lines, with_sum, without, AreHeld, AreLists, CanTake, PutsOneLine}
 use Rattle.gf2_eliminate.proofs.Held.{columns_are_lists, columns_ready, columns_same, holders_of, other_row, others_list, pivot_is, pivot_list, pivot_same, rows_are_lists, rows_ready, rows_same, short_list}
 
 -- sums of lines that are the same
@@ -36,10 +35,6 @@ apart_from_sums f before bound added (number ∷ numbers) loc apart = (apart num
 with_lines-append : {C : Type 0} (put_at : C → ℕ → Line2 → C) (cells : C) (pairs others : List (ℕ × Line2)) → with_lines put_at cells (pairs ++ others) ≡ with_lines put_at (with_lines put_at cells pairs) others
 with_lines-append put_at cells [] others = refl
 with_lines-append put_at cells (pair ∷ pairs) others = with_lines-append put_at (put_at cells pair.0 pair.1) pairs others
-
--- a list as its item at a place and those behind it
-pub cut : (numbers : List ℕ) (i : ℕ) → i < length numbers → drop i numbers ≡ get_or numbers i 0 ∷ drop (i + 1) numbers
-cut numbers i below = rw add-one (drop-cons numbers i 0 below)
 
 module _ {C : Type 0} (held : C → ℕ → Line2) (has_line : C → ℕ → Type 0) (put_at : C → ℕ → Line2 → C) where
   -- what is left of a list of numbers to whose lines ones are added
@@ -93,10 +88,10 @@ module _ {C : Type 0} {held : C → ℕ → Line2} {has_line : C → ℕ → Typ
             ∙ so-far.left bound lists list;
       }
 
-  pub left_none : (before : ℕ) (numbers added : List ℕ) (old now : C) (i : ℕ) → length numbers ≤ i → IsLeft held has_line put_at before numbers added old now (drop i numbers)
+  pub left_none : (before : ℕ) (numbers added : List ℕ) (old now : C) (rest : List ℕ) → rest ≡ [] → IsLeft held has_line put_at before numbers added old now rest
       → (bound : ℕ) → AreLists before bound (held old) numbers → IsListTo bound added → now ≡ with_lines put_at old (sums (held old) before bound added numbers)
-  left_none before numbers added old now i past so-far bound lists list =
-      ap (λ rest. with_lines put_at now (sums (held old) before bound added rest)) (sym (drop_all i numbers past)) ∙ so-far.left bound lists list
+  left_none before numbers added old now rest none so-far bound lists list =
+      ap (λ ns. with_lines put_at now (sums (held old) before bound added ns)) (sym none) ∙ so-far.left bound lists list
 
   -- without a pivot nothing changes
   pub nothing_added : (rows columns column : ℕ) (lines : List Line2) (old : C) → pivot_among (line_at lines) (holders_of rows column lines) ≡ None
@@ -159,56 +154,63 @@ module _ {C : Type 0} {held : C → ℕ → Line2} {has_line : C → ℕ → Typ
         ∙ ap (λ line. with_lines put_at (put_at old pivot (as_used line)) (sums (line_at lines) 0 columns added others ++ sums (line_at lines) rows rows others added)) (pivot_same mine pivot is-pivot)
         ∙ ap (λ p. with_lines put_at old (planned_with (line_at lines) rows columns p (holders_of rows column lines))) (sym is-pivot)
 
-    -- what was read: the pivot's line once it is used, and the other rows and the pivot's ones, each as a list and as a set
-    pub record IsRead (line : Line2) (other-rows others-set columns-list added-set : List ℕ) : Type 0 where
+    -- places of a line
+    pub added_short : (numbers : List ℕ) → numbers ≡ added → AllByRecursion (λ place. place < 64 * least_words) numbers
+    added_short numbers are = subst (AllByRecursion (λ place. place < 64 * least_words)) (sym are) (short_list columns added mine.few_columns (pivot_list mine.fit mine.within pivot is-pivot))
+
+    pub others_short : (numbers : List ℕ) → numbers ≡ others → AllByRecursion (λ place. place < 64 * least_words) numbers
+    others_short numbers are = subst (AllByRecursion (λ place. place < 64 * least_words)) (sym are) (short_list rows others mine.few_rows (others_list mine.fit mine.within pivot))
+
+    -- what was read: the pivot's line once it is used, the other rows, and the pivot's ones
+    pub record IsRead (line : Line2) (other-rows its-columns : List ℕ) : Type 0 where
       pub line-is : line ≡ as_used (held old pivot)
-      pub rows-are : other-rows ≡ others
-      pub others-are : others-set ≡ others
-      pub columns-are : columns-list ≡ added
-      pub added-are : added-set ≡ added
+      pub others-are : other-rows ≡ others
+      pub added-are : its-columns ≡ added
 
-    module _ {line : Line2} {other-rows others-set columns-list added-set : List ℕ} (read : IsRead line other-rows others-set columns-list added-set) where
-      pub added_short : AllByRecursion (λ place. place < 64 * least_words) added-set
-      added_short = subst (AllByRecursion (λ place. place < 64 * least_words)) (sym read.added-are) (short_list columns added mine.few_columns (pivot_list mine.fit mine.within pivot is-pivot))
-
-      pub others_short : AllByRecursion (λ place. place < 64 * least_words) others-set
-      others_short = subst (AllByRecursion (λ place. place < 64 * least_words)) (sym read.others-are) (short_list rows others mine.few_rows (others_list mine.fit mine.within pivot))
-
+    module _ {line : Line2} {other-rows its-columns : List ℕ} (read : IsRead line other-rows its-columns) where
       pub rows_up : IsAscendingBy nat_cmp other-rows
-      rows_up = subst (IsAscendingBy nat_cmp) (sym read.rows-are) (others_list mine.fit mine.within pivot).ascending
+      rows_up = subst (IsAscendingBy nat_cmp) (sym read.others-are) (others_list mine.fit mine.within pivot).ascending
 
-      pub columns_up : IsAscendingBy nat_cmp columns-list
-      columns_up = subst (IsAscendingBy nat_cmp) (sym read.columns-are) (pivot_list mine.fit mine.within pivot is-pivot).ascending
+      pub columns_up : IsAscendingBy nat_cmp its-columns
+      columns_up = subst (IsAscendingBy nat_cmp) (sym read.added-are) (pivot_list mine.fit mine.within pivot is-pivot).ascending
 
       pub can_take_rows : AllByRecursion (CanTake 0 (held (put_at old pivot line)) (has_line (put_at old pivot line))) other-rows
       can_take_rows =
           subst (λ l. AllByRecursion (CanTake 0 (held (put_at old pivot l)) (has_line (put_at old pivot l))) other-rows) (sym read.line-is)
-          (subst (AllByRecursion (CanTake 0 (held marked) (has_line marked))) (sym read.rows-are) marked_ready)
+          (subst (AllByRecursion (CanTake 0 (held marked) (has_line marked))) (sym read.others-are) marked_ready)
 
       module _ (middle : C)
-          (is : (bound : ℕ) → AreLists 0 bound (held (put_at old pivot line)) other-rows → IsListTo bound added-set
-          → middle ≡ with_lines put_at (put_at old pivot line) (sums (held (put_at old pivot line)) 0 bound added-set other-rows)) where
+          (is : (bound : ℕ) → AreLists 0 bound (held (put_at old pivot line)) other-rows → IsListTo bound its-columns
+          → middle ≡ with_lines put_at (put_at old pivot line) (sums (held (put_at old pivot line)) 0 bound its-columns other-rows)) where
         middle_is : middle ≡ summed
         middle_is =
             is columns
-            (subst (λ l. AreLists 0 columns (held (put_at old pivot l)) other-rows) (sym read.line-is) (subst (AreLists 0 columns (held marked)) (sym read.rows-are) marked_lists))
+            (subst (λ l. AreLists 0 columns (held (put_at old pivot l)) other-rows) (sym read.line-is) (subst (AreLists 0 columns (held marked)) (sym read.others-are) marked_lists))
             (subst (IsListTo columns) (sym read.added-are) (pivot_list mine.fit mine.within pivot is-pivot))
             ∙ ap (λ ns. with_lines put_at (put_at old pivot line) (sums (held (put_at old pivot line)) 0 columns ns other-rows)) read.added-are
-            ∙ ap (λ ns. with_lines put_at (put_at old pivot line) (sums (held (put_at old pivot line)) 0 columns added ns)) read.rows-are
+            ∙ ap (λ ns. with_lines put_at (put_at old pivot line) (sums (held (put_at old pivot line)) 0 columns added ns)) read.others-are
             ∙ ap (λ l. with_lines put_at (put_at old pivot l) (sums (held (put_at old pivot l)) 0 columns added others)) read.line-is
 
-        pub can_take_columns : AllByRecursion (CanTake rows (held middle) (has_line middle)) columns-list
+        pub can_take_columns : AllByRecursion (CanTake rows (held middle) (has_line middle)) its-columns
         can_take_columns =
-            subst (λ cells. AllByRecursion (CanTake rows (held cells) (has_line cells)) columns-list) (sym middle_is) (subst (AllByRecursion (CanTake rows (held summed) (has_line summed))) (sym read.columns-are) summed_ready)
+            subst (λ cells. AllByRecursion (CanTake rows (held cells) (has_line cells)) its-columns) (sym middle_is) (subst (AllByRecursion (CanTake rows (held summed) (has_line summed))) (sym read.added-are) summed_ready)
 
         pub all_added : (last : C)
-            → ((bound : ℕ) → AreLists rows bound (held middle) columns-list → IsListTo bound others-set → last ≡ with_lines put_at middle (sums (held middle) rows bound others-set columns-list))
+            → ((bound : ℕ) → AreLists rows bound (held middle) its-columns → IsListTo bound other-rows → last ≡ with_lines put_at middle (sums (held middle) rows bound other-rows its-columns))
             → last ≡ with_lines put_at old (planned (line_at lines) rows columns column)
         all_added last last-is =
             last-is rows
-            (subst (λ cells. AreLists rows rows (held cells) columns-list) (sym middle_is) (subst (AreLists rows rows (held summed)) (sym read.columns-are) summed_lists))
+            (subst (λ cells. AreLists rows rows (held cells) its-columns) (sym middle_is) (subst (AreLists rows rows (held summed)) (sym read.added-are) summed_lists))
             (subst (IsListTo rows) (sym read.others-are) (others_list mine.fit mine.within pivot))
-            ∙ ap (λ ns. with_lines put_at middle (sums (held middle) rows rows ns columns-list)) read.others-are
-            ∙ ap (λ ns. with_lines put_at middle (sums (held middle) rows rows others ns)) read.columns-are
+            ∙ ap (λ ns. with_lines put_at middle (sums (held middle) rows rows ns its-columns)) read.others-are
+            ∙ ap (λ ns. with_lines put_at middle (sums (held middle) rows rows others ns)) read.added-are
             ∙ ap (λ cells. with_lines put_at cells (sums (held cells) rows rows others added)) middle_is
             ∙ all_changed
+
+-- a row that is used is passed, and one that isn't is the pivot
+module _ (line : ℕ → Line2) (row : ℕ) (rows : List ℕ) where
+  pub first_used : is_used (line (row - 1)) ≡ true → pivot_among line (row ∷ rows) ≡ pivot_among line rows
+  first_used used = ap (λ b. first_of (if not b then (row - 1) ∷ filter (λ loc. not (is_used (line loc))) (locations rows) else filter (λ loc. not (is_used (line loc))) (locations rows))) used
+
+  pub first_unused : is_used (line (row - 1)) ≡ false → pivot_among line (row ∷ rows) ≡ Some (row - 1)
+  first_unused free = ap (λ b. first_of (if not b then (row - 1) ∷ filter (λ loc. not (is_used (line loc))) (locations rows) else filter (λ loc. not (is_used (line loc))) (locations rows))) free

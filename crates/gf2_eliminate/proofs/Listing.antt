@@ -1,15 +1,16 @@
 -- The places of a set, as they are listed word by word and bit by bit.
-use Rattle.std.specs.Prelude.{◌≡◌, ℕ, zero, suc, ◌+◌, ◌*◌, ◌/◌, ◌%◌, ◌^◌, ◌<◌, Bool, true, false, ◌==◌, List, [], ◌∷◌, ◌++◌, if◌then◌else◌, map, filter, bit_and, refl}
+use Rattle.std.specs.Prelude.{◌≡◌, ℕ, zero, suc, ◌+◌, ◌*◌, ◌/◌, ◌%◌, ◌^◌, ◌<◌, ◌≤◌, ◌-◌, Bool, true, false, ◌==◌, List, [], ◌∷◌, ◌++◌, if◌then◌else◌, length, map, filter, bit_and, refl}
 use Rattle.std.specs.Int.{bit_at, bit_not, trailing_zeros}
 use Rattle.std.specs.Ordering.{nat_cmp}
 use Rattle.std.specs.declared.cmp.Ordering.TheVariants.{Less}
-use Rattle.std.proofs.Common.{◌⊎◌, inl, inr, arith, sym, ap, ◌∙◌, subst, append_assoc, get_or, w64}
+use Rattle.std.proofs.Common.{◌⊎◌, inl, inr, arith, sym, ap, ◌∙◌, subst, get_or, w64}
 use Rattle.std.proofs.lemmas.Bool.{cases_eq, cases_lt, eqb-true, eq-eqb}
+use Rattle.std.proofs.lemmas.List.{get_or_past}
 use Rattle.std.proofs.lemmas.List.Elements.{filter-append}
 use Rattle.std.proofs.lemmas.Nat.{and_le_l}
 use Rattle.std.proofs.lemmas.Nat.Bits.{bit_at-trailing_zeros, bit_at_clear_other, bit_at_clear_same}
 use Rattle.mtx_reader.specs.Ascending.{IsAscendingBy, IsIn, numbers_from, all_from_in, in_filter, from_filter, from_numbers, in_numbers, ascending_filter, ascending_numbers, nat_less, same_numbers}
-use Rattle.gf2_eliminate.specs.Ones.{has_bit, bits_of}
+use Rattle.gf2_eliminate.specs.Ones.{has_bit, bits_of, places_from, places_left, places_of}
 use Rattle.gf2_eliminate.specs.Membership.{filter_same}
 
 numbers_cut : (first a b : ℕ) → numbers_from first (a + b) ≡ numbers_from first a ++ numbers_from (first + a) b
@@ -35,21 +36,51 @@ shifted test base first (suc count) =
     by_test rest true = ap (λ ns. (base + first) ∷ ns) rest
     by_test rest false = rest
 
--- one word more
-pub word_listed : (words : List ℕ) (at : ℕ) → filter (has_bit words) (numbers_from 0 (64 * (at + 1))) ≡ filter (has_bit words) (numbers_from 0 (64 * at)) ++ map (λ bit. at * 64 + bit) (bits_of (get_or words at 0))
-word_listed words at =
-    let more : 64 * (at + 1) ≡ 64 * at + 64 = omega arith in
-    let base : 0 + 64 * at ≡ at * 64 + 0 = omega arith in
-    ap (λ n. filter (has_bit words) (numbers_from 0 n)) more ∙ ap (filter (has_bit words)) (numbers_cut 0 (64 * at) 64) ∙ filter-append (has_bit words) (numbers_from 0 (64 * at)) (numbers_from (0 + 64 * at) 64)
-    ∙ ap (λ ns. filter (has_bit words) (numbers_from 0 (64 * at)) ++ ns)
-    (ap (λ n. filter (has_bit words) (numbers_from n 64)) base ∙ shifted (has_bit words) (at * 64) 0 64
-    ∙ ap (map (λ bit. at * 64 + bit)) (filter_same (λ bit. has_bit words (at * 64 + bit)) (λ bit. bit_at (get_or words at 0) bit == 1) (numbers_from 0 64) (λ bit there. here bit (from_numbers 0 64 bit there).1)))
+-- the places of one word
+pub word_places : (words : List ℕ) (at : ℕ) → filter (has_bit words) (numbers_from (64 * at) 64) ≡ map (λ bit. at * 64 + bit) (bits_of (get_or words at 0))
+word_places words at =
+    let base : 64 * at ≡ at * 64 + 0 = omega arith in
+    ap (λ n. filter (has_bit words) (numbers_from n 64)) base ∙ shifted (has_bit words) (at * 64) 0 64
+    ∙ ap (map (λ bit. at * 64 + bit)) (filter_same (λ bit. has_bit words (at * 64 + bit)) (λ bit. bit_at (get_or words at 0) bit == 1) (numbers_from 0 64) (λ bit there. here bit (from_numbers 0 64 bit there).1))
   where
     here : (bit : ℕ) → bit < 0 + 64 → has_bit words (at * 64 + bit) ≡ (bit_at (get_or words at 0) bit == 1)
     here bit below =
         let word : (at * 64 + bit) / 64 ≡ at = omega (arith, below) in
         let place : (at * 64 + bit) % 64 ≡ bit = omega (arith, below) in
         ap (λ k. bit_at (get_or words k 0) ((at * 64 + bit) % 64) == 1) word ∙ ap (λ i. bit_at (get_or words at 0) i == 1) place
+
+-- from the end on there are none
+pub none_from : (words : List ℕ) (at : ℕ) → length words ≤ at → places_from words at ≡ []
+none_from words at past = let none : 64 * (length words - at) ≡ 0 = omega (arith, past) in ap (λ n. filter (has_bit words) (numbers_from (64 * at) n)) none
+
+-- the places from a word on are those of its bits, and those from the next one on
+pub whole_word : (words : List ℕ) (at : ℕ) → places_left words at (get_or words at 0) ≡ places_from words at
+whole_word words at = elim (cases_lt at (length words)) [
+  | inl below ↦
+      let more : 64 * (length words - at) ≡ 64 + 64 * (length words - (at + 1)) = omega (arith, below) in
+      let next : 64 * at + 64 ≡ 64 * (at + 1) = omega arith in
+      sym (
+      ap (λ n. filter (has_bit words) (numbers_from (64 * at) n)) more ∙ ap (filter (has_bit words)) (numbers_cut (64 * at) 64 (64 * (length words - (at + 1))))
+      ∙ filter-append (has_bit words) (numbers_from (64 * at) 64) (numbers_from (64 * at + 64) (64 * (length words - (at + 1))))
+      ∙ ap (λ ns. ns ++ filter (has_bit words) (numbers_from (64 * at + 64) (64 * (length words - (at + 1))))) (word_places words at)
+      ∙ ap (λ n. map (λ bit. at * 64 + bit) (bits_of (get_or words at 0)) ++ filter (has_bit words) (numbers_from n (64 * (length words - (at + 1))))) next
+      )
+  | inr past ↦ ap (λ word. places_left words at word) (get_or_past words at 0 past) ∙ none_from words (at + 1) (omega (arith, past)) ∙ sym (none_from words at past)
+]
+
+-- a word without a bit is passed
+pub next_word : (words : List ℕ) (at left : ℕ) → left ≡ 0 → places_left words at left ≡ places_from words (at + 1)
+next_word words at left none = ap (places_left words at) none
+
+-- where the first words have no bit, all places are in those behind them
+pub skipped : (words : List ℕ) (first : ℕ) → ((k : ℕ) → k < first → get_or words k 0 ≡ 0) → places_from words first ≡ filter (has_bit words) (numbers_from 0 (64 * length words))
+skipped words zero nothing = let all : 64 * (length words - 0) ≡ 64 * length words = omega arith in ap (λ n. filter (has_bit words) (numbers_from 0 n)) all
+skipped words (suc first) nothing =
+    let next : suc first ≡ first + 1 = omega arith in
+    ap (places_from words) next ∙ ap (λ word. places_left words first word) (sym (nothing first (omega arith))) ∙ whole_word words first ∙ skipped words first (λ k below. nothing k (omega (arith, below)))
+
+pub all_left : (words : List ℕ) (first : ℕ) → ((k : ℕ) → k < first → get_or words k 0 ≡ 0) → places_left words first (get_or words first 0) ≡ places_of words
+all_left words first nothing = whole_word words first ∙ skipped words first nothing
 
 -- the lowest bit of a word is cleared
 module _ (word : ℕ) (some : 0 < word) (fits : word < 2 ^ 64) where
@@ -103,7 +134,7 @@ module _ (word : ℕ) (some : 0 < word) (fits : word < 2 ^ 64) where
         ],
       )
 
-  lowest_first : bits_of word ≡ trailing_zeros w64 word ∷ bits_of (bit_and word (bit_not w64 (1 * 2 ^ trailing_zeros w64 word % 2 ^ 64)))
+  pub lowest_first : bits_of word ≡ trailing_zeros w64 word ∷ bits_of (bit_and word (bit_not w64 (1 * 2 ^ trailing_zeros w64 word % 2 ^ 64)))
   lowest_first = same_numbers (bits_of word) (trailing_zeros w64 word ∷ bits_of (bit_and word (bit_not w64 (1 * 2 ^ trailing_zeros w64 word % 2 ^ 64)))) (ascending_bits word) (
     all_from_in (λ n. nat_cmp (trailing_zeros w64 word) n ≡ Less) (bits_of (bit_and word (bit_not w64 (1 * 2 ^ trailing_zeros w64 word % 2 ^ 64))))
         (λ n there. nat_less (trailing_zeros w64 word) n (behind_lowest n there).2),
@@ -119,10 +150,7 @@ module _ (word : ℕ) (some : 0 < word) (fits : word < 2 ^ 64) where
       back n (inl at) = subst (IsIn (bits_of word)) at (in_bits word (trailing_zeros w64 word) lowest-is.0 lowest-is.1)
       back n (inr there) = let is = behind_lowest n there in in_bits word n is.0 is.1
 
-  -- one bit more
-  pub bit_listed : (first : ℕ) (numbers more all : List ℕ) → numbers ++ map (λ bit. first + bit) (bits_of word) ≡ all → more ≡ numbers ++ (first + trailing_zeros w64 word) ∷ []
-      → more ++ map (λ bit. first + bit) (bits_of (bit_and word (bit_not w64 (1 * 2 ^ trailing_zeros w64 word % 2 ^ 64)))) ≡ all
-  bit_listed first numbers more all so-far is =
-      ap (λ ns. ns ++ map (λ bit. first + bit) (bits_of (bit_and word (bit_not w64 (1 * 2 ^ trailing_zeros w64 word % 2 ^ 64))))) is
-      ∙ append_assoc numbers ((first + trailing_zeros w64 word) ∷ []) (map (λ bit. first + bit) (bits_of (bit_and word (bit_not w64 (1 * 2 ^ trailing_zeros w64 word % 2 ^ 64)))))
-      ∙ ap (λ bits. numbers ++ map (λ bit. first + bit) bits) (sym lowest_first) ∙ so-far
+  -- and its place comes first among those that are left
+  pub lowest_left : (words : List ℕ) (at : ℕ)
+      → places_left words at word ≡ (at * 64 + trailing_zeros w64 word) ∷ places_left words at (bit_and word (bit_not w64 (1 * 2 ^ trailing_zeros w64 word % 2 ^ 64)))
+  lowest_left words at = ap (λ bits. map (λ bit. at * 64 + bit) bits ++ places_from words (at + 1)) lowest_first

@@ -238,3 +238,13 @@ places_within words count within = places_are (take count words) (places_of word
       let below = all_in (λ place. place < 64 * count) (places_of words) n within (in_has (places_of words) n there) in omega (arith, below, past)) in
       ap (λ word. bit_at word (n % 64) == 1) (get_or_past (take count words) (n / 64) 0 few) ∙ ap (λ b. b == 1) (bit_at-zero (n % 64)) ∙ sym none
 ])
+
+-- words without a bit at the end aren't missed
+pub without_end : (words : List ℕ) (count : ℕ) → ((k : ℕ) → count ≤ k → get_or words k 0 ≡ 0) → places_of (take count words) ≡ places_of words
+without_end words count nothing = places_are (take count words) (places_of words) (ascending_places words) (λ n. same_bits (take count words) words each n ∙ sym (has_places words n))
+  where
+    each : (k : ℕ) → get_or (take count words) k 0 ≡ get_or words k 0
+    each k = elim (cases_lt k count) [
+      | inl below ↦ get_or-take count words k 0 below
+      | inr past ↦ get_or_past (take count words) k 0 (omega (arith, length-take count words, past)) ∙ sym (nothing k past)
+    ]

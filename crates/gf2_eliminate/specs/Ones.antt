@@ -1,5 +1,5 @@
 -- Sets of places as words of 64 bits, of which each place has one.
-use Rattle.std.specs.Prelude.{◌≡◌, ℕ, ◌*◌, ◌/◌, ◌%◌, ◌^◌, ◌<◌, ◌≤◌, Bool, ◌==◌, List, length, filter, slice_index, Option, Some, None}
+use Rattle.std.specs.Prelude.{◌≡◌, ℕ, ◌+◌, ◌-◌, ◌*◌, ◌/◌, ◌%◌, ◌^◌, ◌<◌, ◌≤◌, Bool, ◌==◌, List, ◌++◌, length, map, filter, slice_index, Option, Some, None}
 use Rattle.std.specs.Int.{bit_at}
 use Rattle.mtx_reader.specs.Ascending.{numbers_from}
 
@@ -24,16 +24,24 @@ pub record AreWords (words : List ℕ) : Type 0 where
   pub few : length words ≤ 2 ^ 26
   pub roomy : 0 < length words → least_words ≤ length words
 
--- no word before the first and none from the end on has a bit
-pub record HasNothingOutside (words : List ℕ) (first end : ℕ) : Type 0 where
-  pub before : (k : ℕ) → k < first → slice_index words k ≡ 0
-  pub behind : (k : ℕ) → end ≤ k → slice_index words k ≡ 0
-
--- words that every set with a place has too, and those among them that have bits
-pub record IsSpan (words : List ℕ) (first end : ℕ) : Type 0 where
+-- words that every set with a place has too, of which none before the first has a bit
+pub record IsSpan (words : List ℕ) (first : ℕ) : Type 0 where
   pub short : length words ≤ least_words
-  pub within : end ≤ length words
-  pub nothing : HasNothingOutside words first end
+  pub within : first ≤ least_words
+  pub nothing : (k : ℕ) → k < first → slice_index words k ≡ 0
+
+-- the places of the words from one on whose bits are set
+abbrev pub places_from : List ℕ → ℕ → List ℕ
+places_from words at = filter (has_bit words) (numbers_from (64 * at) (64 * (length words - at)))
+
+-- the places of the bits that are left of the word at a place, and those of the words behind it
+abbrev pub places_left : List ℕ → ℕ → ℕ → List ℕ
+places_left words at left = map (λ bit. at * 64 + bit) (bits_of left) ++ places_from words (at + 1)
+
+-- a place among so few words that each place is less than 2^32
+pub record IsAmong (words : List ℕ) (at : ℕ) : Type 0 where
+  pub few : length words ≤ 2 ^ 26
+  pub before : at < 2 ^ 26
 
 -- the least bit from one on that is set in a word
 pub record IsLeastBit (word from bit : ℕ) : Type 0 where

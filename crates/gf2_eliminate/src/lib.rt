@@ -9,6 +9,7 @@ mod line;
 mod lines;
 mod matrix;
 mod ones;
+mod places;
 mod resting;
 mod start;
 mod step;

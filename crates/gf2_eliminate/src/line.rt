@@ -61,6 +61,7 @@ impl Line2 {
     }
 
     /// Puts a one behind all others.
+    #[inline(always)]
     pub(crate) fn push(&mut self, number: u32) -> Result<(), NoRoom>
         requires { AllByRecursion (λ other. other < number) (numbers_in self.old) }
         ensures { OnOk result (self.new ≡ with_number self.old number) }

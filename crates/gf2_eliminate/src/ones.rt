@@ -1,7 +1,8 @@
-ghost use Rattle.std.specs.Prelude.{◌≡◌, ℕ, ◌+◌, ◌≤◌, ◌<◌, ◌^◌, [], ◌∷◌, ◌++◌, not, ◌==◌, length, map, filter, slice_index, max, bit_or, bit_xor, IfOk, OnOk, OnErr};
+ghost use Rattle.std.specs.Prelude.{◌≡◌, ℕ, ◌≤◌, ◌<◌, ◌^◌, [], ◌∷◌, ◌++◌, not, ◌==◌, length, filter, slice_index, max, bit_or, bit_xor, IfOk, OnOk, OnErr};
 ghost use Rattle.std.specs.List.{AllByRecursion};
-ghost use Rattle.gf2_eliminate.specs.Ones.{bits_of, HasNothingOutside, IsFirstBit};
+ghost use Rattle.gf2_eliminate.specs.Ones.{AreWords, IsFirstBit};
 
+use crate::places::{Places, word_at};
 use kdg_text::NoRoom;
 use std::alloc::Global;
 use std::marker::Model;
@@ -66,13 +67,14 @@ impl OneSet {
     }
 
     /// Adds a place behind all others. After `NoRoom` the set is as it was.
+    #[inline(always)]
     pub fn push(&mut self, place: u32) -> Result<(), NoRoom>
         requires { AllByRecursion (λ other. other < place) self.old }
         ensures ok { OnOk result (self.new ≡ self.old ++ place ∷ []) }
         ensures err { OnErr result (self.new ≡ self.old) }
     {
         let (at, bit) = ((place / u64::BITS) as usize, place % u64::BITS);
-        lengthen(&mut self.words, (at + 1).max(LEAST_WORDS))?;
+        make_room(&mut self.words, at)?;
         self.words[at] |= 1 << bit;
         Ok(())
     }
@@ -121,7 +123,7 @@ impl OneSet {
         ensures err { OnErr result (self.new ≡ self.old) }
     {
         let (at, bit) = ((place / u64::BITS) as usize, place % u64::BITS);
-        lengthen(&mut self.words, (at + 1).max(LEAST_WORDS))?;
+        make_room(&mut self.words, at)?;
         self.words[at] |= 1 << bit;
         Ok(())
     }
@@ -161,7 +163,7 @@ impl OneSet {
         requires { 0 < length self.old }
         ensures { (bound : ℕ) → IsListTo bound self.old → IsListTo bound added.now → self.new ≡ sum_to bound self.old added.now }
     {
-        turn_bits(&mut self.words, &added.words, (added.first, added.end));
+        turn_bits(&mut self.words, &added.words, added.first);
     }
 
     /// The places but for one.
@@ -177,12 +179,19 @@ impl OneSet {
     }
 
     /// The places, in ascending order.
+    pub(crate) fn iter(&self) -> Places<'_>
+        ensures { result ≡ self.now }
+    {
+        Places::new(&self.words, 0)
+    }
+
+    /// The places, in ascending order.
     pub fn places(&self) -> Result<Vec<u32>, NoRoom>
         ensures { IfOk result (λ places. places.items ≡ self.now) }
     {
         let mut places = Vec::new(*self.words.allocator());
-        for (at, word) in self.words.iter().enumerate() {
-            push_bits(&mut places, at as u32 * u64::BITS, *word)?;
+        for place in self.iter() {
+            places.push(place)?;
         }
         Ok(places)
     }
@@ -191,11 +200,10 @@ impl OneSet {
 /// Places that are added to several sets, and which words they are in.
 #[derive(Drop)]
 pub(crate) struct Addend {
+    // without those at the end that have no bit
     words: Vec<u64>,
     // behind the words without a bit at the beginning
     first: usize,
-    // before the words without a bit at the end
-    end: usize,
 }
 
 impl Model for Addend {
@@ -206,7 +214,7 @@ impl Model for Addend {
 
     ghost view = { λ a. places_of a.words.items };
 
-    ghost invariant = { λ a. IsSpan a.words.items a.first a.end };
+    ghost invariant = { λ a. IsSpan a.words.items a.first };
 }
 
 impl Addend {
@@ -222,20 +230,22 @@ impl Addend {
         words.truncate(LEAST_WORDS);
         let first = first_word(&words);
         let end = end_of_words(&words);
-        Addend { words, first, end }
+        words.truncate(end);
+        Addend { words, first }
     }
-}
 
-/// The word at a place, which has no bit behind the last one.
-fn word_at(words: &[u64], at: usize) -> u64
-    ensures { result ≡ slice_index words.now at }
-{
-    if at < words.len() { words[at] } else { 0 }
+    /// The places, in ascending order.
+    pub(crate) fn iter(&self) -> Places<'_>
+        ensures { result ≡ self.now }
+    {
+        Places::new(&self.words, self.first)
+    }
 }
 
 /// The first word that has a bit, or the end where none has one.
 fn first_word(words: &[u64]) -> usize
-    ensures { (k : ℕ) → k < result → slice_index words.now k ≡ 0 }
+    ensures within { result ≤ length words.now }
+    ensures none { (k : ℕ) → k < result → slice_index words.now k ≡ 0 }
 {
     for (at, word) in words.iter().enumerate() {
         if *word != 0 {
@@ -273,7 +283,24 @@ fn first_bit(word: u64, from: u32) -> Option<u32>
     }
 }
 
+/// Lengthens the words of a set, by words without a bit, so that there is one at `at`.
+#[inline(always)]
+fn make_room(words: &mut Vec<u64>, at: usize) -> Result<(), NoRoom>
+    requires words { AreWords words.old.items }
+    requires few { at < 2 ^ 26 }
+    ensures there { OnOk result (at < length words.new.items) }
+    ensures err { OnErr result (words.new.items ≡ words.old.items) }
+    ensures words { AreWords words.new.items }
+    ensures same { (k : ℕ) → slice_index words.new.items k ≡ slice_index words.old.items k }
+{
+    if at < words.len() {
+        return Ok(());
+    }
+    lengthen(words, (at + 1).max(LEAST_WORDS))
+}
+
 /// Lengthens `words` to at least `len`, by words without a bit.
+#[inline(never)]
 fn lengthen(words: &mut Vec<u64>, len: usize) -> Result<(), NoRoom>
     ensures long { OnOk result (len ≤ length words.new.items) }
     ensures err { OnErr result (words.new.items ≡ words.old.items) }
@@ -297,29 +324,13 @@ fn set_bits(words: &mut [u64], others: &[u64])
     }
 }
 
-/// Turns the bits that are set in the others, which have none outside of a span.
-fn turn_bits(words: &mut [u64], others: &[u64], span: (usize, usize))
-    requires within { span.1 ≤ length words.old }
-    requires in_others { span.1 ≤ length others.now }
-    requires nothing { HasNothingOutside others.now span.0 span.1 }
+/// Turns the bits that are set in the others, which have none before the word at `first`.
+fn turn_bits(words: &mut [u64], others: &[u64], first: usize)
+    requires few { length others.now ≤ length words.old }
+    requires nothing { (k : ℕ) → k < first → slice_index others.now k ≡ 0 }
     ensures { (k : ℕ) → slice_index words.new k ≡ bit_xor (slice_index words.old k) (slice_index others.now k) }
 {
-    let (first, end) = span;
-    for at in first..end {
+    for at in first..others.len() {
         words[at] ^= others[at];
     }
-}
-
-/// Adds the bits that are set in a word, as numbers from a first one on.
-fn push_bits(numbers: &mut Vec<u32>, first: u32, word: u64) -> Result<(), NoRoom>
-    requires { first + 64 ≤ 2 ^ 32 }
-    ensures { OnOk result (numbers.new.items ≡ numbers.old.items ++ map (λ bit. first + bit) (bits_of word)) }
-{
-    let mut left = word;
-    while left != 0 {
-        let bit = left.trailing_zeros();
-        numbers.push(first + bit)?;
-        left &= !(1 << bit);
-    }
-    Ok(())
 }

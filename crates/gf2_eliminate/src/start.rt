@@ -72,6 +72,7 @@ fn empty_line(alloc: Global, rows: u32, loc: u32) -> Line2
 }
 
 /// Adds a number behind those of the line of a location.
+#[inline(always)]
 fn put_one(lines: &mut Vec<Line2>, loc: u32, number: u32) -> Result<(), NoRoom>
     requires there { loc < length lines.old.items }
     requires behind { AllByRecursion (λ other. other < number) (numbers_in (line_at lines.old.items loc)) }

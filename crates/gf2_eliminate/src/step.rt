@@ -7,6 +7,7 @@ ghost use Rattle.gf2_eliminate.specs.Elimination.{free_line, pivot_line};
 ghost use Rattle.gf2_eliminate.specs.Lines.{numbers_in, line_at, IsListTo};
 ghost use Rattle.gf2_eliminate.specs.Plans.{pivot_among, planned, sums, text_with, with_lines, AreHeld, CanTake, HasRow, PutsOneLine, AreLists};
 
+use crate::OneSet;
 use crate::lines::Lines;
 use crate::ones::Addend;
 use kdg_text::{NoRoom, Text, push_u64};
@@ -29,29 +30,26 @@ pub(crate) fn eliminate<C: Lines>(
     ensures unchanged { OnErr result (cells.new ≡ cells.old) }
 {
     let ones = cells.line(rows + column).ones();
-    let holders = ones.places()?;
-    match pivot_among(cells, &holders) {
+    match pivot_among(cells, ones) {
         None => free_line(alloc, column),
         Some(pivot) => {
-            let others = ones.without(pivot + 1)?;
-            let other_rows = others.places()?;
-            let added = cells.line(pivot).ones().copy()?;
-            let columns = added.places()?;
+            let others = Addend::new(ones.without(pivot + 1)?);
+            let added = Addend::new(cells.line(pivot).ones().copy()?);
             let text = pivot_line(alloc, column, pivot)?;
             cells.line_mut(pivot).mark_used();
-            add_to_lines(cells, 0, &other_rows, &Addend::new(added));
-            add_to_lines(cells, rows, &columns, &Addend::new(others));
+            add_to_lines(cells, 0, &others, &added);
+            add_to_lines(cells, rows, &added, &others);
             Ok(text)
         }
     }
 }
 
 /// The location of the first of these rows that isn't used.
-fn pivot_among<C: Lines>(cells: &C, holders: &[u32]) -> Option<u32>
+fn pivot_among<C: Lines>(cells: &C, holders: &OneSet) -> Option<u32>
     requires { AllByRecursion (HasRow (C.has_line cells.now)) holders.now }
     ensures { result ≡ pivot_among (C.held cells.now) holders.now }
 {
-    for row in holders {
+    for row in holders.iter() {
         let loc = row - 1;
         if !cells.line(loc).is_used() {
             return Some(loc);
@@ -61,14 +59,14 @@ fn pivot_among<C: Lines>(cells: &C, holders: &[u32]) -> Option<u32>
 }
 
 /// Adds ones to the lines of these numbers, which count from 1 behind `before` lines.
-fn add_to_lines<C: Lines>(cells: &mut C, before: u32, numbers: &[u32], added: &Addend)
+fn add_to_lines<C: Lines>(cells: &mut C, before: u32, numbers: &Addend, added: &Addend)
     requires laws { PutsOneLine C.held C.has_line C.put_at }
     requires ready { AllByRecursion (CanTake before (C.held cells.old) (C.has_line cells.old)) numbers.now }
     requires ascending { IsAscendingBy nat_cmp numbers.now }
     ensures { (bound : ℕ) → AreLists before bound (C.held cells.old) numbers.now → IsListTo bound added.now →
         cells.new ≡ with_lines C.put_at cells.old (sums (C.held cells.old) before bound added.now numbers.now) }
 {
-    for number in numbers {
+    for number in numbers.iter() {
         cells.line_mut(before + (number - 1)).add(added);
     }
 }

@@ -1,8 +1,11 @@
-use Rattle.std.specs.Prelude.{◌≡◌, not, filter, drop}
-use Rattle.gf2_eliminate.specs.Elimination.{first_of}
-use Rattle.gf2_eliminate.specs.Lines.{is_used}
-use Rattle.gf2_eliminate.specs.Plans.{locations, pivot_among}
+use Rattle.std.specs.Prelude.{◌≡◌}
+use Rattle.std.specs.List.{AllByRecursion}
+use Rattle.gf2_eliminate.specs.Plans.{pivot_among, HasRow}
 use Rattle.gf2_eliminate.proofs.step.pivot_among.Given as goal
 
+-- the rows that were passed are used
 abbrev pub invariant-loop-row : goal.invariant-loop-row
-invariant-loop-row g l = pivot_among (g.C.Lines.held l.cells) l.holders ≡ first_of (filter (λ loc. not (is_used (g.C.Lines.held l.cells loc))) (locations (drop l.row-index l.holders)))
+invariant-loop-row g l = record {
+  passed : pivot_among (g.C.Lines.held l.cells) l.holders ≡ pivot_among (g.C.Lines.held l.cells) l.row-iterator;
+  there : AllByRecursion (HasRow (g.C.Lines.has_line l.cells)) l.row-iterator;
+}

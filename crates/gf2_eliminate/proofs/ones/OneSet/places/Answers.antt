@@ -1,18 +1,14 @@
-use Rattle.std.specs.Prelude.{◌≡◌, ◌*◌, ◌+◌, ◌++◌, filter, map, length}
-use Rattle.std.proofs.Common.{arith, ap, sym, ◌∙◌, get_or}
-use Rattle.mtx_reader.specs.Ascending.{numbers_from}
-use Rattle.gf2_eliminate.specs.Ones.{has_bit, places_of, bits_of}
-use Rattle.gf2_eliminate.proofs.Listing.{word_listed}
+use Rattle.std.specs.Prelude.{◌++◌, [], ◌∷◌}
+use Rattle.std.proofs.Common.{ap, sym, ◌∙◌, append_assoc, append-nil}
 use Rattle.gf2_eliminate.proofs.ones.OneSet.places.Goals as goal
 
-pub loop-at-preserved : goal.loop-at-preserved
-loop-at-preserved c =
-    let words = c.deref-word-items.result.now in
-    let at = c.loop-at.at in
-    c.in_ok-push_bits.ensures ∙ ap (λ ns. ns ++ map (λ bit. at * 64 + bit) (bits_of (get_or words at 0))) c.loop-at.invariant ∙ sym (word_listed words at)
+pub loop-place-init : goal.loop-place-init
+loop-place-init c = ap (λ ns. ns ++ c.into_iter-place-iterator.result) c.new-places.ensures.items ∙ c.into_iter-place-iterator.ensures.into_iter_gives ∙ c.iter-place-items.ensures
+
+pub loop-place-preserved : goal.loop-place-preserved
+loop-place-preserved c =
+    ap (λ ns. ns ++ c.next.new.self) c.in_ok-push.ensures.items ∙ append_assoc c.loop-place.places.items (c.in-Some.place ∷ []) c.next.new.self
+    ∙ ap (λ ns. c.loop-place.places.items ++ ns) (sym c.in-Some.ensures.steps) ∙ c.loop-place.invariant
 
 pub returns : goal.returns
-returns c =
-    let words = c.deref-word-items.result.now in
-    let all : 64 * c.loop-at.at ≡ 64 * length words = omega arith in
-    c.loop-at.invariant ∙ ap (λ n. filter (has_bit words) (numbers_from 0 n)) all ∙ ap places_of c.deref-word-items.ensures.value ∙ c.self.view_is
+returns c = sym (append-nil c.loop-place.places.items) ∙ ap (λ ns. c.loop-place.places.items ++ ns) (sym c.in-None.ensures.steps.0) ∙ c.loop-place.invariant
