@@ -1,8 +1,26 @@
 //! The inputs of the examples.
 
-/// The ISCAS-85 circuit c17.
-pub const C17: &str =
-    "INPUT(1)\nINPUT(2)\nINPUT(3)\nINPUT(6)\nINPUT(7)\nOUTPUT(22)\nOUTPUT(23)\n10 = NAND(1, 3)\n11 = NAND(3, 6)\n16 = NAND(2, 11)\n19 = NAND(11, 7)\n22 = NAND(10, 16)\n23 = NAND(16, 19)\n";
+/// The first 151 bytes of the ISCAS-85 circuit c17, and what stands behind them.
+macro_rules! c17 {
+    ($behind:literal) => {
+        concat!(
+            "INPUT(1)\nINPUT(2)\nINPUT(3)\nINPUT(6)\nINPUT(7)\nOUTPUT(22)\nOUTPUT(23)\n10 = NAND(1, 3)\n11 = NAND(3, 6)\n16 = NAND(2, 11)\n19 = NAND(11, 7)\n22 = NAND(10, 16)\n",
+            $behind
+        )
+    };
+}
+
+/// The ISCAS-85 circuit c17 before its last line.
+pub const C17_SHORT: &str = c17!("");
+
+/// The circuit before its last two bytes.
+pub const C17_OPEN: &str = c17!("23 = NAND(16, 19");
+
+/// The circuit.
+pub const C17: &str = c17!("23 = NAND(16, 19)\n");
+
+/// The circuit, and a zero byte.
+pub const C17_AND_ZERO: &str = c17!("23 = NAND(16, 19)\n\0");
 
 /// c17 as it is handed round: with comments, blank lines, and a carriage return before each line
 /// feed.
@@ -10,8 +28,7 @@ pub const C17_WITH_HEADER: &str =
     "# c17\r\n# 5 inputs\r\n# 2 outputs\r\n# 0 inverter\r\n# 6 gates ( 6 NANDs )\r\n\r\nINPUT(1)\r\nINPUT(2)\r\nINPUT(3)\r\nINPUT(6)\r\nINPUT(7)\r\n\r\nOUTPUT(22)\r\nOUTPUT(23)\r\n\r\n10 = NAND(1, 3)\r\n11 = NAND(3, 6)\r\n16 = NAND(2, 11)\r\n19 = NAND(11, 7)\r\n22 = NAND(10, 16)\r\n23 = NAND(16, 19)\r\n";
 
 /// c17 with a stimulus at 10.
-pub const C17_STIMULUS: &str =
-    "INPUT(1)\nINPUT(2)\nINPUT(3)\nINPUT(6)\nINPUT(7)\nOUTPUT(22)\nOUTPUT(23)\n10 = NAND(1, 3)\n11 = NAND(3, 6)\n16 = NAND(2, 11)\n19 = NAND(11, 7)\n22 = NAND(10, 16)\n23 = NAND(16, 19)\n@ 10 11111\n";
+pub const C17_STIMULUS: &str = c17!("23 = NAND(16, 19)\n@ 10 11111\n");
 
 /// What is printed for it.
 pub const C17_STIMULUS_PRINT: &str =
@@ -31,8 +48,7 @@ pub const FEEDBACK: &str =
     "OUTPUT(s4)\ns0 = XNOR(s4, s2)\ns1 = BUFF(s0)\ns2 = BUFF(s1)\ns3 = BUFF(s2)\ns4 = BUFF(s3)\n";
 
 /// c17 with a stimulus that has four bits for five inputs.
-pub const C17_SHORT_STIMULUS: &str =
-    "INPUT(1)\nINPUT(2)\nINPUT(3)\nINPUT(6)\nINPUT(7)\nOUTPUT(22)\nOUTPUT(23)\n10 = NAND(1, 3)\n11 = NAND(3, 6)\n16 = NAND(2, 11)\n19 = NAND(11, 7)\n22 = NAND(10, 16)\n23 = NAND(16, 19)\n@ 3 1011\n";
+pub const C17_SHORT_STIMULUS: &str = c17!("23 = NAND(16, 19)\n@ 3 1011\n");
 
 /// What c17 prints: 6 evaluations at 0, 6 changes and 6 evaluations at 1, and 2 changes at 2.
 pub const C17_PRINT: &str = "1 22 1\n1 23 1\n2 22 0\n2 23 0\nfinal 22 0\nfinal 23 0\ntasks 20\n";

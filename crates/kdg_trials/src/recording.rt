@@ -1,16 +1,19 @@
 //! Which worker performs which task of a run in rounds, found in the graph or by marks, and in which
 //! order.
 
-use crate::answering::answer_at;
+use crate::answering::{answer_at, expect};
 use crate::decks::{C17, C17_PRINT};
 use kdg_prog::Status;
 use kdg_text::NoRoom;
 use outer_edge::Gate;
 use std::alloc::Global;
 use std::cmp::Ordering;
+use std::process::Abort;
+use std::sync::Wait;
 use std::sync::atomic::AtomicU64;
 use std::sync::atomic::Ordering::SeqCst;
 use std::test::Fail;
+use std::thread::Threads;
 use task_order::{Key, Path};
 
 /// A task of c17, the round and the worker that it is to have, and what is recorded of it: how
@@ -61,7 +64,7 @@ fn path_of(alloc: Global, first: u32, numbers: &[u32]) -> Result<Path, NoRoom> {
 type Row = (u32, u64, u32, u32, &'static [u32]);
 
 /// The tasks of c17 with 2 workers in mode rounds, those of a worker in the order of its turns.
-const BY_CHOICES: [Row; 20] = [
+const BY_CHOICES: &[Row] = &[
     (1, 1, 0, 1, &[]),
     (1, 1, 0, 3, &[]),
     (1, 1, 0, 5, &[]),
@@ -85,7 +88,7 @@ const BY_CHOICES: [Row; 20] = [
 ];
 
 /// Those in mode marks, where no choice is asked for.
-const BY_KEYS: [Row; 20] = [
+const BY_KEYS: &[Row] = &[
     (1, 1, 0, 0, &[]),
     (1, 1, 0, 2, &[]),
     (1, 1, 0, 4, &[]),
@@ -132,29 +135,54 @@ fn in_order(place: &Place, later: &Place) -> bool {
     free || place.number.load(SeqCst) < later.number.load(SeqCst)
 }
 
-#[test]
-fn each_worker_performs_its_jobs_of_each_round(rt: HostRuntime) -> Result<(), Fail> {
-    for (mode, rows) in [("rounds", &BY_CHOICES), ("marks", &BY_KEYS)] {
-        let recorder = Recorder {
-            places: places(rt.alloc(), rows.as_slice())?,
-            count: AtomicU64::new(0),
-        };
-        let words = format!(in rt.alloc(); "sim --mode {mode} --workers 2")?;
-        let (status, sink) = answer_at(&rt, rt.alloc(), &recorder, &words, C17, 64)?;
-        assert_eq!(rt; status, Status::Ok);
-        assert_eq!(rt; sink.held(), C17_PRINT.as_bytes());
-        assert_eq!(rt; recorder.count.load(SeqCst), 20);
-        for (index, place) in recorder.places.iter().enumerate() {
-            assert_eq!(rt; place.times.load(SeqCst), 1, "{mode} {index}");
-            assert_eq!(rt;
-                place.by.load(SeqCst),
-                u64::from(place.worker),
-                "{mode} {index}"
-            );
-            for later in recorder.places.iter().skip(index + 1) {
-                assert!(rt; in_order(place, later), "{mode} {index}");
+/// Whether each place was passed once, by its worker, and before those behind it that have to be later.
+fn are_passed(places: &[Place]) -> bool {
+    for (index, place) in places.iter().enumerate() {
+        if place.times.load(SeqCst) != 1 || place.by.load(SeqCst) != u64::from(place.worker) {
+            return false;
+        }
+        for later in places.iter().skip(index + 1) {
+            if !in_order(place, later) {
+                return false;
             }
         }
     }
+    true
+}
+
+#[test]
+fn each_worker_performs_its_jobs_of_each_round(rt: HostRuntime) -> Result<(), Fail> {
+    expect_passes(&rt, rt.alloc(), "rounds", BY_CHOICES)?;
+    expect_passes(&rt, rt.alloc(), "marks", BY_KEYS)
+}
+
+/// Asks that two workers in a mode perform these tasks and print what is wanted.
+fn expect_passes<R: Threads + Wait + Abort + Sync>(
+    rt: &R,
+    alloc: Global,
+    mode: &str,
+    rows: &[Row],
+) -> Result<(), Fail> {
+    let recorder = Recorder {
+        places: places(alloc, rows)?,
+        count: AtomicU64::new(0),
+    };
+    let is_printed = is_printed(rt, alloc, mode, &recorder)?;
+    expect(rt, is_printed, mode, "the print");
+    let count = recorder.count.load(SeqCst);
+    expect(rt, count == 20, mode, "the number of passes");
+    expect(rt, are_passed(&recorder.places), mode, "the order");
     Ok(())
+}
+
+/// Whether two workers in a mode print what is wanted, at a gate.
+fn is_printed<R: Threads + Wait + Sync>(
+    rt: &R,
+    alloc: Global,
+    mode: &str,
+    gate: &Recorder,
+) -> Result<bool, NoRoom> {
+    let words = format!(in alloc; "sim --mode {mode} --workers 2")?;
+    let (status, sink) = answer_at(rt, alloc, gate, &words, C17, 64)?;
+    Ok(status == Status::Ok && sink.held() == C17_PRINT.as_bytes())
 }
