@@ -8,7 +8,6 @@ use std::alloc::Global;
 use std::io;
 use std::io::{Error, ErrorKind, Read, Write};
 use std::marker::Brand;
-use std::process::Abort;
 use std::sync::ledger::{Blank, Ledger};
 use std::test::Fail;
 use task_order::Key;
@@ -39,35 +38,33 @@ const READINGS: &[Reading] = &[
 
 #[test]
 fn inputs_are_read_to_their_end(rt: HostRuntime) -> Result<(), Fail> {
-    for &(bytes, limit, fails, want) in READINGS {
-        let mut source = input(rt.alloc(), bytes.as_bytes(), fails)?;
-        let is_wanted = comes_to(rt.alloc(), &mut source, limit, want);
-        assert!(rt; is_wanted, "{bytes} {limit}");
+    for reading in READINGS {
+        assert!(rt; is_read(rt.alloc(), reading)?, "{}", reading.0);
     }
     Ok(())
 }
 
-/// Whether what is left of a source, of which at most `limit` bytes are read, comes to this.
-fn comes_to<S: Source>(
-    alloc: Global,
-    source: &mut S,
-    limit: u64,
-    want: Result<&str, ReadAllFault>,
-) -> bool {
-    match read_all(alloc, source, limit) {
+/// Whether an input is read as wanted.
+fn is_read(alloc: Global, &(bytes, limit, fails, want): &Reading) -> Result<bool, NoRoom> {
+    let mut source = input(alloc, bytes.as_bytes(), fails)?;
+    Ok(match read_all(alloc, &mut source, limit) {
         Ok(text) => want.is_ok_and(|want| text.bytes() == want.as_bytes()),
         Err(fault) => want == Err(fault),
-    }
+    })
 }
 
 #[test]
 fn long_inputs_are_read_in_many_reads(rt: HostRuntime) -> Result<(), Fail> {
     let bytes = vec![in rt.alloc(); 7; 20000]?;
-    let mut clean = CleanSource::new(bytes.clone()?, 3000);
-    assert!(rt; has_all(rt.alloc(), &mut clean, bytes.as_slice())?);
-    let mut reader = ReadEdge::new(bytes.as_slice());
-    assert!(rt; has_all(rt.alloc(), &mut reader, bytes.as_slice())?);
+    assert!(rt; are_read(rt.alloc(), &bytes)?);
     Ok(())
+}
+
+/// Whether these bytes are read from a source in memory and from a reader, and no others.
+fn are_read(alloc: Global, bytes: &[u8]) -> Result<bool, Fail> {
+    let mut clean = CleanSource::new(bytes.to_vec(alloc)?, 3000);
+    let mut reader = ReadEdge::new(bytes);
+    Ok(has_all(alloc, &mut clean, bytes)? && has_all(alloc, &mut reader, bytes)?)
 }
 
 /// Whether a source has these bytes and no others.
@@ -108,17 +105,17 @@ fn pieces_are_written_whole(rt: HostRuntime) -> Result<(), Fail> {
     let mut clean = CleanSink::with_room(rt.alloc(), 4, 9)?;
     assert!(rt; write_whole(&mut clean, b"") == Ok(()));
     write_within_room(&mut clean, b"1234");
-    fill(&rt, &mut clean);
+    assert!(rt; is_filled(&mut clean));
     Ok(())
 }
 
-/// Fills a sink that has room for five more bytes, which takes nothing but an empty piece then.
-fn fill(rt: &impl Abort, sink: &mut CleanSink) {
-    assert!(rt; write_whole(sink, b"56789") == Ok(()));
-    assert!(rt; sink.held() == b"123456789".as_slice());
-    assert!(rt; write_whole(sink, b"") == Ok(()));
-    assert!(rt; write_whole(sink, b"x") == Err(WriteAllFault::WriteFault));
-    assert!(rt; sink.held() == b"123456789".as_slice());
+/// Fills a sink that has room for five more bytes behind the first four. The answer is whether it takes nothing but
+/// an empty piece then.
+fn is_filled(sink: &mut CleanSink) -> bool {
+    let is_full = write_whole(sink, b"56789").is_ok() && sink.held() == b"123456789".as_slice();
+    let takes_nothing = write_whole(sink, b"").is_ok();
+    let is_refused = write_whole(sink, b"x") == Err(WriteAllFault::WriteFault);
+    is_full && takes_nothing && is_refused && sink.held() == b"123456789".as_slice()
 }
 
 /// The room of a sink that takes four bytes at a time, the numbers of the writes that fail, and what comes of
@@ -139,12 +136,17 @@ const WRITINGS: &[Writing] = &[
 
 #[test]
 fn failed_writes_leave_a_front(rt: HostRuntime) -> Result<(), Fail> {
-    for &(room, fails, want, held) in WRITINGS {
-        let mut sink = MemSink::with_room(rt.alloc(), 4, room, fails.to_vec(rt.alloc())?)?;
-        let written = write_whole(&mut sink, b"123456789");
-        assert!(rt; written == want && sink.held() == held.as_bytes(), "{held}");
+    for writing in WRITINGS {
+        assert!(rt; is_left(rt.alloc(), writing)?, "{}", writing.3);
     }
     Ok(())
+}
+
+/// Whether a write leaves what is wanted.
+fn is_left(alloc: Global, &(room, fails, want, held): &Writing) -> Result<bool, NoRoom> {
+    let mut sink = MemSink::with_room(alloc, 4, room, fails.to_vec(alloc)?)?;
+    let written = write_whole(&mut sink, b"123456789");
+    Ok(written == want && sink.held() == held.as_bytes())
 }
 
 /// A reader and a writer that goes wrong in the midst of its bytes.
@@ -226,12 +228,19 @@ fn errors_of_writers_are_handed_on(rt: HostRuntime) {
 }
 
 #[test]
-fn pieces_are_written_to_a_vector(rt: HostRuntime) {
-    let mut bytes = Vec::new(rt.alloc());
-    let mut writer = WriteEdge::new(&mut bytes);
-    assert!(rt; write_whole(&mut writer, b"ab") == Ok(()));
-    assert!(rt; write_whole(&mut writer, b"c") == Ok(()));
+fn pieces_are_written_to_a_vector(rt: HostRuntime) -> Result<(), Fail> {
+    let bytes = written(rt.alloc())?;
     assert!(rt; bytes.as_slice() == b"abc".as_slice());
+    Ok(())
+}
+
+/// A vector to which two pieces were written.
+fn written(alloc: Global) -> Result<Vec<u8>, WriteAllFault> {
+    let mut bytes = Vec::new(alloc);
+    let mut writer = WriteEdge::new(&mut bytes);
+    write_whole(&mut writer, b"ab")?;
+    write_whole(&mut writer, b"c")?;
+    Ok(bytes)
 }
 
 /// The first words of the demonstration in PCG's C code, whose state is 42 and whose stream is 54.
@@ -249,6 +258,10 @@ fn a_seed_gives_its_words(rt: HostRuntime) {
     for &(turn, word) in WORDS {
         assert!(rt; choice(&Seeded, 42, 54, turn) == word);
     }
+}
+
+#[test]
+fn a_still_gate_chooses_the_first(rt: HostRuntime) {
     assert!(rt; choice(&Still, 42, 54, 3) == 0);
 }
 
@@ -256,9 +269,9 @@ fn a_seed_gives_its_words(rt: HostRuntime) {
 /// that it has from the trait.
 #[test]
 fn turns_ahead_have_their_own_words(rt: HostRuntime) {
-    assert!(rt; four_ahead(&Seeded, 42, 54, 1) == [0x7b47f409, 0xba1d3330, 0x83d2f293, 0xbfa4784b]);
-    assert!(rt; four_ahead(&Still, 42, 54, 1) == [0, 0, 0, 0]);
-    assert!(rt; four_ahead(&Turns, 42, 54, 1) == [1, 2, 3, 4]);
+    assert!(rt; has_ahead(&Seeded, [0x7b47f409, 0xba1d3330, 0x83d2f293, 0xbfa4784b]));
+    assert!(rt; has_ahead(&Still, [0, 0, 0, 0]));
+    assert!(rt; has_ahead(&Turns, [1, 2, 3, 4]));
 }
 
 /// A gate that chooses the number of the turn.
@@ -283,10 +296,11 @@ fn opens<G: Gate>(gate: &G) -> bool {
     gate.is_open()
 }
 
-fn four_ahead<G: Gate>(gate: &G, seed: u64, worker: u32, turn: u64) -> [u64; 4] {
+/// Whether a gate has these picks for four turns ahead.
+fn has_ahead<G: Gate>(gate: &G, want: [u64; 4]) -> bool {
     let mut picks = [9; 4];
-    gate.choose_ahead(seed, worker, turn, &mut picks);
-    picks
+    gate.choose_ahead(42, 54, 1, &mut picks);
+    picks == want
 }
 
 fn choice<G: Gate>(gate: &G, seed: u64, worker: u32, turn: u64) -> u64 {

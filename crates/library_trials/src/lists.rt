@@ -51,6 +51,27 @@ fn take(rt: &impl Abort, list: &mut TieredList<u64>, items: &mut Vec<u64>, place
     assert!(rt; list.remove(place) == items.remove(place));
 }
 
+/// Takes an item out of a list and out of a vector, if there is one, or puts one into both, at a place that the seed
+/// tells.
+fn put_or_take(
+    rt: &impl Abort,
+    list: &mut TieredList<u64>,
+    items: &mut Vec<u64>,
+    seed: u64,
+    item: u64,
+    takes: bool,
+) -> Result<(), NoRoom>
+    requires same { list.old.items ≡ items.old.items }
+    ensures same { OnOk result (list.new.items ≡ items.new.items) }
+{
+    let len = items.len();
+    if takes && len > 0 {
+        take(rt, list, items, place_below(seed, len));
+        return Ok(());
+    }
+    put(list, items, place_below(seed, len + 1), item)
+}
+
 #[test]
 fn calls_are_those_on_a_vector(rt: HostRuntime) -> Result<(), Fail> {
     let alloc = rt.alloc();
@@ -59,55 +80,55 @@ fn calls_are_those_on_a_vector(rt: HostRuntime) -> Result<(), Fail> {
     let mut seed = 7;
     for step in 0..6000u64 {
         seed = next(seed);
-        let len = items.len();
-        if step % 4 == 3 && len > 0 {
-            take(&rt, &mut list, &mut items, place_below(seed, len));
-        } else if len < 10000 {
-            put(&mut list, &mut items, place_below(seed, len + 1), step)?;
-        }
+        put_or_take(&rt, &mut list, &mut items, seed, step, step % 4 == 3)?;
     }
-    check_items(&rt, &list, items.as_slice());
+    assert!(rt; has_items(&list, items.as_slice()));
     Ok(())
 }
 
-/// Checks that a list has these items and no others.
-fn check_items(rt: &impl Abort, list: &TieredList<u64>, items: &[u64]) {
-    assert!(rt; list.len() == items.len());
+/// Whether a list has these items and no others.
+fn has_items(list: &TieredList<u64>, items: &[u64]) -> bool {
     for (place, item) in items.iter().enumerate() {
-        assert!(rt; list.get(place).copied() == Some(*item));
+        if list.get(place) != Some(item) {
+            return false;
+        }
     }
-    assert!(rt; list.get(items.len()).copied() == None);
+    list.len() == items.len() && list.get(items.len()).is_none()
 }
 
 /// Lists of few items: each comes and goes in place at first, and then also in a ring.
 #[test]
 fn few_items_come_and_go(rt: HostRuntime) -> Result<(), Fail> {
-    let alloc = rt.alloc();
     let mut seed = 11;
     for _round in 0..40u64 {
-        let mut list: TieredList<u64> = TieredList::new(alloc, 0);
-        let mut items: Vec<u64> = Vec::new(alloc);
-        for step in 0..80u64 {
-            seed = next(seed);
-            let len = items.len();
-            let most = if step < 40 { 10 } else { 14 };
-            if len == 0 || (len < most && (seed >> 45) % 2 == 0) {
-                put(&mut list, &mut items, place_below(seed, len + 1), step)?;
-            } else {
-                take(&rt, &mut list, &mut items, place_below(seed, len));
-            }
-            check_places(&rt, &list, items.as_slice());
-        }
+        seed = come_and_go(&rt, rt.alloc(), seed)?;
     }
     Ok(())
 }
 
-/// Checks the first fifteen places of a list, with items and without.
-fn check_places(rt: &impl Abort, list: &TieredList<u64>, items: &[u64]) {
-    assert!(rt; list.len() == items.len());
-    for place in 0..15 {
-        assert!(rt; list.get(place).copied() == items.get(place).copied());
+/// Puts few items into a list and takes them out, and checks the list after each step. The answer is the next seed.
+fn come_and_go(rt: &impl Abort, alloc: Global, seed: u64) -> Result<u64, NoRoom> {
+    let mut list: TieredList<u64> = TieredList::new(alloc, 0);
+    let mut items: Vec<u64> = Vec::new(alloc);
+    let mut seed = seed;
+    for step in 0..80u64 {
+        seed = next(seed);
+        let most = if step < 40 { 10 } else { 14 };
+        let takes = items.len() >= most || (seed >> 45) % 2 == 1;
+        put_or_take(rt, &mut list, &mut items, seed, step, takes)?;
+        assert!(rt; has_places(&list, items.as_slice()));
     }
+    Ok(seed)
+}
+
+/// Whether a list has these items at its first fifteen places.
+fn has_places(list: &TieredList<u64>, items: &[u64]) -> bool {
+    for place in 0..15 {
+        if list.get(place) != items.get(place) {
+            return false;
+        }
+    }
+    list.len() == items.len()
 }
 
 #[test]
@@ -118,12 +139,11 @@ fn items_leave_from_both_ends(rt: HostRuntime) -> Result<(), Fail> {
         list.insert(list.len(), item);
     }
     for item in 0..400u64 {
-        assert!(rt; list.remove(0) == item);
-        assert!(rt; list.remove(list.len() - 1) == 999 - item);
+        let (first, last) = (list.remove(0), list.remove(list.len() - 1));
+        assert!(rt; first == item && last == 999 - item);
     }
-    assert!(rt; list.len() == 200);
-    assert!(rt; list.get(0).copied() == Some(400));
-    assert!(rt; list.get(199).copied() == Some(599));
+    let ends = (list.get(0).copied(), list.get(199).copied());
+    assert!(rt; list.len() == 200 && ends == (Some(400), Some(599)));
     Ok(())
 }
 
@@ -139,15 +159,23 @@ fn numbers(alloc: Global, count: u64) -> Result<TieredList<u64>, NoRoom> {
 
 #[test]
 fn refused_room_leaves_the_items(rt: HostRuntime) -> Result<(), Fail> {
-    for count in [0, 1, 300u64] {
+    for &count in COUNTS {
         let mut list = numbers(rt.alloc(), count)?;
-        for additional in [usize::MAX, 1 << 63] {
-            assert!(rt; list.reserve(additional).is_err());
-        }
-        assert!(rt; list.len() as u64 == count);
-        for number in 0..count {
-            assert!(rt; list.get(number as usize).copied() == Some(number));
-        }
+        let is_refused = list.reserve(usize::MAX).is_err() && list.reserve(1 << 63).is_err();
+        assert!(rt; is_refused && has_numbers(&list, count));
     }
     Ok(())
+}
+
+/// How many items lists have.
+const COUNTS: &[u64] = &[0, 1, 300];
+
+/// Whether a list has the numbers below one, and no others.
+fn has_numbers(list: &TieredList<u64>, count: u64) -> bool {
+    for number in 0..count {
+        if list.get(number as usize) != Some(&number) {
+            return false;
+        }
+    }
+    list.len() as u64 == count
 }

@@ -34,16 +34,31 @@ fn three_texts(alloc: Global) -> Result<Log, NoRoom> {
     Ok(log)
 }
 
+/// Whether a log has this text.
+fn has_text(log: &Log, text: &[u8]) -> Result<bool, NoRoom> {
+    Ok(log.all()?.bytes() == text)
+}
+
+/// Takes out the text before the second task's. The answer is whether it is the first task's, and the second's is left.
+fn gives_first(log: &mut Log, alloc: Global) -> Result<bool, NoRoom> {
+    let bound = key(alloc, 1)?;
+    let first = log.take_below(&bound)?;
+    Ok(first.bytes() == b"a".as_slice() && has_text(log, b"b")?)
+}
+
+/// Takes out all texts. The answer is whether they are the second task's, and the log is silent then.
+fn gives_second(log: &mut Log) -> Result<bool, NoRoom> {
+    let was_silent = log.is_silent();
+    let second = log.take_all()?;
+    Ok(!was_silent && second.bytes() == b"b".as_slice() && log.is_silent())
+}
+
 #[test]
 fn texts_are_joined_in_key_order(rt: HostRuntime) -> Result<(), Fail> {
     let mut log = three_texts(rt.alloc())?;
-    let bound = key(rt.alloc(), 1)?;
-    assert!(rt; log.all()?.bytes() == b"ab".as_slice());
-    assert!(rt; log.take_below(&bound)?.bytes() == b"a".as_slice());
-    assert!(rt; log.all()?.bytes() == b"b".as_slice());
-    assert!(rt; !log.is_silent());
-    assert!(rt; log.take_all()?.bytes() == b"b".as_slice());
-    assert!(rt; log.is_silent());
+    assert!(rt; has_text(&log, b"ab")?);
+    assert!(rt; gives_first(&mut log, rt.alloc())?);
+    assert!(rt; gives_second(&mut log)?);
     assert!(rt; log.take_all()?.is_empty());
     Ok(())
 }

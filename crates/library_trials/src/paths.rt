@@ -6,7 +6,7 @@ use std::test::Fail;
 use task_order::Path;
 
 /// The path with these numbers.
-fn path(alloc: Global, first: u32, rest: &[u32]) -> Result<Path, NoRoom> {
+pub(crate) fn path(alloc: Global, first: u32, rest: &[u32]) -> Result<Path, NoRoom> {
     let mut path = Path::root(alloc, first)?;
     for number in rest {
         path = path.child(*number)?;
@@ -15,7 +15,7 @@ fn path(alloc: Global, first: u32, rest: &[u32]) -> Result<Path, NoRoom> {
 }
 
 /// Paths in order, and what each prints: among them the shortest and the longest items.
-const PRINTED: [(u32, &[u32], &str); 9] = [
+const PRINTED: &[(u32, &[u32], &str)] = &[
     (0, &[], "[0]"),
     (
         0,
@@ -42,17 +42,21 @@ const PRINTED: [(u32, &[u32], &str); 9] = [
 #[test]
 fn paths_print_their_numbers(rt: HostRuntime) -> Result<(), Fail> {
     let mut before = path(rt.alloc(), 0, &[])?;
-    for (first, rest, text) in PRINTED {
+    for &(first, rest, text) in PRINTED {
         let path = path(rt.alloc(), first, rest)?;
-        assert!(rt; format!(in rt.alloc(); "{path:?}")?.as_str() == text);
-        assert!(rt; before <= path);
+        assert!(rt; is_printed(rt.alloc(), &path, text)? && before <= path);
         before = path;
     }
     Ok(())
 }
 
+/// Whether a path prints this.
+fn is_printed(alloc: Global, path: &Path, text: &str) -> Result<bool, Fail> {
+    Ok(format!(in alloc; "{path:?}")?.as_str() == text)
+}
+
 /// Paths, and how each begins: as zeros where it has too few bytes, and as before where it goes on.
-const BEGINNINGS: [(u32, &[u32], u64); 7] = [
+const BEGINNINGS: &[(u32, &[u32], u64)] = &[
     (0, &[], 0),
     (7, &[], 0xf600_0000_0000_0000),
     (7, &[3, 0, 3, 258], 0xf6f2_e2ff_0000_0102),
@@ -64,9 +68,8 @@ const BEGINNINGS: [(u32, &[u32], u64); 7] = [
 
 #[test]
 fn paths_begin_with_their_first_numbers(rt: HostRuntime) -> Result<(), Fail> {
-    for (first, rest, beginning) in BEGINNINGS {
-        let path = path(rt.alloc(), first, rest)?;
-        assert!(rt; path.beginning() == beginning);
+    for &(first, rest, beginning) in BEGINNINGS {
+        assert!(rt; path(rt.alloc(), first, rest)?.beginning() == beginning);
     }
     Ok(())
 }

@@ -4,6 +4,7 @@ ghost use Rattle.std.specs.Bool.{OnTrue};
 ghost use Rattle.std.specs.Prelude.{◌≡◌, IfOk};
 ghost use Rattle.task_order.specs.TaskList.{IsNewKey};
 
+use crate::paths::path;
 use kdg_text::NoRoom;
 use std::alloc::Global;
 use std::process::Abort;
@@ -16,13 +17,9 @@ const BODY: Body = Body {
     arg: 5_000_000_000,
 };
 
-/// The path with these numbers.
-fn path(alloc: Global, first: u32, rest: &[u32]) -> Result<Path, NoRoom> {
-    let mut path = Path::root(alloc, first)?;
-    for number in rest {
-        path = path.child(*number)?;
-    }
-    Ok(path)
+/// Whether a key prints this.
+fn is_printed(alloc: Global, key: &Key, text: &str) -> Result<bool, Fail> {
+    Ok(format!(in alloc; "{key:?}")?.as_str() == text)
 }
 
 /// Whether no task of the list has the key.
@@ -46,10 +43,13 @@ fn put(rt: &impl Abort, tasks: &mut TaskList, task: Task) -> Result<(), NoRoom> 
 #[test]
 fn paths_and_keys_grow(rt: HostRuntime) -> Result<(), Fail> {
     let parent = root_key(rt.alloc(), 2)?;
-    let path = parent.path.child(1)?;
-    assert!(rt; format!(in rt.alloc(); "{path:?}")?.as_str() == "[2, 1]");
-    assert!(rt; format!(in rt.alloc(); "{parent:?}")?.as_str() == "Key { prio: 3, path: [2] }");
-    assert!(rt; parent.child(1, 3)? == Key { prio: 3, path });
+    let child = Key {
+        prio: 3,
+        path: parent.path.child(1)?,
+    };
+    assert!(rt; is_printed(rt.alloc(), &parent, "Key { prio: 3, path: [2] }")?);
+    assert!(rt; is_printed(rt.alloc(), &child, "Key { prio: 3, path: [2, 1] }")?);
+    assert!(rt; parent.child(1, 3)? == child);
     Ok(())
 }
 
@@ -74,17 +74,19 @@ fn first_tasks_are_listed(rt: HostRuntime) -> Result<(), Fail> {
     Ok(())
 }
 
+/// The priorities and the paths of five tasks, out of order.
+const KEYS: &[(u64, u32, &[u32])] = &[
+    (4, 0, &[]),
+    (3, 3, &[]),
+    (3, 2, &[1]),
+    (3, 2, &[0]),
+    (3, 2, &[]),
+];
+
 /// A list of five tasks, put in out of order.
 fn five_tasks(rt: &impl Abort, alloc: Global) -> Result<TaskList, NoRoom> {
-    let keys: [(u64, u32, &[u32]); 5] = [
-        (4, 0, &[]),
-        (3, 3, &[]),
-        (3, 2, &[1]),
-        (3, 2, &[0]),
-        (3, 2, &[]),
-    ];
     let mut tasks = TaskList::new(alloc);
-    for (prio, first, rest) in keys {
+    for &(prio, first, rest) in KEYS {
         let path = path(alloc, first, rest)?;
         let key = Key { prio, path };
         put(rt, &mut tasks, Task { key, body: BODY })?;
@@ -92,8 +94,12 @@ fn five_tasks(rt: &impl Abort, alloc: Global) -> Result<TaskList, NoRoom> {
     Ok(tasks)
 }
 
-const IN_ORDER: [&str; 5] = [
-    "Key { prio: 3, path: [2] }",
+/// The first of them.
+const FIRST: &str = "Key { prio: 3, path: [2] }";
+
+/// All of them in their order.
+const IN_ORDER: &[&str] = &[
+    FIRST,
     "Key { prio: 3, path: [2, 0] }",
     "Key { prio: 3, path: [2, 1] }",
     "Key { prio: 3, path: [3] }",
@@ -103,15 +109,11 @@ const IN_ORDER: [&str; 5] = [
 #[test]
 fn tasks_are_walked_in_key_order(rt: HostRuntime) -> Result<(), Fail> {
     let tasks = five_tasks(&rt, rt.alloc())?;
-    let mut place = 0;
-    for task in tasks.iter() {
-        assert!(rt; place < tasks.len());
-        assert!(rt; place < IN_ORDER.len());
-        assert!(rt; format!(in rt.alloc(); "{:?}", task.key)?.as_str() == IN_ORDER[place]);
-        assert!(rt; task == tasks.at(place));
-        place += 1;
+    assert!(rt; tasks.len() == 5);
+    for (place, (task, key)) in tasks.iter().zip(IN_ORDER).enumerate() {
+        assert!(rt; is_printed(rt.alloc(), &task.key, key)?);
+        assert!(rt; place < tasks.len() && task == tasks.at(place));
     }
-    assert!(rt; place == 5);
     Ok(())
 }
 
@@ -121,10 +123,9 @@ fn tasks_come_out_in_key_order(rt: HostRuntime) -> Result<(), Fail> {
     assert!(rt; !tasks.is_empty());
     for key in IN_ORDER {
         let task = tasks.take_first().ok_or("none is left")?;
-        assert!(rt; format!(in rt.alloc(); "{:?}", task.key)?.as_str() == key);
+        assert!(rt; is_printed(rt.alloc(), &task.key, key)?);
     }
-    assert!(rt; tasks.is_empty());
-    assert!(rt; tasks.take_first() == None);
+    assert!(rt; tasks.is_empty() && tasks.take_first().is_none());
     Ok(())
 }
 
@@ -142,10 +143,9 @@ fn tasks_are_found_by_key(rt: HostRuntime) -> Result<(), Fail> {
     let present = root_key(rt.alloc(), 3)?;
     assert!(rt; tasks.rank(&present) == 3);
     let found = tasks.get(&present).ok_or("the task is not there")?;
-    assert!(rt; found.key == present);
-    assert!(rt; found.body == BODY);
+    assert!(rt; found.key == present && found.body == BODY);
     let first = tasks.first().ok_or("none is there")?;
-    assert!(rt; format!(in rt.alloc(); "{:?}", first.key)?.as_str() == IN_ORDER[0]);
+    assert!(rt; is_printed(rt.alloc(), &first.key, FIRST)?);
     Ok(())
 }
 
@@ -153,8 +153,7 @@ fn tasks_are_found_by_key(rt: HostRuntime) -> Result<(), Fail> {
 fn tasks_without_the_key_stay(rt: HostRuntime) -> Result<(), Fail> {
     let mut tasks = five_tasks(&rt, rt.alloc())?;
     let absent = root_key(rt.alloc(), 9)?;
-    assert!(rt; tasks.get(&absent).is_none());
-    assert!(rt; tasks.remove(&absent) == None);
+    assert!(rt; tasks.get(&absent).is_none() && tasks.remove(&absent).is_none());
     assert!(rt; tasks.len() == 5);
     Ok(())
 }
@@ -164,11 +163,9 @@ fn tasks_leave_by_key(rt: HostRuntime) -> Result<(), Fail> {
     let mut tasks = five_tasks(&rt, rt.alloc())?;
     let present = root_key(rt.alloc(), 3)?;
     let removed = tasks.remove(&present).ok_or("the task is not there")?;
-    assert!(rt; removed.key == present);
-    assert!(rt; tasks.get(&present).is_none());
+    assert!(rt; removed.key == present && tasks.get(&present).is_none());
     let taken = tasks.take_first().ok_or("none is left")?;
-    assert!(rt; format!(in rt.alloc(); "{:?}", taken.key)?.as_str() == IN_ORDER[0]);
-    assert!(rt; tasks.len() == 3);
+    assert!(rt; is_printed(rt.alloc(), &taken.key, FIRST)? && tasks.len() == 3);
     Ok(())
 }
 

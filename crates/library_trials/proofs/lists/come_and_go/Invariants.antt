@@ -1,5 +1,5 @@
 use Rattle.std.proofs.Common.{◌≡◌}
-use Rattle.library_trials.proofs.lists.few_items_come_and_go.Given as goal
+use Rattle.library_trials.proofs.lists.come_and_go.Given as goal
 
 -- both have the same items
 abbrev pub invariant-loop-step : goal.invariant-loop-step
