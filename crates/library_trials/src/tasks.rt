@@ -109,24 +109,42 @@ const IN_ORDER: &[&str] = &[
 #[test]
 fn tasks_are_walked_in_key_order(rt: HostRuntime) -> Result<(), Fail> {
     let tasks = five_tasks(&rt, rt.alloc())?;
-    assert!(rt; tasks.len() == 5);
-    for (place, (task, key)) in tasks.iter().zip(IN_ORDER).enumerate() {
-        assert!(rt; is_printed(rt.alloc(), &task.key, key)?);
-        assert!(rt; place < tasks.len() && task == tasks.at(place));
-    }
+    assert!(rt; are_in_order(&tasks, rt.alloc())?);
     Ok(())
+}
+
+/// Whether a list has the five tasks in their order.
+fn are_in_order(tasks: &TaskList, alloc: Global) -> Result<bool, Fail> {
+    let mut place = 0;
+    for task in tasks.iter() {
+        if place >= tasks.len() || task != tasks.at(place) {
+            return Ok(false);
+        }
+        let key = IN_ORDER.get(place).ok_or("there are too many tasks")?;
+        if !is_printed(alloc, &task.key, key)? {
+            return Ok(false);
+        }
+        place += 1;
+    }
+    Ok(place == 5)
 }
 
 #[test]
 fn tasks_come_out_in_key_order(rt: HostRuntime) -> Result<(), Fail> {
     let mut tasks = five_tasks(&rt, rt.alloc())?;
-    assert!(rt; !tasks.is_empty());
     for key in IN_ORDER {
-        let task = tasks.take_first().ok_or("none is left")?;
-        assert!(rt; is_printed(rt.alloc(), &task.key, key)?);
+        assert!(rt; !tasks.is_empty());
+        assert!(rt; gives(&mut tasks, rt.alloc(), key)?);
     }
-    assert!(rt; tasks.is_empty() && tasks.take_first().is_none());
+    assert!(rt; tasks.is_empty());
+    assert!(rt; tasks.take_first().is_none());
     Ok(())
+}
+
+/// Whether the first task that is taken out of a list has a key that prints this.
+fn gives(tasks: &mut TaskList, alloc: Global, key: &str) -> Result<bool, Fail> {
+    let task = tasks.take_first().ok_or("none is left")?;
+    is_printed(alloc, &task.key, key)
 }
 
 /// The key of a first task at priority 3.
@@ -142,11 +160,23 @@ fn tasks_are_found_by_key(rt: HostRuntime) -> Result<(), Fail> {
     let tasks = five_tasks(&rt, rt.alloc())?;
     let present = root_key(rt.alloc(), 3)?;
     assert!(rt; tasks.rank(&present) == 3);
-    let found = tasks.get(&present).ok_or("the task is not there")?;
-    assert!(rt; found.key == present && found.body == BODY);
-    let first = tasks.first().ok_or("none is there")?;
-    assert!(rt; is_printed(rt.alloc(), &first.key, FIRST)?);
+    assert!(rt; has_task(&tasks, &present));
+    assert!(rt; begins_with(&tasks, rt.alloc(), FIRST)?);
     Ok(())
+}
+
+/// Whether the list has a task with the key.
+fn has_task(tasks: &TaskList, key: &Key) -> bool {
+    match tasks.get(key) {
+        Some(found) => found.key == *key && found.body == BODY,
+        None => false,
+    }
+}
+
+/// Whether the key of the first task of a list prints this.
+fn begins_with(tasks: &TaskList, alloc: Global, key: &str) -> Result<bool, Fail> {
+    let first = tasks.first().ok_or("none is there")?;
+    is_printed(alloc, &first.key, key)
 }
 
 #[test]
@@ -164,8 +194,8 @@ fn tasks_leave_by_key(rt: HostRuntime) -> Result<(), Fail> {
     let present = root_key(rt.alloc(), 3)?;
     let removed = tasks.remove(&present).ok_or("the task is not there")?;
     assert!(rt; removed.key == present && tasks.get(&present).is_none());
-    let taken = tasks.take_first().ok_or("none is left")?;
-    assert!(rt; is_printed(rt.alloc(), &taken.key, FIRST)? && tasks.len() == 3);
+    assert!(rt; gives(&mut tasks, rt.alloc(), FIRST)?);
+    assert!(rt; tasks.len() == 3);
     Ok(())
 }
 
