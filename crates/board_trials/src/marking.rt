@@ -175,6 +175,23 @@ pub(crate) fn plain_searches<R: Threads + Sync>(
     Ok(alike)
 }
 
+/// Two markers mark the sets in turn.
+fn mark_in_turn(board: &Board, first: &mut Marker, second: &mut Marker, sets: &[RwSet])
+    requires first_here { first.old.board ≡ board.now.id }
+    requires second_here { second.old.board ≡ board.now.id }
+    requires sets { CanMark sets.now board.now.cells }
+    ensures first { first.new ≡ record first.old { marks = first.new.marks } }
+    ensures second { second.new ≡ record second.old { marks = second.new.marks } }
+{
+    for (number, set) in sets.iter().enumerate() {
+        if number % 2 == 0 {
+            board.mark(first, number as u32, set);
+        } else {
+            board.mark(second, number as u32, set);
+        }
+    }
+}
+
 /// Two markers mark the sets in turn, and are joined.
 pub(crate) fn marked_by_two(alloc: Global, sets: &[RwSet], cells: u32) -> Result<Least, NoRoom>
     requires sets { CanMark sets.now cells }
@@ -182,15 +199,19 @@ pub(crate) fn marked_by_two(alloc: Global, sets: &[RwSet], cells: u32) -> Result
 {
     let (board, mut first) = Board::new(alloc, cells)?;
     let mut second = board.split(&mut first);
-    for (number, set) in sets.iter().enumerate() {
-        if number % 2 == 0 {
-            board.mark(&mut first, number as u32, set);
-        } else {
-            board.mark(&mut second, number as u32, set);
-        }
-    }
+    mark_in_turn(&board, &mut first, &mut second, sets);
     board.join(&mut first, second);
     Ok(board.close(first))
+}
+
+/// The set of one access below a bound.
+fn single_set(alloc: Global, loc: u32, access: Access, cells: u32) -> Result<RwSet, NoRoom>
+    requires { loc < cells }
+    ensures { IfOk result (λ set. IsInRange set cells) }
+{
+    let mut set = RwSet::new(alloc);
+    set.add(loc, access)?;
+    Ok(set)
 }
 
 /// The sets of one access each. A location that isn't below the bound is left out.
@@ -205,9 +226,7 @@ pub(crate) fn single_sets(
     let mut sets = Vec::new(alloc);
     for &(loc, access) in accesses {
         if loc < cells {
-            let mut set = RwSet::new(alloc);
-            set.add(loc, access)?;
-            sets.push(set)?;
+            sets.push(single_set(alloc, loc, access, cells)?)?;
         }
     }
     Ok(sets)
