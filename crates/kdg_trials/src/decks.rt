@@ -1,5 +1,7 @@
 //! The inputs of the examples.
 
+pub use worked_decks::{C17_WITH_HEADER, RING};
+
 /// The first 151 bytes of the ISCAS-85 circuit c17, and what stands behind them.
 macro_rules! c17 {
     ($behind:literal) => {
@@ -22,11 +24,6 @@ pub const C17: &str = c17!("23 = NAND(16, 19)\n");
 /// The circuit, and a zero byte.
 pub const C17_AND_ZERO: &str = c17!("23 = NAND(16, 19)\n\0");
 
-/// c17 as it is handed round: with comments, blank lines, and a carriage return before each line
-/// feed.
-pub const C17_WITH_HEADER: &str =
-    "# c17\r\n# 5 inputs\r\n# 2 outputs\r\n# 0 inverter\r\n# 6 gates ( 6 NANDs )\r\n\r\nINPUT(1)\r\nINPUT(2)\r\nINPUT(3)\r\nINPUT(6)\r\nINPUT(7)\r\n\r\nOUTPUT(22)\r\nOUTPUT(23)\r\n\r\n10 = NAND(1, 3)\r\n11 = NAND(3, 6)\r\n16 = NAND(2, 11)\r\n19 = NAND(11, 7)\r\n22 = NAND(10, 16)\r\n23 = NAND(16, 19)\r\n";
-
 /// c17 with a stimulus at 10.
 pub const C17_STIMULUS: &str = c17!("23 = NAND(16, 19)\n@ 10 11111\n");
 
@@ -34,10 +31,7 @@ pub const C17_STIMULUS: &str = c17!("23 = NAND(16, 19)\n@ 10 11111\n");
 pub const C17_STIMULUS_PRINT: &str =
     "1 22 1\n1 23 1\n2 22 0\n2 23 0\n12 22 1\n12 23 1\n13 23 0\nfinal 22 1\nfinal 23 0\ntasks 49\n";
 
-/// A gate that reads itself, with a stimulus.
-pub const RING: &str = "INPUT(a)\nOUTPUT(q)\nq = NAND(a, q)\n@ 2 1\n";
-
-/// The first lines of its log, more than 10 tasks write.
+/// The first lines of the log of `RING`, more than 10 tasks write.
 pub const RING_LOG: &str = "1 q 1\n3 q 0\n4 q 1\n5 q 0\n6 q 1\n7 q 0\n8 q 1\n9 q 0\n";
 
 /// The lines of its rounds of at most 10 tasks.
