@@ -5,7 +5,8 @@ ghost use Rattle.hook_app.specs.Kept.{HookKeeps, IsAnswered, IsAsked};
 ghost use Rattle.hook_app.specs.OneLocation.{own_set};
 ghost use Rattle.engine_trials.specs.Adding.{adding, adding_sets, first_additions, next_children, sum_line, sum_set};
 
-use super::hooks::{Runs, runs_of};
+use super::hooks::all_meet;
+use super::outcomes::Aim;
 use app_laws::{Child, ChildList, Effect};
 use cell_store::Bundle;
 use graph_update::OverCause;
@@ -30,13 +31,15 @@ impl Deed for Adder {
     ghost meaning = { λ adder. adding };
 }
 
-/// What the adder's runs come to under a lookahead and a budget.
-pub fn adder_runs<R: Threads + Wait + Sync>(
+/// Whether the adder's runs under a lookahead and a budget meet an aim, in so many rounds.
+pub fn adder_meets<R: Threads + Wait + Sync, W: Aim<u64>>(
     rt: &R,
     alloc: Global,
     ahead: u64,
     budget: u64,
-) -> Result<Runs, OverCause>
+    rounds: u64,
+    aim: &W,
+) -> Result<bool, OverCause>
     requires ahead { ahead ≤ 1 }
     requires budget { budget ≤ 1_000_000_000 }
 {
@@ -44,34 +47,56 @@ pub fn adder_runs<R: Threads + Wait + Sync>(
         requires { IsAsked adding adding_sets task.now bundle }
         ensures { IsAnswered adding adding_sets task.now bundle result }
     { act(alloc, task, bundle) };
-    runs_by(rt, alloc, ahead, add, budget)
+    hook_meets(rt, alloc, ahead, add, budget, rounds, aim)
 }
 
-/// What the runs come to by an operator that keeps the adder's deed.
-fn runs_by<R: Threads + Wait + Sync, H: Hook<u64> + Sync>(
+/// Whether the runs of an operator that keeps the adder's deed do.
+fn hook_meets<R: Threads + Wait + Sync, H: Hook<u64> + Sync, W: Aim<u64>>(
     rt: &R,
     alloc: Global,
     ahead: u64,
     hook: H,
     budget: u64,
-) -> Result<Runs, OverCause>
+    rounds: u64,
+    aim: &W,
+) -> Result<bool, OverCause>
     requires keeps { HookKeeps adding 3 adding_sets ahead (H.may hook) (H.gives hook) }
     requires budget { budget ≤ 1_000_000_000 }
 {
     let (sets, first) = (sets(alloc)?, first_tasks(alloc)?);
     let app = HookApp::new(&Adder, 3, sets, ahead, hook);
-    runs_of(rt, alloc, &app, &[0, 0, 0], first.items(), budget)
+    all_meet(
+        rt,
+        alloc,
+        &app,
+        &[0, 0, 0],
+        first.items(),
+        budget,
+        rounds,
+        aim,
+    )
 }
 
 /// The set of each kind of task.
 pub fn sets(alloc: Global) -> Result<Vec<RwSet>, NoRoom>
     ensures { IfOk result (λ sets. sets.items ≡ adding_sets) }
 {
-    let mut total = RwSet::new(alloc);
-    total.add(0, Access::Read)?;
-    total.add(1, Access::Read)?;
-    total.add(2, Access::Write)?;
-    Ok(vec![in alloc; own_set(alloc, 0)?, own_set(alloc, 1)?, total]?)
+    let mut sets = Vec::new(alloc);
+    sets.push(own_set(alloc, 0)?)?;
+    sets.push(own_set(alloc, 1)?)?;
+    sets.push(sum_set(alloc)?)?;
+    Ok(sets)
+}
+
+/// The set of the sum.
+fn sum_set(alloc: Global) -> Result<RwSet, NoRoom>
+    ensures { IfOk result (λ set. set ≡ sum_set) }
+{
+    let mut set = RwSet::new(alloc);
+    set.add(0, Access::Read)?;
+    set.add(1, Access::Read)?;
+    set.add(2, Access::Write)?;
+    Ok(set)
 }
 
 /// The set that writes one cell.

@@ -25,6 +25,10 @@ mod recorded_sets;
 #[cfg(test)]
 mod rounds;
 #[cfg(test)]
+mod starts;
+#[cfg(test)]
+mod streams;
+#[cfg(test)]
 mod tight;
 #[cfg(test)]
 mod trails;

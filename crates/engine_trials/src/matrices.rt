@@ -1,13 +1,9 @@
 //! The engine on a matrix, whose sets move.
 
-ghost use Rattle.std.specs.Prelude.{◌<◌, [], IfOk};
-ghost use Rattle.gf2_eliminate.specs.Elimination.{elimination};
-ghost use Rattle.engine_trials.specs.InHand.{AreInHand};
+ghost use Rattle.std.specs.Prelude.{◌<◌};
 
-use super::driving::begin;
-use super::recorded_sets::{Accesses, Turn, has_sets_in_turn};
+use super::recorded_sets::{Accesses, Turn, has_sets_from_start};
 use gf2_eliminate::Matrix;
-use graph_update::{BeginFault, Engine};
 use kdg_text::NoRoom;
 use mtx_reader::read_mtx;
 use rw_sets::Access::Write;
@@ -38,6 +34,8 @@ const COLUMN_3_MERGED: Accesses = &[
 /// The set that column 4 declares: rows 2 and 3, and the columns of their ones.
 const COLUMN_4: Accesses = &[(1, Write), (2, Write), (4, Write), (5, Write), (6, Write)];
 
+const AT_FIRST: [Accesses; 2] = [COLUMN_3, COLUMN_4];
+
 /// Column 2 ends, and then column 1.
 const TURNS: [Turn; 2] = [
     Turn {
@@ -55,19 +53,6 @@ fn matrix_of(alloc: Global, input: &str) -> Result<Matrix, Fail> {
     Ok(Matrix::new(alloc, read_mtx(alloc, input.as_bytes())?))
 }
 
-/// An engine at a matrix's first tasks.
-fn begin_matrix(alloc: Global, matrix: &Matrix) -> Result<Engine<'_, Matrix>, BeginFault>
-    ensures { IfOk result (λ engine. AreInHand (elimination engine.app.rows engine.app.cols) engine.progress []) }
-{
-    begin(
-        alloc,
-        matrix,
-        matrix.first_cells()?,
-        matrix.first_tasks()?,
-        1000,
-    )
-}
-
 /// The key of the task of a column, which counts from 1.
 fn column(alloc: Global, number: u32) -> Result<Key, NoRoom>
     requires { 0 < number }
@@ -83,9 +68,15 @@ fn column(alloc: Global, number: u32) -> Result<Key, NoRoom>
 /// ends, that of column 3 is the declared one again.
 #[test]
 fn a_column_has_the_merge_while_a_line_is_away(rt: HostRuntime) -> Result<(), Fail> {
-    let matrix = matrix_of(rt.alloc(), THREE_BY_FOUR)?;
-    let engine = begin_matrix(rt.alloc(), &matrix)?;
     let keys = [column(rt.alloc(), 3)?, column(rt.alloc(), 4)?];
-    assert!(rt; has_sets_in_turn(rt.alloc(), engine, &keys, &[COLUMN_3, COLUMN_4], &TURNS)?);
+    assert!(rt; columns_have_sets(rt.alloc(), &keys)?);
     Ok(())
+}
+
+/// Whether the tasks of these keys have the sets of the turns.
+fn columns_have_sets(alloc: Global, keys: &[Key]) -> Result<bool, Fail> {
+    let matrix = matrix_of(alloc, THREE_BY_FOUR)?;
+    let have_sets = has_sets_from_start(alloc, &matrix, keys, &AT_FIRST, &TURNS);
+    drop(matrix);
+    Ok(have_sets?)
 }

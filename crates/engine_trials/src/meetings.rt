@@ -1,14 +1,11 @@
 //! The engine on introductions, whose sets move.
 
-ghost use Rattle.std.specs.Prelude.{◌≡◌, ◌<◌, ◌^◌, [], length, IfOk};
+ghost use Rattle.std.specs.Prelude.{◌≡◌, ◌<◌, ◌^◌, length, IfOk};
 ghost use Rattle.app_laws.specs.Applications.{AreFitStarts};
 ghost use Rattle.example_app.specs.Introduction.{AreContacts, introductions};
-ghost use Rattle.engine_trials.specs.InHand.{AreInHand};
 
-use super::driving::begin;
 use super::recorded_sets::{Accesses, Turn, has_sets_in_turn};
 use example_app::Introductions;
-use graph_update::{BeginFault, Engine};
 use kdg_text::NoRoom;
 use rw_sets::Access::{Read, Write};
 use std::alloc::Global;
@@ -44,20 +41,6 @@ fn three_meetings(alloc: Global) -> Result<StartList, NoRoom>
     Ok(first)
 }
 
-/// An engine at these meetings of ten people.
-fn begin_meetings(
-    alloc: Global,
-    app: &Introductions,
-    first: StartList,
-) -> Result<Engine<'_, Introductions>, BeginFault>
-    requires ten { app.now ≡ 10 }
-    requires fit { AreFitStarts (introductions 10) first }
-    requires few { length first < 2 ^ 32 }
-    ensures { IfOk result (λ engine. AreInHand (introductions engine.app) engine.progress []) }
-{
-    begin(alloc, app, contacts(alloc)?, first, 1000)
-}
-
 /// The set that the third meeting declares at first.
 const DECLARED: Accesses = &[(4, Read), (6, Read), (8, Write), (9, Write)];
 
@@ -91,12 +74,19 @@ const TURNS: [Turn; 2] = [
 /// of a host away, its recorded set is merged; where the second one ends, it is the declared set.
 #[test]
 fn sets_are_merged_while_a_cell_is_away(rt: HostRuntime) -> Result<(), Fail> {
-    let app = Introductions::new(rt.alloc(), 10);
-    let engine = begin_meetings(rt.alloc(), &app, three_meetings(rt.alloc())?)?;
     let third = Key {
         prio: 1,
         path: Path::root(rt.alloc(), 2)?,
     };
-    assert!(rt; has_sets_in_turn(rt.alloc(), engine, &[third], &[DECLARED], &TURNS)?);
+    assert!(rt; meetings_have_sets(rt.alloc(), &[third])?);
     Ok(())
+}
+
+/// Whether the tasks of these keys have the sets of the turns.
+fn meetings_have_sets(alloc: Global, keys: &[Key]) -> Result<bool, Fail> {
+    let app = Introductions::new(alloc, 10);
+    let (cells, first) = (contacts(alloc)?, three_meetings(alloc)?);
+    let have_sets = has_sets_in_turn(alloc, &app, cells, first, keys, &[DECLARED], &TURNS);
+    drop(app);
+    Ok(have_sets?)
 }

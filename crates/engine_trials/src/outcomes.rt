@@ -1,4 +1,4 @@
-//! What runs come to, and whether two come to the same.
+//! What runs come to from copies of the same cells and first tasks, and whether it is what they aim at.
 
 ghost use Rattle.std.specs.Prelude.{◌≡◌, ◌≤◌, ◌<◌, ◌^◌, length, IfOk};
 ghost use Rattle.app_laws.specs.Applications.{AreFitStarts};
@@ -6,31 +6,84 @@ ghost use Rattle.app_laws.specs.Applications.{AreFitStarts};
 use app_laws::{App, Finals, SerialFault, serial};
 use cell_store::{Held, Seen, Store};
 use graph_update::{BeginFault, OverCause};
-use kdg_text::{NoRoom, Text};
+use kdg_text::NoRoom;
 use std::alloc::Global;
 use task_order::{Start, StartList};
 
-/// What a run comes to that has ended.
-#[derive(Drop)]
-pub struct Outcome<V: Held> {
-    pub store: Store<V>,
-    pub text: Text,
-    pub count: u64,
+/// What a run is to come to.
+pub trait Aim<V: Held> {
+    /// Whether it comes to this.
+    fn is_met(&self, finals: &Finals<V>) -> bool;
 }
 
-/// The outcome of a run whose text was drained so far.
-pub fn outcome_of<V: Held>(finals: Finals<V>, drained: Text) -> Result<Outcome<V>, NoRoom> {
-    let mut text = drained;
-    text.push_all(finals.text.bytes())?;
-    Ok(Outcome {
-        store: finals.store,
-        text,
-        count: finals.count,
-    })
+/// What the serial run from these cells and first tasks comes to.
+pub fn serial_finals<A: App>(
+    alloc: Global,
+    app: &A,
+    cells: &[A::Val],
+    first: &[Start],
+    budget: u64,
+) -> Result<Finals<A::Val>, OverCause>
+    requires fit_cells { (A.meaning app.now).is_fit_cells cells.now }
+    requires fit_first { AreFitStarts (A.meaning app.now) first.now }
+    requires few { length first.now < 2 ^ 32 }
+    requires budget { budget ≤ 1_000_000_000 }
+{
+    let (cells, first) = (copies_of(alloc, cells)?, list_of(alloc, first)?);
+    match serial(alloc, app, cells, first, budget) {
+        Ok(finals) => Ok(finals),
+        Err(SerialFault::Budget { created, limit }) => Err(OverCause::Budget { created, limit }),
+        Err(SerialFault::NoRoom) => Err(OverCause::NoRoom),
+    }
 }
 
-/// Whether two outcomes are the same.
-pub fn are_alike<V: Held + PartialEq>(left: &Outcome<V>, right: &Outcome<V>) -> bool {
+/// Why the serial run does not end.
+pub fn serial_cause<A: App>(
+    alloc: Global,
+    app: &A,
+    cells: &[A::Val],
+    first: &[Start],
+    budget: u64,
+) -> Option<OverCause>
+    requires fit_cells { (A.meaning app.now).is_fit_cells cells.now }
+    requires fit_first { AreFitStarts (A.meaning app.now) first.now }
+    requires few { length first.now < 2 ^ 32 }
+    requires budget { budget ≤ 1_000_000_000 }
+{
+    serial_finals(alloc, app, cells, first, budget).err()
+}
+
+/// Whether the serial run meets an aim.
+pub fn serial_meets<A: App, W: Aim<A::Val>>(
+    alloc: Global,
+    app: &A,
+    cells: &[A::Val],
+    first: &[Start],
+    budget: u64,
+    aim: &W,
+) -> Result<bool, OverCause>
+    requires fit_cells { (A.meaning app.now).is_fit_cells cells.now }
+    requires fit_first { AreFitStarts (A.meaning app.now) first.now }
+    requires few { length first.now < 2 ^ 32 }
+    requires budget { budget ≤ 1_000_000_000 }
+{
+    let finals = serial_finals(alloc, app, cells, first, budget)?;
+    Ok(aim.is_met(&finals))
+}
+
+/// The cause of a run that doesn't begin.
+pub fn cause_of(fault: BeginFault) -> OverCause {
+    match fault {
+        BeginFault::Budget { asked, limit } => OverCause::Budget {
+            created: asked,
+            limit,
+        },
+        BeginFault::NoRoom => OverCause::NoRoom,
+    }
+}
+
+/// Whether two runs come to the same.
+pub fn are_alike<V: Held + PartialEq>(left: &Finals<V>, right: &Finals<V>) -> bool {
     left.count == right.count
         && left.text.bytes() == right.text.bytes()
         && have_same_cells(&left.store, &right.store)
@@ -60,38 +113,6 @@ fn have_same_cell<V: Held + PartialEq>(left: &Store<V>, right: &Store<V>, loc: u
             Seen::Out => false,
         },
         Seen::Out => false,
-    }
-}
-
-/// What the serial run from these cells and first tasks comes to.
-pub fn serial_outcome<A: App>(
-    alloc: Global,
-    app: &A,
-    cells: &[A::Val],
-    first: &[Start],
-    budget: u64,
-) -> Result<Outcome<A::Val>, OverCause>
-    requires fit_cells { (A.meaning app.now).is_fit_cells cells.now }
-    requires fit_first { AreFitStarts (A.meaning app.now) first.now }
-    requires few { length first.now < 2 ^ 32 }
-    requires budget { budget ≤ 1_000_000_000 }
-{
-    let (cells, first) = (copies_of(alloc, cells)?, list_of(alloc, first)?);
-    match serial(alloc, app, cells, first, budget) {
-        Ok(finals) => Ok(outcome_of(finals, Text::new(alloc))?),
-        Err(SerialFault::Budget { created, limit }) => Err(OverCause::Budget { created, limit }),
-        Err(SerialFault::NoRoom) => Err(OverCause::NoRoom),
-    }
-}
-
-/// The cause of a run that doesn't begin.
-pub fn cause_of(fault: BeginFault) -> OverCause {
-    match fault {
-        BeginFault::Budget { asked, limit } => OverCause::Budget {
-            created: asked,
-            limit,
-        },
-        BeginFault::NoRoom => OverCause::NoRoom,
     }
 }
 

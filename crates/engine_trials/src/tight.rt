@@ -7,10 +7,10 @@ ghost use Rattle.engine_trials.specs.Adding.{adding, adding_sets, later_addition
 
 use super::adder::{Adder, act, sets, start};
 use super::outcomes::{copies_of, list_of};
+use super::rounds::engine_at;
 use app_laws::{App, Effect, SerialFault, serial};
 use cell_store::Bundle;
 use free_pool::run_free;
-use graph_update::Engine;
 use hook_app::{Hook, HookApp};
 use kdg_text::NoRoom;
 use mark_rounds::run_marks;
@@ -55,10 +55,7 @@ fn are_tight_by<R: Threads + Wait + Sync, H: Hook<u64> + Sync>(
 {
     let (sets, first) = (sets(alloc)?, first_tasks(alloc)?);
     let app = HookApp::new(&Adder, 3, sets, 1, hook);
-    Ok(
-        are_tight(rt, alloc, workers, &app, &[0, 0, 0], first.items())?
-            && streams_are_tight(rt, alloc, workers, &app, &[0, 0, 0], first.items())?,
-    )
+    are_tight(rt, alloc, workers, &app, &[0, 0, 0], first.items())
 }
 
 /// The sum, and two additions behind it.
@@ -72,14 +69,14 @@ fn first_tasks(alloc: Global) -> Result<StartList, NoRoom>
     Ok(first)
 }
 
-/// Whether a run from these cells and first tasks is without memory, in turn, in rounds, without rounds
-/// and by marks.
-fn are_tight<R: Threads + Wait + Sync, A: App<Val = u64> + Sync>(
+/// Whether a run from these cells and first tasks is without memory, in turn, by marks, in rounds, without
+/// rounds, and where its text goes out.
+fn are_tight<R: Threads + Wait + Sync, A: App + Sync>(
     rt: &R,
     alloc: Global,
     workers: u32,
     app: &A,
-    cells: &[u64],
+    cells: &[A::Val],
     first: &[Start],
 ) -> Result<bool, NoRoom>
     requires workers { (1 ≤ workers) × (workers ≤ 64) }
@@ -87,31 +84,92 @@ fn are_tight<R: Threads + Wait + Sync, A: App<Val = u64> + Sync>(
     requires fit_first { AreFitStarts (A.meaning app.now) first.now }
     requires few { length first.now < 2 ^ 32 }
 {
-    let (values, tasks) = (copies_of(alloc, cells)?, list_of(alloc, first)?);
-    let in_turn = serial(alloc, app, values, tasks, 100);
-    let (values, tasks) = (copies_of(alloc, cells)?, list_of(alloc, first)?);
-    let by_marks = run_marks(alloc, app, values, tasks, 100, &Seeded, workers);
-    let (values, tasks) = (copies_of(alloc, cells)?, list_of(alloc, first)?);
-    let engine = Engine::begin_uncounted(alloc, app, values, tasks, 100).map_err(|_| NoRoom)?;
-    let in_rounds = run_rounds(rt, alloc, engine, &Seeded, 1, workers);
-    let (values, tasks) = (copies_of(alloc, cells)?, list_of(alloc, first)?);
-    let engine = Engine::begin_uncounted(alloc, app, values, tasks, 100).map_err(|_| NoRoom)?;
-    let free = run_free(rt, alloc, engine, &Seeded, 1, workers);
-    Ok(
-        matches!(in_turn, Err(SerialFault::NoRoom))
-            && matches!(by_marks, Err(RunFault::NoRoom))
-            && matches!(in_rounds, Err(RunFault::NoRoom))
-            && matches!(free, Err(RunFault::NoRoom)),
-    )
+    let in_turn = is_tight_in_turn(alloc, app, cells, first)?;
+    let by_marks = is_tight_by_marks(alloc, workers, app, cells, first)?;
+    let in_rounds = is_tight_in_rounds(rt, alloc, workers, app, cells, first)?;
+    let free = is_tight_without_rounds(rt, alloc, workers, app, cells, first)?;
+    let as_stream = is_tight_as_stream(rt, alloc, workers, app, cells, first)?;
+    Ok(in_turn && by_marks && in_rounds && free && as_stream)
+}
+
+/// Whether a run in turn is without memory.
+fn is_tight_in_turn<A: App>(
+    alloc: Global,
+    app: &A,
+    cells: &[A::Val],
+    first: &[Start],
+) -> Result<bool, NoRoom>
+    requires fit_cells { (A.meaning app.now).is_fit_cells cells.now }
+    requires fit_first { AreFitStarts (A.meaning app.now) first.now }
+    requires few { length first.now < 2 ^ 32 }
+{
+    let (cells, first) = (copies_of(alloc, cells)?, list_of(alloc, first)?);
+    let run = serial(alloc, app, cells, first, 100);
+    Ok(matches!(run, Err(SerialFault::NoRoom)))
+}
+
+/// Whether a run by marks is without memory.
+fn is_tight_by_marks<A: App>(
+    alloc: Global,
+    workers: u32,
+    app: &A,
+    cells: &[A::Val],
+    first: &[Start],
+) -> Result<bool, NoRoom>
+    requires fit_cells { (A.meaning app.now).is_fit_cells cells.now }
+    requires fit_first { AreFitStarts (A.meaning app.now) first.now }
+    requires few { length first.now < 2 ^ 32 }
+{
+    let (cells, first) = (copies_of(alloc, cells)?, list_of(alloc, first)?);
+    let run = run_marks(alloc, app, cells, first, 100, &Seeded, workers);
+    Ok(matches!(run, Err(RunFault::NoRoom)))
+}
+
+/// Whether a run in rounds is without memory.
+fn is_tight_in_rounds<R: Threads + Sync, A: App + Sync>(
+    rt: &R,
+    alloc: Global,
+    workers: u32,
+    app: &A,
+    cells: &[A::Val],
+    first: &[Start],
+) -> Result<bool, NoRoom>
+    requires workers { (1 ≤ workers) × (workers ≤ 64) }
+    requires fit_cells { (A.meaning app.now).is_fit_cells cells.now }
+    requires fit_first { AreFitStarts (A.meaning app.now) first.now }
+    requires few { length first.now < 2 ^ 32 }
+{
+    let engine = engine_at(alloc, app, cells, first, 100).map_err(|_| NoRoom)?;
+    let run = run_rounds(rt, alloc, engine, &Seeded, 1, workers);
+    Ok(matches!(run, Err(RunFault::NoRoom)))
+}
+
+/// Whether a run without rounds is without memory.
+fn is_tight_without_rounds<R: Threads + Wait + Sync, A: App + Sync>(
+    rt: &R,
+    alloc: Global,
+    workers: u32,
+    app: &A,
+    cells: &[A::Val],
+    first: &[Start],
+) -> Result<bool, NoRoom>
+    requires workers { (1 ≤ workers) × (workers ≤ 64) }
+    requires fit_cells { (A.meaning app.now).is_fit_cells cells.now }
+    requires fit_first { AreFitStarts (A.meaning app.now) first.now }
+    requires few { length first.now < 2 ^ 32 }
+{
+    let engine = engine_at(alloc, app, cells, first, 100).map_err(|_| NoRoom)?;
+    let run = run_free(rt, alloc, engine, &Seeded, 1, workers);
+    Ok(matches!(run, Err(RunFault::NoRoom)))
 }
 
 /// Whether a run whose text goes out is without memory, and its sink has just the sum's line.
-fn streams_are_tight<R: Threads + Sync, A: App<Val = u64> + Sync>(
+fn is_tight_as_stream<R: Threads + Sync, A: App + Sync>(
     rt: &R,
     alloc: Global,
     workers: u32,
     app: &A,
-    cells: &[u64],
+    cells: &[A::Val],
     first: &[Start],
 ) -> Result<bool, NoRoom>
     requires workers { (1 ≤ workers) × (workers ≤ 64) }
@@ -119,9 +177,8 @@ fn streams_are_tight<R: Threads + Sync, A: App<Val = u64> + Sync>(
     requires fit_first { AreFitStarts (A.meaning app.now) first.now }
     requires few { length first.now < 2 ^ 32 }
 {
-    let (values, tasks) = (copies_of(alloc, cells)?, list_of(alloc, first)?);
-    let engine = Engine::begin_uncounted(alloc, app, values, tasks, 100).map_err(|_| NoRoom)?;
     let mut sink = MemSink::with_room(alloc, 16, 16, Vec::new(alloc))?;
+    let engine = engine_at(alloc, app, cells, first, 100).map_err(|_| NoRoom)?;
     let flow = rounds_to(rt, alloc, engine, &Seeded, 1, workers, &mut sink);
     Ok(matches!(flow, Flow::NoRoom) && sink.held() == b"sum 0\n".as_slice())
 }

@@ -1,9 +1,10 @@
 //! An application whose tasks leave their own paths, so that none may get another, and one that says that
 //! it works at home without a way to.
 
-use super::outcomes::{Outcome, serial_outcome};
-use super::rounds::outcomes_of;
-use cell_store::Seen;
+use super::outcomes::{Aim, serial_cause};
+use super::rounds::runs_meet;
+use app_laws::Finals;
+use cell_store::{Seen, Store};
 use graph_update::OverCause;
 use kdg_text::NoRoom;
 use small_apps::{HomelessTrails, Trail, Trails};
@@ -56,26 +57,54 @@ fn path_of(alloc: Global, number: u32, births: &[u32]) -> Result<Path, NoRoom> {
     Ok(path)
 }
 
+/// The paths that are left at the places, and how many tasks there are.
+#[derive(Drop)]
+struct Lasts {
+    first: Path,
+    second: Path,
+    count: u64,
+}
+
+impl Aim<Trail> for Lasts {
+    fn is_met(&self, finals: &Finals<Trail>) -> bool {
+        finals.count == self.count
+            && is_left(&finals.store, 0, &self.first)
+            && is_left(&finals.store, 1, &self.second)
+    }
+}
+
 /// Whether this path is left at a place.
-fn is_left(outcome: &Outcome<Trail>, place: u32, path: &Path) -> bool {
-    if place >= outcome.store.len() {
+fn is_left(store: &Store<Trail>, place: u32, path: &Path) -> bool {
+    if place >= store.len() {
         return false;
     }
-    match outcome.store.peek(place) {
+    match store.peek(place) {
         Seen::At(trail) => trail.path == *path,
         Seen::Out => false,
     }
 }
 
-/// What the runs come to in which `more` tasks follow one another at each place.
-fn outcomes_after<R: Threads + Sync>(
+/// What a run leaves.
+fn lasts_of(alloc: Global, row: &Passings) -> Result<Lasts, NoRoom> {
+    let first = path_of(alloc, 0, row.births)?;
+    let second = path_of(alloc, 1, row.births)?;
+    Ok(Lasts {
+        first,
+        second,
+        count: row.count,
+    })
+}
+
+/// Whether the runs in which `more` tasks follow one another at each place leave this.
+fn trails_meet<R: Threads + Sync>(
     rt: &R,
     alloc: Global,
     more: u64,
-) -> Result<[Outcome<Trail>; 3], OverCause> {
+    lasts: &Lasts,
+) -> Result<bool, OverCause> {
     let app = Trails::new(alloc);
     let (cells, first) = (app.first_cells()?, app.first_tasks(more)?);
-    outcomes_of(rt, alloc, &app, &cells, first.items(), 2000)
+    runs_meet(rt, alloc, &app, &cells, first.items(), 2000, lasts)
 }
 
 /// The cells hold the paths of the births, however deep, in the serial run and in rounds. That the
@@ -83,27 +112,23 @@ fn outcomes_after<R: Threads + Sync>(
 /// say that it works at home.
 #[test]
 fn places_keep_the_paths_of_the_births(rt: HostRuntime) -> Result<(), Fail> {
-    let alloc = rt.alloc();
-    for row in ROWS {
-        let lasts = [
-            path_of(alloc, 0, row.births)?,
-            path_of(alloc, 1, row.births)?,
-        ];
-        for outcome in &outcomes_after(&rt, alloc, row.more)? {
-            assert_eq!(rt; outcome.count, row.count);
-            assert!(rt; is_left(outcome, 0, &lasts[0]) && is_left(outcome, 1, &lasts[1]));
-        }
+    for row in &ROWS {
+        let lasts = lasts_of(rt.alloc(), row)?;
+        assert!(rt; trails_meet(&rt, rt.alloc(), row.more, &lasts)?);
     }
     Ok(())
 }
 
-#[test]
-fn acting_at_home_without_a_way_ends_at_once(rt: HostRuntime) -> Result<(), Fail> {
-    let alloc = rt.alloc();
+/// Why the serial run of an application that acts at home without a way to does not end.
+fn homeless_cause(alloc: Global) -> Result<Option<OverCause>, NoRoom> {
     let trails = Trails::new(alloc);
     let (cells, first) = (trails.first_cells()?, trails.first_tasks(1)?);
     let app = HomelessTrails::new(trails);
-    let refused = serial_outcome(alloc, &app, &cells, first.items(), 6).err();
-    assert_eq!(rt; refused, Some(OverCause::NoRoom));
+    Ok(serial_cause(alloc, &app, &cells, first.items(), 6))
+}
+
+#[test]
+fn acting_at_home_without_a_way_ends_at_once(rt: HostRuntime) -> Result<(), Fail> {
+    assert!(rt; homeless_cause(rt.alloc())? == Some(OverCause::NoRoom));
     Ok(())
 }

@@ -5,7 +5,8 @@ ghost use Rattle.hook_app.specs.Kept.{HookKeeps, IsAnswered, IsAsked};
 ghost use Rattle.engine_trials.specs.Walking.{AreArrows, first_walkers, next_walkers, place_sets, walking};
 
 use super::adder::{own_set, start};
-use super::hooks::{Runs, runs_of};
+use super::hooks::all_meet;
+use super::outcomes::Aim;
 use app_laws::{Child, ChildList, Effect};
 use cell_store::Bundle;
 use graph_update::OverCause;
@@ -32,15 +33,16 @@ impl Deed for Arrows {
     ghost meaning = { λ arrows. walking arrows.to.items };
 }
 
-/// What the runs of three walkers come to, one on each place, whose arrows lead to these.
-pub fn walker_runs<R: Threads + Wait + Sync>(
+/// Whether the runs of three walkers, one on each place, whose arrows lead to these meet an aim, in so many
+/// rounds.
+pub fn walkers_meet<R: Threads + Wait + Sync, W: Aim<u64>>(
     rt: &R,
     alloc: Global,
     to: Vec<u32>,
-    ahead: u64,
-) -> Result<Runs, OverCause>
+    rounds: u64,
+    aim: &W,
+) -> Result<bool, OverCause>
     requires arrows { AreArrows to.items }
-    requires ahead { ahead ≤ 1 }
 {
     let arrows = Arrows { to };
     let graph = &arrows;
@@ -49,29 +51,34 @@ pub fn walker_runs<R: Threads + Wait + Sync>(
         requires asked { IsAsked (walking graph.now.to.items) place_sets task.now bundle }
         ensures { IsAnswered (walking graph.entry.now.to.items) place_sets task.now bundle result }
     { graph.walk(alloc, task, bundle) };
-    runs_by(rt, alloc, graph, ahead, walk)
+    hook_meets(rt, alloc, graph, walk, rounds, aim)
 }
 
-/// What the runs come to by an operator that keeps the deed of these arrows.
-fn runs_by<R: Threads + Wait + Sync, H: Hook<u64> + Sync>(
+/// Whether the runs of an operator that keeps the deed of these arrows do.
+fn hook_meets<R: Threads + Wait + Sync, H: Hook<u64> + Sync, W: Aim<u64>>(
     rt: &R,
     alloc: Global,
     arrows: &Arrows,
-    ahead: u64,
     hook: H,
-) -> Result<Runs, OverCause>
-    requires keeps { HookKeeps (walking arrows.now.to.items) 3 place_sets ahead (H.may hook) (H.gives hook) }
+    rounds: u64,
+    aim: &W,
+) -> Result<bool, OverCause>
+    requires keeps { HookKeeps (walking arrows.now.to.items) 3 place_sets 1 (H.may hook) (H.gives hook) }
 {
     let (sets, first) = (sets(alloc)?, first_tasks(alloc)?);
-    let app = HookApp::new(arrows, 3, sets, ahead, hook);
-    runs_of(rt, alloc, &app, &[0, 0, 0], first.items(), 100)
+    let app = HookApp::new(arrows, 3, sets, 1, hook);
+    all_meet(rt, alloc, &app, &[0, 0, 0], first.items(), 100, rounds, aim)
 }
 
 /// The set of each place.
 fn sets(alloc: Global) -> Result<Vec<RwSet>, NoRoom>
     ensures { IfOk result (λ sets. sets.items ≡ place_sets) }
 {
-    Ok(vec![in alloc; own_set(alloc, 0)?, own_set(alloc, 1)?, own_set(alloc, 2)?]?)
+    let mut sets = Vec::new(alloc);
+    sets.push(own_set(alloc, 0)?)?;
+    sets.push(own_set(alloc, 1)?)?;
+    sets.push(own_set(alloc, 2)?)?;
+    Ok(sets)
 }
 
 /// A walker on each place.

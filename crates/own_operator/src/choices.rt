@@ -28,6 +28,30 @@ struct Place {
     by: AtomicU64,
 }
 
+impl Place {
+    /// A task that wasn't performed yet.
+    fn new(key: Key) -> Place {
+        Place {
+            key,
+            times: AtomicU64::new(0),
+            by: AtomicU64::new(0),
+        }
+    }
+
+    /// Records that a worker performs this task, if it is that of the key.
+    fn pass(&self, worker: u32, key: &Key) {
+        if self.key.compare(key) == Ordering::Equal {
+            self.times.fetch_add(1, SeqCst);
+            self.by.store(u64::from(worker), SeqCst);
+        }
+    }
+
+    /// Whether it was performed once, by a worker below this number.
+    fn has_passed_once(&self, workers: u64) -> bool {
+        self.times.load(SeqCst) == 1 && self.by.load(SeqCst) < workers
+    }
+}
+
 /// The gate whose choice depends on the seed, the worker and the turn. It records what it is asked, and
 /// who passes it.
 #[derive(Drop)]
@@ -68,10 +92,7 @@ impl Gate for Recorder {
     fn pass(&self, worker: u32, key: &Key) {
         if let Some(round) = self.rounds.get(key.prio as usize) {
             for place in round.iter() {
-                if place.key.compare(key) == Ordering::Equal {
-                    place.times.fetch_add(1, SeqCst);
-                    place.by.store(u64::from(worker), SeqCst);
-                }
+                place.pass(worker, key);
             }
         }
         if self.count.fetch_add(1, SeqCst) == 0 && self.holds {
@@ -80,35 +101,59 @@ impl Gate for Recorder {
     }
 }
 
+/// The paths of the first tasks.
+fn first_paths(alloc: Global) -> Result<Vec<Path>, NoRoom> {
+    let mut paths = Vec::new(alloc);
+    for group in 0..GROUPS as u32 {
+        paths.push(Path::root(alloc, group)?)?;
+    }
+    Ok(paths)
+}
+
+/// The paths of the first children.
+fn next_paths(alloc: Global, paths: &[Path]) -> Result<Vec<Path>, NoRoom> {
+    let mut children = Vec::new(alloc);
+    for path in paths {
+        children.push(path.child(0)?)?;
+    }
+    Ok(children)
+}
+
+/// The tasks of a priority, which have these paths.
+fn round_of(alloc: Global, prio: u64, paths: &[Path]) -> Result<Vec<Place>, NoRoom> {
+    let mut round = Vec::new(alloc);
+    for path in paths {
+        let path = path.copy()?;
+        round.push(Place::new(Key { prio, path }))?;
+    }
+    Ok(round)
+}
+
+/// The tasks of each priority.
+fn all_rounds(alloc: Global) -> Result<Vec<Vec<Place>>, NoRoom> {
+    let mut rounds = Vec::new(alloc);
+    let mut paths = first_paths(alloc)?;
+    for prio in 0..64u64 {
+        rounds.push(round_of(alloc, prio, &paths)?)?;
+        paths = next_paths(alloc, &paths)?;
+    }
+    Ok(rounds)
+}
+
+/// A zero for each worker.
+fn zeros(alloc: Global) -> Result<Vec<AtomicU64>, NoRoom> {
+    let mut counts = Vec::new(alloc);
+    for _worker in 0..64u32 {
+        counts.push(AtomicU64::new(0))?;
+    }
+    Ok(counts)
+}
+
 impl Recorder {
     /// A gate that has been asked nothing yet.
     fn new(alloc: Global, holds: bool) -> Result<Recorder, NoRoom> {
-        let mut rounds = Vec::new(alloc);
-        let mut paths = Vec::new(alloc);
-        for group in 0..GROUPS as u32 {
-            paths.push(Path::root(alloc, group)?)?;
-        }
-        for prio in 0..64u64 {
-            let mut round = Vec::new(alloc);
-            let mut children = Vec::new(alloc);
-            for path in paths.iter() {
-                children.push(path.child(0)?)?;
-                round.push(Place {
-                    key: Key {
-                        prio,
-                        path: path.copy()?,
-                    },
-                    times: AtomicU64::new(0),
-                    by: AtomicU64::new(0),
-                })?;
-            }
-            rounds.push(round)?;
-            paths = children;
-        }
-        let mut turns = Vec::new(alloc);
-        for _worker in 0..64u32 {
-            turns.push(AtomicU64::new(0))?;
-        }
+        let rounds = all_rounds(alloc)?;
+        let turns = zeros(alloc)?;
         Ok(Recorder {
             rounds,
             turns,
@@ -130,13 +175,22 @@ impl Recorder {
         }
     }
 
-    /// Whether each task passed once, as a worker below this number.
-    fn has_passed_each(&self, workers: u64) -> bool {
+    /// Whether each task passed once, as a worker below this number, after the gate was asked for the next
+    /// turn each time, and whoever was to be held saw another one.
+    fn is_orderly(&self, workers: u64) -> bool {
         for round in self.rounds.iter() {
-            for place in round.iter() {
-                if place.times.load(SeqCst) != 1 || place.by.load(SeqCst) >= workers {
-                    return false;
-                }
+            if !have_passed_once(round, workers) {
+                return false;
+            }
+        }
+        self.strays.load(SeqCst) == 0 && self.met.load(SeqCst) == u64::from(self.holds)
+    }
+
+    /// Whether just the workers below this number have asked.
+    fn is_asked_by_first(&self, workers: usize) -> bool {
+        for (worker, turns) in self.turns.iter().enumerate() {
+            if (turns.load(SeqCst) > 0) != (worker < workers) {
+                return false;
             }
         }
         true
@@ -156,28 +210,38 @@ impl Recorder {
     }
 }
 
+/// Whether each of a round's tasks passed once, as a worker below this number.
+fn have_passed_once(round: &[Place], workers: u64) -> bool {
+    for place in round {
+        if !place.has_passed_once(workers) {
+            return false;
+        }
+    }
+    true
+}
+
 /// Whether a round's tasks were dealt out in turn to that many workers, each time the clear task at the
 /// place that is chosen, from this turn on.
-fn is_dealt_from(
-    alloc: Global,
-    round: &Vec<Place>,
-    turn: u64,
-    workers: u64,
-) -> Result<bool, NoRoom> {
+fn is_dealt_from(alloc: Global, round: &[Place], turn: u64, workers: u64) -> Result<bool, NoRoom> {
     let mut left = Vec::new(alloc);
-    for place in round.iter() {
-        left.push(place)?;
+    for place in round {
+        left.push(place.by.load(SeqCst))?;
     }
+    Ok(are_dealt(left, turn, workers))
+}
+
+/// Whether the clear tasks that are left, told by their workers, were dealt out in turn.
+fn are_dealt(left: Vec<u64>, turn: u64, workers: u64) -> bool {
+    let mut left = left;
     let mut turn = turn;
     let mut worker = 0u64;
-    for _place in 0..round.len() {
+    for _place in 0..left.len() {
         if left.is_empty() {
             break;
         }
         let at = choice(1, 0, turn) % left.len() as u64;
-        let place = left.remove(at as usize);
-        if place.by.load(SeqCst) != worker {
-            return Ok(false);
+        if left.remove(at as usize) != worker {
+            return false;
         }
         turn = turn.wrapping_add(1);
         worker = worker.wrapping_add(1);
@@ -185,53 +249,58 @@ fn is_dealt_from(
             worker = 0;
         }
     }
-    Ok(true)
+    true
 }
 
-/// What a gate records of a run by three workers of tasks of that many multiplications.
-fn recorded<R: Threads + Wait + Sync>(
+/// Whether a run by three workers, of tasks of that many multiplications, is recorded as it is to be: it asks
+/// in order under the numbers of the first `askers` workers, and deals the tasks of rounds out by the choices.
+fn is_recorded<R: Threads + Wait + Sync>(
     rt: &R,
     alloc: Global,
     mode: Mode,
     times: u32,
     holds: bool,
-) -> Result<Recorder, NoRoom> {
+    askers: usize,
+) -> Result<bool, NoRoom> {
     let recorder = Recorder::new(alloc, holds)?;
+    let is_recorded = is_recorded_by(rt, alloc, mode, times, &recorder, askers);
+    drop(recorder);
+    is_recorded
+}
+
+fn is_recorded_by<R: Threads + Wait + Sync>(
+    rt: &R,
+    alloc: Global,
+    mode: Mode,
+    times: u32,
+    recorder: &Recorder,
+    askers: usize,
+) -> Result<bool, NoRoom> {
     let setting = Setting {
         mode,
         workers: 3,
         times,
     };
-    run(rt, alloc, &setting, &recorder)?;
-    Ok(recorder)
+    drop(run(rt, alloc, &setting, recorder)?);
+    let is_dealt = match mode {
+        Mode::Rounds => recorder.has_dealt_by_choices(alloc, 3)?,
+        Mode::Serial | Mode::Free => true,
+    };
+    Ok(is_dealt && recorder.is_orderly(3) && recorder.is_asked_by_first(askers))
 }
 
 /// Tasks of nanoseconds start no thread, those of microseconds do. The choices are the same, and
 /// worker 0's alone.
 #[test]
 fn rounds_deal_tasks_out_by_the_choices_of_seed_and_turn(rt: HostRuntime) -> Result<(), Fail> {
-    for (times, holds) in [(8u32, false), (50_000, true)] {
-        let recorder = recorded(&rt, rt.alloc(), Mode::Rounds, times, holds)?;
-        assert_eq!(rt; recorder.strays.load(SeqCst), 0);
-        assert!(rt; recorder.has_passed_each(3), "{times}");
-        assert!(rt; recorder.has_dealt_by_choices(rt.alloc(), 3)?, "{times}");
-        assert_eq!(rt; recorder.met.load(SeqCst), u64::from(holds));
-        for turns in recorder.turns.iter().skip(1) {
-            assert_eq!(rt; turns.load(SeqCst), 0);
-        }
-    }
+    assert!(rt; is_recorded(&rt, rt.alloc(), Mode::Rounds, 8, false, 1)?);
+    assert!(rt; is_recorded(&rt, rt.alloc(), Mode::Rounds, 50_000, true, 1)?);
     Ok(())
 }
 
 /// Each of the workers asks for its own turns, one after the other, under its number.
 #[test]
 fn free_workers_ask_for_their_own_turns(rt: HostRuntime) -> Result<(), Fail> {
-    let recorder = recorded(&rt, rt.alloc(), Mode::Free, 8, true)?;
-    assert_eq!(rt; recorder.strays.load(SeqCst), 0);
-    assert!(rt; recorder.has_passed_each(3));
-    assert_eq!(rt; recorder.met.load(SeqCst), 1);
-    for (worker, turns) in recorder.turns.iter().enumerate() {
-        assert_eq!(rt; turns.load(SeqCst) > 0, worker < 3, "{worker}");
-    }
+    assert!(rt; is_recorded(&rt, rt.alloc(), Mode::Free, 8, true, 3)?);
     Ok(())
 }

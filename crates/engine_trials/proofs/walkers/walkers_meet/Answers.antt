@@ -1,13 +1,13 @@
-use Rattle.std.proofs.Common.{rules, subst, sym}
+use Rattle.std.proofs.Common.{rules, arith, subst, sym}
 use Rattle.task_order.specs.declared.task.Task.{Task}
 use Rattle.hook_app.specs.Kept.{IsAnswered, IsAsked}
 use Rattle.engine_trials.specs.Walking.{AreArrows, place_sets, walking}
 use Rattle.engine_trials.proofs.Walking.{walking_together}
-use Rattle.engine_trials.proofs.walkers.walker_runs.Goals as goal
+use Rattle.engine_trials.proofs.walkers.walkers_meet.Goals as goal
 
-pub runs_by-requires-clause-keeps : goal.runs_by-requires-clause-keeps
-runs_by-requires-clause-keeps g c κs within = record {
-  together = walking_together c.args.to.items c.args.ahead c.requires.arrows c.requires.ahead;
+pub hook_meets-requires-clause-keeps : goal.hook_meets-requires-clause-keeps
+hook_meets-requires-clause-keeps g c κs within = record {
+  together = walking_together c.args.to.items 1 c.requires.arrows (omega arith);
   does_deeds = record {
     callable = λ task bundle asked p is.
         let leads : AreArrows c.args.to.items = c.requires.arrows in
