@@ -1,9 +1,10 @@
 -- Two lists place by place, members of lists, and lists in key order.
-use Rattle.std.proofs.Common.{◌≡◌, ◌≢◌, ◌<◌, ◌⊎◌, inl, inr, List, [], ◌∷◌, ◌++◌, length, Option, Some, None, refl, sym, ◌∙◌, ap, subst, arith}
+use Rattle.std.proofs.Common.{◌≡◌, ◌≢◌, ◌<◌, ◌⊎◌, ℕ, inl, inr, List, [], ◌∷◌, ◌++◌, drop, length, length-append, take, Option, Some, None, refl, sym, ◌∙◌, ap, subst, arith}
 use Rattle.std.specs.Prelude.{Contains, IsSome}
-use Rattle.std.specs.List.{AllByRecursion, AllZip}
+use Rattle.std.specs.List.{All, AllByRecursion, AllZip}
 use Rattle.std.specs.declared.cmp.Ordering.TheVariants.{Less}
 use Rattle.std.proofs.lemmas.Bool.{true≢false}
+use Rattle.std.proofs.lemmas.List.Elements.{All-append, All-cons, All-drop, All-head, All-nil, All-take}
 use Rattle.std.proofs.lemmas.List.Sorted.{Contains-permutation, IsPermutation-middle, IsPermutation-sym}
 use Rattle.task_order.specs.declared.task.Task.{Task}
 use Rattle.task_order.specs.Key.{key_cmp}
@@ -106,3 +107,21 @@ module _ (irreflexive : EarlierIsIrreflexive) (transitive : EarlierIsTransitive)
       let same = first_is task tasks other others up above (each task (here task tasks)) (back other (here other others)) in
       let rest = same_tasks tasks others up.1 above.1 (rest_has task tasks other others up same each) (rest_has other others task tasks above (sym same) back) in
       (λ i. same i ∷ rest i)
+
+-- ---- what holds of each item
+
+-- the items as they are given back to the vector that lent them
+pub all_given_back : {X : Type 0} (P : X → Type 0) (count : ℕ) (olds nows : List X) → All P nows → All P olds → All P (take count (nows ++ drop (length nows) olds))
+all_given_back P count olds nows now old = All-take P count (nows ++ drop (length nows) olds) (All-append P nows (drop (length nows) olds) now (All-drop P (length nows) olds old))
+
+only_one : {X : Type 0} (xs front : List X) (x : X) → xs ≡ front ++ x ∷ [] → length xs ≡ 1 → xs ≡ x ∷ []
+only_one xs [] x whole one = whole
+only_one xs (y ∷ ys) x whole one = absurd (omega (arith, one, ap length whole, length-append ys (x ∷ [])))
+
+-- of the only item
+pub of_only : {X : Type 0} (P : X → Type 0) (xs front : List X) (x : X) → xs ≡ front ++ x ∷ [] → length xs ≡ 1 → All P xs → P x
+of_only P xs front x whole one all = All-head P x [] (subst (All P) (only_one xs front x whole one) all)
+
+-- from the only item
+pub at_only : {X : Type 0} (P : X → Type 0) (xs front : List X) (x : X) → xs ≡ front ++ x ∷ [] → length xs ≡ 1 → P x → All P xs
+at_only P xs front x whole one is = subst (All P) (sym (only_one xs front x whole one)) (All-cons P x [] is (All-nil P))

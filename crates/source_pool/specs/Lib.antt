@@ -6,5 +6,6 @@ pub mod Laws
 pub mod Legs
 pub mod Performing
 pub mod Runs
+pub mod Staffing
 pub mod Streams
 pub mod TellingLaws

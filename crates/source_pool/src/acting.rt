@@ -21,13 +21,14 @@ use std::sync::ledger::Ledger;
 /// ids is dropped.
 pub(crate) fn act_round<A: App, L: Ledger>(
     engine: &mut Engine<'_, A>,
-    lists: &mut RoundLists<A::Val>,
+    lists: &mut RoundLists<A>,
     steps: &mut Steps<L>,
 ) -> Result<(), RunFault>
     ghost from: { RunPoint A.Val }
     requires rest { IsAtRest (A.meaning engine.old.app) from.start (values_of from.start.cells) from.state from.text engine.old.progress }
     requires some { engine.old.progress.nodes ≢ [] }
     ensures app { engine.new.app ≡ engine.old.app }
+    ensures told { lists.new.partners ≡ lists.old.partners }
     ensures rest { OnOk result (IsAtRest (A.meaning engine.old.app) from.start (values_of from.start.cells) (after_round (A.meaning engine.old.app) from.state) from.text engine.new.progress) }
     ensures ended { OnOk result (engine.old.progress.ended < engine.new.progress.ended) }
     ensures counted { OnOk result (engine.new.progress.ended ≡ engine.old.progress.ended + length (clear_tasks (A.meaning engine.old.app) from.state)) }

@@ -5,6 +5,7 @@ ghost use Rattle.std.specs.List.{All, AllByRecursion, AllZip};
 ghost use Rattle.crew.specs.Jobs.{MayRun};
 ghost use Rattle.source_pool.specs.Performing.{AreDealt, AreDoneInSomeTurn, AreEmptyHands, IsPlayed, MayPlay, gathered};
 
+use crate::partners::Partners;
 use crate::performing::perform_in_turn;
 use crate::round_lists::RoundLists;
 use app_laws::App;
@@ -20,11 +21,11 @@ use std::thread::{self, Threads};
 #[derive(Drop)]
 pub(crate) struct Hand<J, D> {
     /// What is dealt to the worker and not yet performed, the first one dealt first.
-    jobs: VecDeque<J>,
+    pub(crate) jobs: VecDeque<J>,
     /// What it has performed, in order.
-    dones: VecDeque<D>,
+    pub(crate) dones: VecDeque<D>,
     /// Whether it performed all that it was dealt.
-    is_done: bool,
+    pub(crate) is_done: bool,
 }
 
 /// Performs the jobs of a round by a thread for each worker, as they are dealt out. The lists then
@@ -34,15 +35,17 @@ pub(crate) fn perform_together<R: Threads + Sync, A: App + Sync, G: Gate + Sync>
     app: &A,
     gate: &G,
     workers: u32,
-    lists: &mut RoundLists<A::Val>,
+    lists: &mut RoundLists<A>,
 ) -> Result<(), NoRoom>
     requires workers { 1 ≤ workers }
     requires may_run { AllByRecursion (MayRun (A.meaning app.now)) lists.old.jobs.items }
-    ensures { OnOk result (AreDoneInSomeTurn (A.meaning app.now) lists.old.jobs.items lists.new.dones.items) }
+    requires told { lists.old.partners ≡ app.now }
+    ensures done { OnOk result (AreDoneInSomeTurn (A.meaning app.now) lists.old.jobs.items lists.new.dones.items) }
+    ensures told { lists.new.partners ≡ lists.old.partners }
 {
     empty_hands(*lists.jobs.allocator(), workers, &mut lists.hands)?;
     deal(&mut lists.jobs, &mut lists.hands)?;
-    play_all(rt, app, gate, &mut lists.hands);
+    play_each(rt, app, gate, &mut lists.hands, &mut lists.partners);
     gather(&mut lists.hands, &mut lists.dones)
 }
 
@@ -94,7 +97,32 @@ fn deal<V: Held>(
     Ok(())
 }
 
-/// Performs the jobs of all hands at once. Each hand then has what became of its own.
+/// Performs the jobs of all hands at once, by the workers that are kept, or else by new threads. Each
+/// hand then has what became of its own.
+fn play_each<R: Threads + Sync, A: App + Sync, G: Gate + Sync>(
+    rt: &R,
+    app: &A,
+    gate: &G,
+    hands: &mut [Hand<Job<A::Val>, Done<A::Val>>],
+    partners: &mut Partners<A>,
+)
+    requires told { partners.old ≡ app.now }
+    requires some { 0 < length hands.old }
+    requires few { length hands.old < 2 ^ 32 }
+    requires may_play { All (MayPlay (A.meaning app.now)) hands.old }
+    ensures told { partners.new ≡ partners.old }
+    ensures played { AllZip (IsPlayed (A.meaning app.now)) hands.old hands.new }
+{
+    if partners.is_empty() {
+        play_all(rt, app, gate, hands);
+        return;
+    }
+    if let Some((own, others)) = hands.split_first_mut() {
+        partners.play(app, gate, own, others);
+    }
+}
+
+/// Performs the jobs of all hands at once, by new threads. Each hand then has what became of its own.
 fn play_all<R: Threads + Sync, A: App + Sync, G: Gate + Sync>(
     rt: &R,
     app: &A,
@@ -137,7 +165,12 @@ fn gather<V: Held>(
 
 /// Performs the jobs of a worker's hand, in order. The hand then has what was done, and whether that
 /// is all; what was there before is dropped.
-fn play<A: App, G: Gate>(app: &A, gate: &G, worker: u32, hand: &mut Hand<Job<A::Val>, Done<A::Val>>)
+pub(crate) fn play<A: App, G: Gate>(
+    app: &A,
+    gate: &G,
+    worker: u32,
+    hand: &mut Hand<Job<A::Val>, Done<A::Val>>,
+)
     requires { MayPlay (A.meaning app.now) hand.old }
     ensures { IsPlayed (A.meaning app.now) hand.old hand.new }
 {

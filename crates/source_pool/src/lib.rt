@@ -2,15 +2,20 @@
 #![tactic(auto)]
 
 mod acting;
+mod begun;
+mod beside;
 mod claiming;
+mod crossing;
 mod draining;
 mod finishing;
 mod flow;
 mod hands;
 pub mod laws;
+mod partners;
 mod performing;
 mod round_lists;
 mod rounds;
+mod staffing;
 mod work;
 
 pub use flow::Flow;

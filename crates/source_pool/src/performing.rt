@@ -31,13 +31,15 @@ pub(crate) fn perform_round<R: Threads + Sync, A: App + Sync, G: Gate + Sync>(
     engine: &mut Engine<'_, A>,
     picks: &mut Picks<'_, G>,
     workers: u32,
-    lists: &mut RoundLists<A::Val>,
+    lists: &mut RoundLists<A>,
 ) -> Result<(), NoRoom>
     ghost from: { RunPoint A.Val }
     requires workers { 1 ≤ workers }
     requires rest { IsAtRest (A.meaning engine.old.app) from.start (values_of from.start.cells) from.state from.text engine.old.progress }
     requires some { engine.old.progress.nodes ≢ [] }
+    requires told { lists.old.partners ≡ engine.old.app }
     ensures app { engine.new.app ≡ engine.old.app }
+    ensures told { lists.new.partners ≡ lists.old.partners }
     ensures ending { OnOk result (IsEnding (A.meaning engine.old.app) from.start (values_of from.start.cells) (after_round (A.meaning engine.old.app) from.state) from.text engine.new.progress lists.new.dones.items) }
     ensures some { OnOk result (0 < length lists.new.dones.items) }
     ensures as_many { OnOk result (length lists.new.dones.items ≡ length (clear_tasks (A.meaning engine.old.app) from.state)) }
@@ -60,11 +62,13 @@ fn perform_drawn<R: Threads + Sync, A: App + Sync, G: Gate + Sync>(
     app: &A,
     gate: &G,
     workers: u32,
-    lists: &mut RoundLists<A::Val>,
+    lists: &mut RoundLists<A>,
 ) -> Result<(), NoRoom>
     requires workers { 1 ≤ workers }
     requires may_run { AllByRecursion (MayRun (A.meaning app.now)) lists.old.jobs.items }
-    ensures { OnOk result (AreDoneInSomeTurn (A.meaning app.now) lists.old.jobs.items lists.new.dones.items) }
+    requires told { lists.old.partners ≡ app.now }
+    ensures done { OnOk result (AreDoneInSomeTurn (A.meaning app.now) lists.old.jobs.items lists.new.dones.items) }
+    ensures told { lists.new.partners ≡ lists.old.partners }
 {
     let cells = cells_in(&lists.jobs);
     let is_enough = lists.work.note_round(lists.jobs.len(), cells);

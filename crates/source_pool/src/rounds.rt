@@ -21,7 +21,7 @@ use crate::finishing::end_all;
 use crate::laws::{draining_laws, drawing_laws, kept_laws, leg_laws, rounds_laws};
 use crate::performing::perform_round;
 use crate::round_lists::RoundLists;
-use crate::work::Work;
+use crate::staffing::staffed_rounds;
 use crate::{Flow, RunFault};
 use app_laws::{App, Finals, new_paths_pay};
 use graph_update::Engine;
@@ -29,7 +29,6 @@ use kdg_text::Steps;
 use outer_edge::{Gate, Sink};
 use run_laws::rest_laws;
 use std::alloc::Global;
-use std::marker::Brand;
 use std::sync::ledger::{Blank, Ledger};
 use std::thread::Threads;
 use text_outlet::{Outlet, TextSink};
@@ -100,22 +99,13 @@ pub fn rounds_to<'a, R: Threads + Sync, A: App + Sync, G: Gate + Sync, K: Sink>(
     rest_laws::<A>();
     // Its contract tells what every engine keeps: the execution is sound.
     let _graph = engine.graph();
-    let blank = Blank::new(1);
     let mut outlet = Outlet::new(alloc);
     let staff = Staff {
         gate,
         seed,
         workers,
     };
-    let run = counted_rounds::<R, A, G, K, Brand>(
-        rt,
-        alloc,
-        engine,
-        staff,
-        &mut outlet,
-        out,
-        blank,
-    );
+    let run = staffed_rounds(rt, alloc, engine, staff, &mut outlet, out);
     match run {
         Ok((finals, rounds)) => {
             outlet.flush(out);
@@ -139,17 +129,24 @@ pub fn rounds_to<'a, R: Threads + Sync, A: App + Sync, G: Gate + Sync, K: Sink>(
 
 /// Who performs a run's jobs, and what chooses among them.
 #[derive(Drop)]
-struct Staff<'g, G: Gate> {
-    gate: &'g G,
-    seed: u64,
-    workers: u32,
+pub(crate) struct Staff<'g, G: Gate> {
+    pub(crate) gate: &'g G,
+    pub(crate) seed: u64,
+    pub(crate) workers: u32,
 }
 
 /// The rounds from one at whose beginning nothing runs, with a count of the sets that are asked for.
 /// Before each leg but the first the pending tasks get short paths.
-fn counted_rounds<'a, R: Threads + Sync, A: App + Sync, G: Gate + Sync, K: Sink, L: Ledger>(
+pub(crate) fn counted_rounds<
+    'a,
+    R: Threads + Sync,
+    A: App + Sync,
+    G: Gate + Sync,
+    K: Sink,
+    L: Ledger,
+>(
     rt: &R,
-    alloc: Global,
+    lists: &mut RoundLists<A>,
     mut engine: Engine<'a, A>,
     staff: Staff<'_, G>,
     outlet: &mut Outlet,
@@ -165,6 +162,7 @@ fn counted_rounds<'a, R: Threads + Sync, A: App + Sync, G: Gate + Sync, K: Sink,
     requires begins { engine.progress ≡ start }
     requires limited { start.limit < 2 ^ 64 }
     requires no_fault { outlet.old.has_failed ≡ false }
+    requires partners { lists.old.partners ≡ engine.app }
     ensures end { IfOk result (λ run. (told : List ℕ) × TellsMore K.contents K.faults outlet.old out.old outlet.new out.new told × IsToldEnd (A.meaning engine.entry.app) start outlet.new.has_failed told run.0 run.1) }
     ensures fit { IfOk result (λ run. (A.meaning engine.entry.app).is_fit_cells (values_of run.0.store)) }
     ensures fault { IfErr result (IsRunFault (A.meaning engine.entry.app) start) }
@@ -177,7 +175,6 @@ fn counted_rounds<'a, R: Threads + Sync, A: App + Sync, G: Gate + Sync, K: Sink,
     rounds_laws::<A>();
     let mut steps = Steps::<L>::new(blank);
     let mut picks = Picks::new(staff.gate, staff.seed);
-    let mut lists = RoundLists::new(alloc, Work::new(engine.app().task_nanos()));
     let mut rounds = 0u64;
     loop {
         rounds += play_leg(
@@ -185,7 +182,7 @@ fn counted_rounds<'a, R: Threads + Sync, A: App + Sync, G: Gate + Sync, K: Sink,
             &mut engine,
             &mut picks,
             staff.workers,
-            &mut lists,
+            lists,
             &mut steps,
             outlet,
             out,
@@ -207,7 +204,7 @@ fn play_leg<R: Threads + Sync, A: App + Sync, G: Gate + Sync, K: Sink, L: Ledger
     engine: &mut Engine<'_, A>,
     picks: &mut Picks<'_, G>,
     workers: u32,
-    lists: &mut RoundLists<A::Val>,
+    lists: &mut RoundLists<A>,
     steps: &mut Steps<L>,
     outlet: &mut Outlet,
     out: &mut K,
@@ -218,7 +215,9 @@ fn play_leg<R: Threads + Sync, A: App + Sync, G: Gate + Sync, K: Sink, L: Ledger
     requires begins { engine.old.progress ≡ start }
     requires limited { start.limit < 2 ^ 64 }
     requires none_left { outlet.old.has_failed ≡ true → start.log ≡ [] }
+    requires partners { lists.old.partners ≡ engine.old.app }
     ensures app { engine.new.app ≡ engine.old.app }
+    ensures partners { lists.new.partners ≡ lists.old.partners }
     ensures leg { IfOk result (λ rounds. IsOnLeg (A.meaning engine.old.app) start outlet.new.has_failed rounds engine.new.progress outlet.new.told) }
     ensures ignored { OnOk result (engine.new.progress.nodes ≢ [] → PathsAreIgnored (A.meaning engine.old.app)) }
     ensures silent { OnOk result (engine.new.progress.nodes ≢ [] → with_texts engine.new.progress.log ≡ []) }
@@ -274,7 +273,7 @@ fn play_round<R: Threads + Sync, A: App + Sync, G: Gate + Sync, K: Sink, L: Ledg
     engine: &mut Engine<'_, A>,
     picks: &mut Picks<'_, G>,
     workers: u32,
-    lists: &mut RoundLists<A::Val>,
+    lists: &mut RoundLists<A>,
     steps: &mut Steps<L>,
     outlet: &mut Outlet,
     out: &mut K,
@@ -284,7 +283,9 @@ fn play_round<R: Threads + Sync, A: App + Sync, G: Gate + Sync, K: Sink, L: Ledg
     requires rest { IsAtRest (A.meaning engine.old.app) from.start (values_of from.start.cells) from.state from.text engine.old.progress }
     requires some { engine.old.progress.nodes ≢ [] }
     requires text { outlet.old.told ≡ from.text }
+    requires partners { lists.old.partners ≡ engine.old.app }
     ensures app { engine.new.app ≡ engine.old.app }
+    ensures partners { lists.new.partners ≡ lists.old.partners }
     ensures rest { OnOk result (IsAtRest (A.meaning engine.old.app) from.start (values_of from.start.cells) (after_round (A.meaning engine.old.app) from.state) outlet.new.told engine.new.progress) }
     ensures ended { OnOk result (engine.old.progress.ended < engine.new.progress.ended) }
     ensures counted { OnOk result (engine.new.progress.ended ≡ engine.old.progress.ended + length (clear_tasks (A.meaning engine.old.app) from.state)) }
@@ -312,14 +313,16 @@ fn act_or_perform<R: Threads + Sync, A: App + Sync, G: Gate + Sync, L: Ledger>(
     engine: &mut Engine<'_, A>,
     picks: &mut Picks<'_, G>,
     workers: u32,
-    lists: &mut RoundLists<A::Val>,
+    lists: &mut RoundLists<A>,
     steps: &mut Steps<L>,
 ) -> Result<(), RunFault>
     ghost from: { RunPoint A.Val }
     requires workers { 1 ≤ workers }
     requires rest { IsAtRest (A.meaning engine.old.app) from.start (values_of from.start.cells) from.state from.text engine.old.progress }
     requires some { engine.old.progress.nodes ≢ [] }
+    requires partners { lists.old.partners ≡ engine.old.app }
     ensures app { engine.new.app ≡ engine.old.app }
+    ensures partners { lists.new.partners ≡ lists.old.partners }
     ensures rest { OnOk result (IsAtRest (A.meaning engine.old.app) from.start (values_of from.start.cells) (after_round (A.meaning engine.old.app) from.state) from.text engine.new.progress) }
     ensures ended { OnOk result (engine.old.progress.ended < engine.new.progress.ended) }
     ensures counted { OnOk result (engine.new.progress.ended ≡ engine.old.progress.ended + length (clear_tasks (A.meaning engine.old.app) from.state)) }

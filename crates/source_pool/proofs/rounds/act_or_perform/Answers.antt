@@ -24,7 +24,7 @@ act_round-requires g c κs within =
             within.1.1.1,
             (
               record { owned = sent.owned; leaving = λ k. sent.leaving (λ _. k (of_param 2)) },
-              (record { owned = horizon.owned; leaving = λ k. horizon.leaving (λ _. k (of_param 3)) }, (others.1.1.1.1.0, others.1.1.1.1.1)),
+              (record { owned = horizon.owned; leaving = λ k. horizon.leaving (λ _. k (of_param 3)) }, (others.1.1.1.1.0, others.1.1.1.1.1.0)),
             ),
           ),
         ),

@@ -16,12 +16,12 @@ use Rattle.source_pool.proofs.Sending.{tells_both, tells_none}
 use Rattle.source_pool.proofs.Telling.{cut_behind, cut_for_room, told_ends}
 use Rattle.source_pool.proofs.rounds.counted_rounds.Goals as goal
 
-pub loop-lists-init : goal.loop-lists-init
-loop-lists-init g c =
+pub loop-steps-init : goal.loop-steps-init
+loop-steps-init g c =
     let app = g.A.App.meaning c.args.engine.app in
     let rest = c.requires.1.1.1.1.1.1.1.1.1.1.1.1.1.1.1.1.0 in
     let begins = c.requires.1.1.1.1.1.1.1.1.1.1.1.1.1.1.1.1.1.0 in
-    let no_fault = c.requires.1.1.1.1.1.1.1.1.1.1.1.1.1.1.1.1.1.1.1 in
+    let no_fault = c.requires.1.1.1.1.1.1.1.1.1.1.1.1.1.1.1.1.1.1.1.0 in
     record {
       app = refl;
       rest = subst (BeginsAtRest app) (sym begins) rest;
@@ -29,6 +29,7 @@ loop-lists-init g c =
       none_left = λ failed. absurd (true≢false (sym failed ∙ no_fault));
       few = omega (arith, ap (λ (p : Progress g.row.A-Val.Denot). p.ended) begins);
       room = refl;
+      partners = refl;
     }
 
 pub play_leg-requires : goal.play_leg-requires
@@ -36,10 +37,11 @@ play_leg-requires g c κs within =
     let bounds = c.requires.1.1.1.1.1.1.1 in
     let others = bounds.1.1 in
     let limited = c.requires.1.1.1.1.1.1.1.1.1.1.1.1.1.1.1.1.1.1.0 in
-    let at = c.loop-lists in
+    let at = c.loop-steps in
     let now = at.engine.progress in
     let rest = subst (λ (app : g.row.A.Denot). BeginsAtRest (g.A.App.meaning app) now) (sym at.invariant.app) at.invariant.rest in
-    let limited : now.limit < 2 ^ 64 = omega (arith, at.invariant.goes_on.2.limit, limited) in (
+    let limited : now.limit < 2 ^ 64 = omega (arith, at.invariant.goes_on.2.limit, limited) in
+    let partners = at.invariant.partners ∙ c.requires.1.1.1.1.1.1.1.1.1.1.1.1.1.1.1.1.1.1.1.1 ∙ sym at.invariant.app in (
       within.0,
       (
         within.1.0,
@@ -53,7 +55,7 @@ play_leg-requires g c κs within =
                 within.1.1.1.1.1.0,
                 (
                   within.1.1.1.1.1.1,
-                  (bounds.0, (bounds.1.0, (others.0, (others.1.0, (others.1.1.0, (others.1.1.1.1.1.1.0, (rest, (refl, (limited, at.invariant.none_left))))))))),
+                  (bounds.0, (bounds.1.0, (others.0, (others.1.0, (others.1.1.0, (others.1.1.1.1.1.1.0, (rest, (refl, (limited, (at.invariant.none_left, partners)))))))))),
                 ),
               ),
             ),
@@ -66,7 +68,7 @@ play_leg-requires g c κs within =
 
 pub returns-in_err-rounds-clause-fault : goal.returns-in_err-rounds-clause-fault
 returns-in_err-rounds-clause-fault g c =
-    let at = c.loop-lists in
+    let at = c.loop-steps in
     let now = at.engine.progress in
     let fault = subst (λ (app : g.row.A.Denot). IsRunFault (g.A.App.meaning app) now c.in_err-rounds.field-0.0) at.invariant.app c.in_err-rounds.ensures.fault in
     let e = err_from_is_err_and c.from_residual.result c.from_residual.ensures.1 in
@@ -74,7 +76,7 @@ returns-in_err-rounds-clause-fault g c =
 
 pub returns-in_err-rounds-clause-cut : goal.returns-in_err-rounds-clause-cut
 returns-in_err-rounds-clause-cut g c =
-    let at = c.loop-lists in
+    let at = c.loop-steps in
     let now = at.engine.progress in
     let new = c.play_leg.new.outlet in
     let why = c.in_err-rounds.field-0.0 in
@@ -89,7 +91,7 @@ returns-in_err-rounds-clause-cut g c =
 
 pub returns-in_err-engine-clause-cut : goal.returns-in_err-engine-clause-cut
 returns-in_err-engine-clause-cut g c =
-    let at = c.loop-lists in
+    let at = c.loop-steps in
     let old = at.engine.progress in
     let now = c.play_leg.new.engine.progress in
     let new = c.play_leg.new.outlet in
@@ -104,7 +106,7 @@ returns-in_err-engine-clause-cut g c =
 
 pub returns-in_err-finals-clause-cut : goal.returns-in_err-finals-clause-cut
 returns-in_err-finals-clause-cut g c =
-    let at = c.loop-lists in
+    let at = c.loop-steps in
     let old = at.engine.progress in
     let now = c.play_leg.new.engine.progress in
     let new = c.play_leg.new.outlet in
@@ -124,7 +126,7 @@ renamed-requires-clause-idle g c κs within =
     let app = c.args.engine.app in
     let now = c.play_leg.new.engine.progress in
     let new = c.play_leg.new.outlet in
-    let leg = subst (λ (app : g.row.A.Denot). IsOnLeg (g.A.App.meaning app) c.loop-lists.engine.progress new.has_failed c.in_ok-rounds.field-0 now new.told) c.loop-lists.invariant.app c.in_ok-rounds.ensures.leg in
+    let leg = subst (λ (app : g.row.A.Denot). IsOnLeg (g.A.App.meaning app) c.loop-steps.engine.progress new.has_failed c.in_ok-rounds.field-0 now new.told) c.loop-steps.invariant.app c.in_ok-rounds.ensures.leg in
     (c.rest_laws.ensures.no_jobs app now [] leg.rest.values leg.rest.course.come.sound).0 refl
 
 pub renamed-requires-clause-silent : goal.renamed-requires-clause-silent
@@ -137,13 +139,13 @@ pub end-requires-after_bounds : goal.end-requires-after_bounds
 end-requires-after_bounds g c κs within =
     no_node c.play_leg.new.engine.progress.nodes c.least.result (c.least.ensures.least ∙ ap least_of c.graph.ensures.nodes) (c.is_none.ensures ∙ ap not c.if-is_none.true)
 
-pub loop-lists-preserved : goal.loop-lists-preserved
-loop-lists-preserved g c =
+pub loop-steps-preserved : goal.loop-steps-preserved
+loop-steps-preserved g c =
     let laws = c.rounds_laws.ensures in
     let legs = c.leg_laws.ensures in
     let own = c.args.engine.app in
     let app = g.A.App.meaning own in
-    let at = c.loop-lists in
+    let at = c.loop-steps in
     let old = at.engine.progress in
     let now = c.play_leg.new.engine.progress in
     let new = c.play_leg.new.outlet in
@@ -168,6 +170,7 @@ loop-lists-preserved g c =
       none_left = λ failed. ap (λ (p : Progress g.row.A-Val.Denot). p.log) renamed.after;
       few = omega (arith, at.invariant.few, c.in_ok-rounds.ensures.ended, ap (λ (p : Progress g.row.A-Val.Denot). p.ended) renamed.after);
       room = c.play_leg.ensures.same_room ∙ at.invariant.room;
+      partners = c.play_leg.ensures.partners ∙ at.invariant.partners;
     }
 
 -- ---- at the end
@@ -176,7 +179,7 @@ pub returns-clause-end : goal.returns-clause-end
 returns-clause-end g c =
     let laws = c.rounds_laws.ensures in
     let own = c.args.engine.app in
-    let at = c.loop-lists in
+    let at = c.loop-steps in
     let old = at.engine.progress in
     let now = c.play_leg.new.engine.progress in
     let new = c.play_leg.new.outlet in
@@ -190,10 +193,10 @@ returns-clause-end g c =
       told_ends (laws.end own) (laws.taken own) g.start old now on.0 new.told at.rounds rounds new.has_failed on.2 leg empty finals.finals finals.ensures.store finals.ensures.text finals.ensures.count,
     )
 
-pub loop-lists-smaller : goal.loop-lists-smaller
-loop-lists-smaller g c =
+pub loop-steps-smaller : goal.loop-steps-smaller
+loop-steps-smaller g c =
     let own = c.args.engine.app in
-    let at = c.loop-lists in
+    let at = c.loop-steps in
     let old = at.engine.progress in
     let now = c.play_leg.new.engine.progress in
     let next = c.in_ok-engine.engine.progress in

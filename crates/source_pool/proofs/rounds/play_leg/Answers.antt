@@ -26,7 +26,7 @@ loop-engine-init g c =
     let had = begun.has_failed in
     let rest = c.requires.1.1.1.1.1.1.1.1.1.1.1.1.1.0 in
     let begins = c.requires.1.1.1.1.1.1.1.1.1.1.1.1.1.1.0 in
-    let none_left = c.requires.1.1.1.1.1.1.1.1.1.1.1.1.1.1.1.1 in
+    let none_left = c.requires.1.1.1.1.1.1.1.1.1.1.1.1.1.1.1.1.0 in
     let now = c.tell.new.engine.progress in
     let told = c.tell.new.outlet.told in
     let drain = subst (λ (p : Progress g.row.A-Val.Denot). had ≡ false → now ≡ drained app p) begins c.in_ok-tell.ensures.drains in
@@ -46,6 +46,7 @@ loop-engine-init g c =
           (tells_same g.K.Sink.contents g.K.Sink.faults c.args.outlet.now begun c.args.out.now c.args.out.now (ap (λ (o : Outlet). o.held) c.begin_leg.ensures) (ap (λ (o : Outlet). o.has_failed) c.begin_leg.ensures) refl)
           c.in_ok-tell.ensures.tells (told_is ∙ ap (told_by app had) (sym begins));
       room = c.tell.ensures.same_room;
+      partners = refl;
     }
 
 pub returns-in_err-tell-clause-cut : goal.returns-in_err-tell-clause-cut
@@ -75,7 +76,8 @@ play_round-requires g c κs within =
     let at = c.loop-engine in
     let now = at.engine.progress in
     let rest = subst (λ (app : g.row.A.Denot). IsAtRest (g.A.App.meaning app) g.start (values_of g.start.cells) (state_at_rest now) at.outlet.told now) (sym at.invariant.app) at.invariant.leg.rest in
-    let some = some_node now.nodes c.least.result (c.least.ensures.least ∙ ap least_of c.graph.ensures.nodes) (sym c.is_some.ensures ∙ c.loop-engine-test.true) in (
+    let some = some_node now.nodes c.least.result (c.least.ensures.least ∙ ap least_of c.graph.ensures.nodes) (sym c.is_some.ensures ∙ c.loop-engine-test.true) in
+    let partners = at.invariant.partners ∙ c.requires.1.1.1.1.1.1.1.1.1.1.1.1.1.1.1.1.1 ∙ sym at.invariant.app in (
       within.0,
       (
         within.1.0,
@@ -85,7 +87,7 @@ play_round-requires g c κs within =
             within.1.1.1.0,
             (
               within.1.1.1.1.0,
-              (within.1.1.1.1.1.0, (within.1.1.1.1.1.1, (bounds.0, (bounds.1.0, (others.0, (others.1.0, (others.1.1.0, (workers, (rest, (some, refl)))))))))),
+              (within.1.1.1.1.1.0, (within.1.1.1.1.1.1, (bounds.0, (bounds.1.0, (others.0, (others.1.0, (others.1.1.0, (workers, (rest, (some, (refl, partners))))))))))),
             ),
           ),
         ),
@@ -144,6 +146,7 @@ loop-engine-preserved g c =
       few = omega (arith, at.invariant.few, c.in_ok-play_round.ensures.ended);
       tells = tells_on g.K.Sink.contents g.K.Sink.faults c.args.outlet.now at.outlet c.play_round.new.outlet c.args.out.now at.out c.play_round.new.out at.outlet.told on.0 c.play_round.new.outlet.told at.invariant.tells on.2 on.1;
       room = c.play_round.ensures.same_room ∙ at.invariant.room;
+      partners = c.play_round.ensures.partners ∙ at.invariant.partners;
     }
 
 pub returns-in_err-play_round-clause-cut : goal.returns-in_err-play_round-clause-cut

@@ -14,6 +14,7 @@ invariant-loop-engine g l = record {
   few : g.start.ended + l.rounds ≤ l.engine.progress.ended;
   tells : TellsMore g.K.Sink.contents g.K.Sink.faults l.fn.outlet l.fn.out l.outlet l.out l.outlet.told;
   room : g.K.Sink.room l.out ≡ g.K.Sink.room l.fn.out;
+  partners : l.lists.partners ≡ l.fn.lists.partners;
 }
 
 abbrev pub decreases-loop-engine : goal.decreases-loop-engine

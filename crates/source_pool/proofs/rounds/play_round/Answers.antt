@@ -30,7 +30,7 @@ act_or_perform-requires g c κs within =
                   record { owned = sent.owned; leaving = λ k. sent.leaving (λ _. k (of_param 4)) },
                   (
                     record { owned = horizon.owned; leaving = λ k. horizon.leaving (λ _. k (of_param 5)) },
-                    (others.0, (others.1.0, (others.1.1.0, (others.1.1.1.0, (others.1.1.1.1.0, others.1.1.1.1.1.0))))),
+                    (others.0, (others.1.0, (others.1.1.0, (others.1.1.1.0, (others.1.1.1.1.0, (others.1.1.1.1.1.0, others.1.1.1.1.1.1.1)))))),
                   ),
                 ),
               ),
@@ -49,7 +49,7 @@ returns-clause-rest g c =
     let had = c.args.outlet.now.has_failed in
     let middle = c.act_or_perform.new.engine.progress in
     let now = c.tell.new.engine.progress in
-    let text = c.requires.1.1.1.1.1.1.1.1.1.1.1.1.1.1.1 in
+    let text = c.requires.1.1.1.1.1.1.1.1.1.1.1.1.1.1.1.0 in
     let drain = subst (λ (other : g.row.A.Denot). had ≡ false → now ≡ drained (g.A.App.meaning other) middle) c.act_or_perform.ensures.app c.in_ok-tell.ensures.drains in
     let told = subst (λ (other : g.row.A.Denot). c.tell.new.outlet.told ≡ c.args.outlet.now.told ++ told_by (g.A.App.meaning other) had middle) c.act_or_perform.ensures.app c.in_ok-tell.ensures.told in
     let rest = rest_told (c.draining_laws.ensures c.args.engine.now.app) start middle now cells next g.from.text had c.in_ok-act_or_perform.ensures.rest drain c.tell.ensures.stands in

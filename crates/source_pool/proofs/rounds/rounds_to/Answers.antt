@@ -1,4 +1,3 @@
-use mir.Syntax.{of_param}
 use Rattle.std.proofs.Common.{◌≡◌, ◌<◌, ◌^◌, List, [], ℕ, refl, subst, rules, arith}
 use Rattle.cell_store.specs.Values.{values_of}
 use Rattle.source_pool.proofs.Flows.{stream_end, stream_front, stream_over}
@@ -13,46 +12,15 @@ use Rattle.text_outlet.specs.Sending.{IsSent, TellsMore}
 use Rattle.source_pool.proofs.Sending.{first_told}
 use Rattle.source_pool.proofs.rounds.rounds_to.Goals as goal
 
-pub counted_rounds-run-requires : goal.counted_rounds-run-requires
-counted_rounds-run-requires g c κs within =
+pub staffed_rounds-run-requires-clause-rest : goal.staffed_rounds-run-requires-clause-rest
+staffed_rounds-run-requires-clause-rest g c κs within =
     let progress = c.args.engine.progress in
     let kept = c.graph-graph.ensures.kept in
     let sound = c.rest_laws.ensures.idle c.args.engine.app progress kept.jobs kept.values kept.sound c.requires.at_rest in
-    let rest = c.drawing_laws.ensures.starts c.args.engine.app progress (values_of progress.cells) sound c.requires.not_over in
-    let limited : progress.limit < 2 ^ 64 = omega (arith, kept.limited) in
-    let some : 0 < c.new-blank.result.parts = omega (arith, c.new-blank.ensures) in
-    let sent = c.type_bounds.send-A-Val in
-    let horizon = c.type_bounds.send-A-Horizon in (
-      within.0,
-      (
-        within.1.0,
-        (
-          within.1.1.0,
-          (
-            within.1.1.1.0,
-            (
-              search rules,
-              (
-                within.1.1.1.1.0,
-                (
-                  within.1.1.1.1.1,
-                  (
-                    record { owned = sent.owned; leaving = λ k. sent.leaving (λ _. k (of_param 5)) },
-                    (
-                      record { owned = horizon.owned; leaving = λ k. horizon.leaving (λ _. k (of_param 6)) },
-                      (
-                        c.type_bounds.sync-R,
-                        (c.type_bounds.sync-A, (c.type_bounds.sync-G, (refl, (refl, (some, (c.requires.workers.0, (rest, (refl, (limited, c.new-outlet.ensures.no_fault))))))))),
-                      ),
-                    ),
-                  ),
-                ),
-              ),
-            ),
-          ),
-        ),
-      ),
-    )
+    c.drawing_laws.ensures.starts c.args.engine.app progress (values_of progress.cells) sound c.requires.not_over
+
+pub staffed_rounds-run-requires-clause-limited : goal.staffed_rounds-run-requires-clause-limited
+staffed_rounds-run-requires-clause-limited g c κs within = omega (arith, c.graph-graph.ensures.kept.limited)
 
 pub returns-in-Ok-clause-flow : goal.returns-in-Ok-clause-flow
 returns-in-Ok-clause-flow g c =
@@ -63,7 +31,7 @@ returns-in-Ok-clause-flow g c =
     let end = c.in-Ok.ensures.end in
     let told = end.1 begin [] (first_told known faults c.new-outlet.result begin c.new-outlet.ensures.held c.new-outlet.ensures.no_fault) in
     let sent = subst (λ held. IsSent transfer c.flush.new.self.has_failed held end.0) c.flush.ensures.nothing_held (c.flush.ensures.tells begin end.0 told) in
-    let ended = stream_end c.args.engine.progress transfer end.0 c.counted_rounds-run.new.outlet.has_failed c.flush.new.self.has_failed c.in-Ok.finals c.in-Ok.rounds c.flush.ensures.stays end.2 sent in
+    let ended = stream_end c.args.engine.progress transfer end.0 c.staffed_rounds-run.new.outlet.has_failed c.flush.new.self.has_failed c.in-Ok.finals c.in-Ok.rounds c.flush.ensures.stays end.2 sent in
     rw c.has_failed.ensures ended
 
 pub returns-in-Ok-clause-never_falls : goal.returns-in-Ok-clause-never_falls
@@ -84,18 +52,18 @@ returns-in-Err-Budget-clause-flow g c =
     let begin = c.args.out.now in
     let app = g.A.App.meaning c.args.engine.app in
     let start = c.args.engine.progress in
-    let next = c.counted_rounds-run.new.outlet in
-    let sink = c.counted_rounds-run.new.out in
+    let next = c.staffed_rounds-run.new.outlet in
+    let sink = c.staffed_rounds-run.new.out in
     let is : c.in-Err-Budget.field-0 ≡ cause.Budget c.in-Err-Budget.created c.in-Err-Budget.limit = rw c.in-Err-Budget.is at c.in-Err-Budget.field-0-is in
     let Cut = λ (why : OverCause). (told : List ℕ) × TellsMore known faults c.new-outlet.result begin next sink told × IsCutShort app start next.has_failed told why in
-    let short : Cut (cause.Budget c.in-Err-Budget.created c.in-Err-Budget.limit) = subst Cut is (subst (λ (run : Result (Finals g.row.A-Val.Denot × ℕ) OverCause). IfErr run Cut) c.in-Err-Budget.is c.counted_rounds-run.ensures.cut) in
+    let short : Cut (cause.Budget c.in-Err-Budget.created c.in-Err-Budget.limit) = subst Cut is (subst (λ (run : Result (Finals g.row.A-Val.Denot × ℕ) OverCause). IfErr run Cut) c.in-Err-Budget.is c.staffed_rounds-run.ensures.cut) in
     let told = short.1 begin [] (first_told known faults c.new-outlet.result begin c.new-outlet.ensures.held c.new-outlet.ensures.no_fault) in
     let kept = c.graph-graph.ensures.kept in
     let sound = c.rest_laws.ensures.idle c.args.engine.app start kept.jobs kept.values kept.sound c.requires.at_rest in
     let rest = c.drawing_laws.ensures.starts c.args.engine.app start (values_of start.cells) sound c.requires.not_over in
     let fronts = c.kept_laws.ensures.fronts c.args.engine.app in
     let over : IsOverLimit app start c.in-Err-Budget.created c.in-Err-Budget.limit =
-    subst (IsRunFault app start) is (subst (λ (run : Result (Finals g.row.A-Val.Denot × ℕ) OverCause). IfErr run (IsRunFault app start)) c.in-Err-Budget.is c.counted_rounds-run.ensures.fault) in
+    subst (IsRunFault app start) is (subst (λ (run : Result (Finals g.row.A-Val.Denot × ℕ) OverCause). IfErr run (IsRunFault app start)) c.in-Err-Budget.is c.staffed_rounds-run.ensures.fault) in
     let flushed = c.flush-in-Err-Budget in
     let transfer = transfer_of known faults begin flushed.new.out in
     let sent = subst (λ held. IsSent transfer flushed.new.self.has_failed held short.0) flushed.ensures.nothing_held (flushed.ensures.tells begin short.0 told) in
@@ -109,11 +77,11 @@ returns-in-Err-Budget-clause-never_falls g c =
     let begin = c.args.out.now in
     let app = g.A.App.meaning c.args.engine.app in
     let start = c.args.engine.progress in
-    let next = c.counted_rounds-run.new.outlet in
-    let sink = c.counted_rounds-run.new.out in
+    let next = c.staffed_rounds-run.new.outlet in
+    let sink = c.staffed_rounds-run.new.out in
     let is : c.in-Err-Budget.field-0 ≡ cause.Budget c.in-Err-Budget.created c.in-Err-Budget.limit = rw c.in-Err-Budget.is at c.in-Err-Budget.field-0-is in
     let Cut = λ (why : OverCause). (told : List ℕ) × TellsMore known faults c.new-outlet.result begin next sink told × IsCutShort app start next.has_failed told why in
-    let short : Cut (cause.Budget c.in-Err-Budget.created c.in-Err-Budget.limit) = subst Cut is (subst (λ (run : Result (Finals g.row.A-Val.Denot × ℕ) OverCause). IfErr run Cut) c.in-Err-Budget.is c.counted_rounds-run.ensures.cut) in
+    let short : Cut (cause.Budget c.in-Err-Budget.created c.in-Err-Budget.limit) = subst Cut is (subst (λ (run : Result (Finals g.row.A-Val.Denot × ℕ) OverCause). IfErr run Cut) c.in-Err-Budget.is c.staffed_rounds-run.ensures.cut) in
     let told = short.1 begin [] (first_told known faults c.new-outlet.result begin c.new-outlet.ensures.held c.new-outlet.ensures.no_fault) in
     (c.flush-in-Err-Budget.ensures.tells begin short.0 told).never_falls
 
@@ -126,11 +94,11 @@ returns-clause-flow g c =
     let begin = c.args.out.now in
     let app = g.A.App.meaning c.args.engine.app in
     let start = c.args.engine.progress in
-    let next = c.counted_rounds-run.new.outlet in
-    let sink = c.counted_rounds-run.new.out in
+    let next = c.staffed_rounds-run.new.outlet in
+    let sink = c.staffed_rounds-run.new.out in
     let is : c.in-Err-NoRoom.field-0 ≡ cause.NoRoom = simp c.in-Err-NoRoom.is at c.in-Err-NoRoom.field-0-is in
     let Cut = λ (why : OverCause). (told : List ℕ) × TellsMore known faults c.new-outlet.result begin next sink told × IsCutShort app start next.has_failed told why in
-    let short : Cut (cause.NoRoom) = subst Cut is (subst (λ (run : Result (Finals g.row.A-Val.Denot × ℕ) OverCause). IfErr run Cut) c.in-Err-NoRoom.is c.counted_rounds-run.ensures.cut) in
+    let short : Cut (cause.NoRoom) = subst Cut is (subst (λ (run : Result (Finals g.row.A-Val.Denot × ℕ) OverCause). IfErr run Cut) c.in-Err-NoRoom.is c.staffed_rounds-run.ensures.cut) in
     let told = short.1 begin [] (first_told known faults c.new-outlet.result begin c.new-outlet.ensures.held c.new-outlet.ensures.no_fault) in
     let kept = c.graph-graph.ensures.kept in
     let sound = c.rest_laws.ensures.idle c.args.engine.app start kept.jobs kept.values kept.sound c.requires.at_rest in
@@ -145,10 +113,10 @@ returns-clause-never_falls g c =
     let begin = c.args.out.now in
     let app = g.A.App.meaning c.args.engine.app in
     let start = c.args.engine.progress in
-    let next = c.counted_rounds-run.new.outlet in
-    let sink = c.counted_rounds-run.new.out in
+    let next = c.staffed_rounds-run.new.outlet in
+    let sink = c.staffed_rounds-run.new.out in
     let is : c.in-Err-NoRoom.field-0 ≡ cause.NoRoom = simp c.in-Err-NoRoom.is at c.in-Err-NoRoom.field-0-is in
     let Cut = λ (why : OverCause). (told : List ℕ) × TellsMore known faults c.new-outlet.result begin next sink told × IsCutShort app start next.has_failed told why in
-    let short : Cut (cause.NoRoom) = subst Cut is (subst (λ (run : Result (Finals g.row.A-Val.Denot × ℕ) OverCause). IfErr run Cut) c.in-Err-NoRoom.is c.counted_rounds-run.ensures.cut) in
+    let short : Cut (cause.NoRoom) = subst Cut is (subst (λ (run : Result (Finals g.row.A-Val.Denot × ℕ) OverCause). IfErr run Cut) c.in-Err-NoRoom.is c.staffed_rounds-run.ensures.cut) in
     let told = short.1 begin [] (first_told known faults c.new-outlet.result begin c.new-outlet.ensures.held c.new-outlet.ensures.no_fault) in
     told.never_falls

@@ -1,4 +1,4 @@
-use Rattle.source_pool.proofs.rounds.rounds_to.Given as goal
+use Rattle.source_pool.proofs.staffing.all_rounds.Given as goal
 
 abbrev pub ghost-counted_rounds : goal.ghost-counted_rounds
 ghost-counted_rounds g a = a.engine.progress
