@@ -1,4 +1,4 @@
-ghost use Rattle.std.specs.Prelude.{◌≡◌, ◌+◌, ◌<◌, ◌↔◌, ◌==◌, [], ◌∷◌, length, position, IsNone, IfSome, OnSome, IfNone};
+ghost use Rattle.std.specs.Prelude.{◌≡◌, ◌+◌, ◌^◌, ◌<◌, ◌↔◌, ◌==◌, [], ◌∷◌, length, position, IsNone, IfSome, OnSome, IfNone};
 ghost use Rattle.std.specs.Str.Lines.{strip_carriage_return};
 ghost use Rattle.kdg_text.specs.Lines.{lines_of, parts_of};
 ghost use Rattle.kdg_text.specs.Faults.{before_comment};
@@ -41,10 +41,15 @@ impl<'a> Lines<'a> {
     pub fn new(input: &'a [u8]) -> Lines<'a>
         ensures { result ≡ record { number = 1; lines = lines_of input.now } }
     {
-        Lines {
-            rest: input,
-            number: 1,
-        }
+        Lines::numbered_from(1, input)
+    }
+
+    /// All lines of what is left of an input, numbered from `number`.
+    pub fn numbered_from(number: u64, rest: &'a [u8]) -> Lines<'a>
+        requires { number + length rest.now < 2 ^ 64 }
+        ensures { result ≡ record { number = number; lines = lines_of rest.now } }
+    {
+        Lines { rest, number }
     }
 
     /// The number of the next line. At the end it is one more than the number of lines.
@@ -52,6 +57,14 @@ impl<'a> Lines<'a> {
         ensures { result ≡ self.now.number }
     {
         self.number
+    }
+
+    /// What is left of the input, from the start of the next line on.
+    pub fn rest(&self) -> &'a [u8]
+        ensures lines { lines_of result.now ≡ self.now.lines }
+        ensures fits { self.now.number + length result.now < 2 ^ 64 }
+    {
+        self.rest
     }
 
     /// The next line, or `None` at the end.

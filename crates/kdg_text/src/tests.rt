@@ -108,6 +108,22 @@ fn inputs_are_cut_into_lines(rt: HostRuntime) -> Result<(), Fail> {
 }
 
 #[test]
+fn lines_go_on_from_what_is_left(rt: HostRuntime) {
+    let mut lines = Lines::new(b"a\r\nbc\nd");
+    lines.next_line();
+    let rest = lines.rest();
+    assert_eq!(rt; rest, b"bc\nd".as_slice());
+
+    let mut lines = Lines::numbered_from(lines.number() + 1, &rest[3..]);
+    assert_eq!(rt; lines.number(), 3);
+    assert_eq!(rt;
+        lines.next_line().map(|line| line.bytes),
+        Some(b"d".as_slice())
+    );
+    assert!(rt; lines.next_line().is_none());
+}
+
+#[test]
 fn lines_are_cut_into_tokens(rt: HostRuntime) -> Result<(), Fail> {
     let marks = b"(),=";
     for (line, want) in [

@@ -8,7 +8,6 @@ mod line_form;
 mod pattern;
 mod plain_line;
 mod reader;
-mod unread;
 
 pub use pattern::{Pattern, PlaceList};
 pub use reader::read_mtx;

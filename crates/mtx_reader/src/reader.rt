@@ -10,9 +10,9 @@ ghost use Rattle.mtx_reader.specs.Readings.{answer_from, end_of, forms_left, is_
 use crate::banner::{Banner, Field, Symmetry, banner_of};
 use crate::faults::{BANNER, ENTRY, FEW, MANY, PLACE, SIZE, beyond};
 use crate::line_form::{Entry, LineForm, Size, form_of};
-use crate::unread::Unread;
+use crate::plain_line::next_plain;
 use crate::{Pattern, PlaceList};
-use kdg_text::{LineFault, NoRoom, ReadFail};
+use kdg_text::{LineFault, Lines, NoRoom, ReadFail};
 use std::alloc::Global;
 use std::mem;
 
@@ -42,7 +42,7 @@ fn pattern_in(alloc: Global, input: &[u8]) -> Result<Pattern, ReadFail>
     ensures answer { Answers result (pattern_of input.now) }
     ensures pattern { IfOk result IsPattern }
 {
-    let mut lines = Unread::new(input);
+    let mut lines = Lines::new(input);
     match lines.next_line() {
         None => Err(ReadFail::Bad(BANNER.on_line(1))),
         Some(line) => match banner_of(line.bytes) {
@@ -53,7 +53,7 @@ fn pattern_in(alloc: Global, input: &[u8]) -> Result<Pattern, ReadFail>
 }
 
 /// The pattern that the lines below the banner spell.
-fn pattern_below(alloc: Global, banner: Banner, lines: &mut Unread) -> Result<Pattern, ReadFail>
+fn pattern_below(alloc: Global, banner: Banner, lines: &mut Lines) -> Result<Pattern, ReadFail>
     ensures answer { Answers result (answer_below banner (end_of lines.old) (forms_left banner.field lines.old)) }
     ensures pattern { IfOk result IsPattern }
 {
@@ -84,7 +84,7 @@ pub(crate) struct SaidLine {
 
 /// The next line that says something. Where there is none, the lines are at their end.
 #[inline(always)]
-fn next_said(field: Field, lines: &mut Unread) -> Option<SaidLine>
+fn next_said(field: Field, lines: &mut Lines) -> Option<SaidLine>
     ensures said { MatchOption result (forms_left field lines.old ≡ []) (λ line. forms_left field lines.old ≡ numbered_form line ∷ forms_left field lines.new) }
     ensures end { end_of lines.new ≡ end_of lines.old }
     ensures at_end { IfNone result (lines.new.number ≡ end_of lines.old) }
@@ -148,7 +148,7 @@ fn kept_places(
     alloc: Global,
     banner: Banner,
     size: Size,
-    lines: &mut Unread,
+    lines: &mut Lines,
 ) -> Result<Vec<(u32, u32)>, ReadFail>
     requires right { size_fault banner.symmetry (Some size) ≡ None }
     ensures found { IfOk result (λ named. answer_from banner size 0 [] (end_of lines.old) (forms_left banner.field lines.old) ≡ Ok (pattern_of_kept banner.field size named.items)) }
@@ -180,7 +180,7 @@ fn keep_plain_lines(
     banner: Banner,
     size: Size,
     before: u64,
-    lines: &mut Unread,
+    lines: &mut Lines,
 ) -> Result<u64, NoRoom>
     requires right { size_fault banner.symmetry (Some size) ≡ None }
     requires few { before ≤ size.entries }
@@ -193,9 +193,9 @@ fn keep_plain_lines(
 {
     let mut count = before;
     // held by the loop itself, so that it stays in registers
-    let mut left = mem::replace(lines, Unread::new(&[]));
+    let mut left = mem::replace(lines, Lines::new(&[]));
     while count < size.entries {
-        let Some(entry) = left.next_plain(banner.field, size) else {
+        let Some(entry) = next_plain(banner.field, size, &mut left) else {
             break;
         };
         push_kept(named, banner, entry)?;
