@@ -84,6 +84,7 @@ impl<'a, A: App> Engine<'a, A> {
     /// Where its children are more than may be created, it stays claimed, and the mark tells. For want
     /// of memory either nothing changes, or it stays claimed within the limit, and the mark tells. What
     /// it wrote is dropped then, as where a job is dropped. Sets are asked for as by a finish.
+    #[inline(always)]
     pub fn act<L: Ledger>(&mut self, node: NodeId, steps: &mut Steps<L>) -> Result<(), OverCause>
         requires clear { IsOfClear (A.meaning self.old.app) self.old.progress.nodes node }
         requires not_over { self.old.progress.over ≡ None }
