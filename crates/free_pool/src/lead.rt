@@ -154,7 +154,7 @@ fn work_counted<'h, 'a, R: Wait, A: App, G: Gate, K: Sink, L: Ledger>(
         // Read before the claims: an end after them is heard.
         let rung = bell.rung();
         let wish = Wish {
-            pick: plan.pick(worker, gate.choose(plan.seed, worker, turns)),
+            pick: plan.pick(gate.choose(plan.seed, worker, turns)),
             due: rhythm.due(outlet),
         };
         turns = turns.saturating_add(1);

@@ -1,19 +1,25 @@
 //! Which of the clear tasks a worker claims.
 
-/// How many parts all pending tasks make, where a place among them is told by parts.
-pub(crate) const WHOLE: u64 = 1 << 32;
+/// Of how many of the earliest clear tasks that are known a choice picks one, at an open gate. One close to the
+/// front leaves the list of them sooner than one in its middle.
+const FRONT: u64 = 4;
 
 /// Which of the clear tasks a worker claims.
 #[derive(Clone, Copy)]
 pub(crate) enum Pick {
     /// Of all, in key order the one at the remainder of this number.
     Exact(u64),
-    /// Of those that are known, the one behind so many parts of the pending tasks, or at the remainder where
-    /// fewer are known.
+    /// Of those that are known, in key order the one at this place, or at the remainder where fewer are known.
     Known(u64),
 }
 
-/// Behind how many tasks that is, where so many are pending.
-pub(crate) fn place(parts: u64, pending: usize) -> u64 {
-    (pending as u64).saturating_mul(parts) / WHOLE
+impl Pick {
+    /// One by what a gate chooses.
+    pub(crate) fn by(choice: u64, is_open: bool) -> Pick {
+        if is_open {
+            Pick::Known(choice % FRONT)
+        } else {
+            Pick::Exact(choice)
+        }
+    }
 }

@@ -3,7 +3,7 @@
 ghost use Rattle.std.specs.Prelude.{◌≡◌, ◌≤◌, IsFalse};
 
 use crate::backlog::Backlog;
-use crate::pick::{Pick, WHOLE};
+use crate::pick::Pick;
 
 /// About how many nanoseconds the tasks that a worker claims in a turn may have to do. A turn for a single
 /// task took two to three microseconds where the engine came from another processor's cache.
@@ -61,17 +61,10 @@ impl Plan {
         }
     }
 
-    /// What a worker claims where the gate gives this number. At an open one, where nobody sees which task
-    /// comes next, the number draws a place in the first half of the worker's own part of the pending tasks.
-    /// So it mostly works on what is in its processor's cache from the turns before.
-    pub(crate) fn pick(&self, worker: u32, number: u64) -> Pick {
-        if !self.is_open {
-            return Pick::Exact(number);
-        }
-        let workers = u64::from(self.workers).max(1);
-        let before = (WHOLE / workers).saturating_mul(u64::from(worker));
-        let drawn = number % WHOLE / workers / 2;
-        Pick::Known(before.saturating_add(drawn))
+    /// Which tasks a worker claims in a turn, by what the gate chooses. At an open one nobody sees which task
+    /// comes next.
+    pub(crate) fn pick(&self, choice: u64) -> Pick {
+        Pick::by(choice, self.is_open)
     }
 
     /// How many tasks a worker claims in a turn at most, of the `pending` ones: no more than half its share,

@@ -16,7 +16,7 @@ ghost use Rattle.free_pool.specs.Turns.{AreClaimed, AreDone, AreToPerform, GoesO
 
 use crate::acting::{Acting, Stuck, act_tasks};
 use crate::hand::Hand;
-use crate::pick::{Pick, place};
+use crate::pick::Pick;
 use crate::plan::Plan;
 use app_laws::App;
 use graph_update::{Claim, Done, Engine, Job};
@@ -259,7 +259,7 @@ fn claim_by<A: App>(engine: &mut Engine<'_, A>, pick: Pick) -> Result<Claim<A::V
 {
     match pick {
         Pick::Exact(number) => engine.claim(number),
-        Pick::Known(parts) => engine.claim_known(place(parts, engine.graph().len())),
+        Pick::Known(number) => engine.claim_known(number),
     }
 }
 

@@ -73,7 +73,7 @@ fn work_counted<'h, 'a, R: Wait, A: App, G: Gate, L: Ledger>(
     for _ in rt.forever() {
         // Read before the claims: an end after them is heard.
         let rung = bell.rung();
-        let pick = plan.pick(worker, gate.choose(plan.seed, worker, turns));
+        let pick = plan.pick(gate.choose(plan.seed, worker, turns));
         turns = turns.saturating_add(1);
         let (back, turned) = take_turn(rt, hall, seat, &mut hand, pick, plan, &mut steps);
         seat = back;
