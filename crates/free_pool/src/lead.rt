@@ -134,20 +134,11 @@ fn work_counted<'h, 'a, R: Wait, A: App, G: Gate, K: Sink, L: Ledger>(
 {
     part_laws();
     telling_laws::<K>();
-    let Post {
-        app,
-        hall,
-        mut seat,
-        worker,
-    } = post;
-    let Shift {
-        alloc,
-        gate,
-        plan,
-        bell,
-    } = shift;
+    let (app, hall, worker) = (post.app, post.hall, post.worker);
+    let (gate, plan, bell) = (shift.gate, shift.plan, shift.bell);
+    let mut seat = post.seat;
     let mut steps = Steps::<L>::new(blank);
-    let mut hand = Hand::new(alloc);
+    let mut hand = Hand::new(shift.alloc);
     let mut rhythm = Rhythm::new(app.task_nanos());
     let mut turns = 0u64;
     for _ in rt.forever() {
@@ -170,17 +161,13 @@ fn work_counted<'h, 'a, R: Wait, A: App, G: Gate, K: Sink, L: Ledger>(
         }
         rhythm.note(ended);
         let Ok(()) = tell_more(outlet, out, more, ended, rhythm.is_at_once()) else {
-            let seat = give_up(rt, hall, seat);
-            bell.ring();
-            return (seat, Err(NoRoom));
+            return (give_up(rt, hall, seat, bell), Err(NoRoom));
         };
         match turned.next {
             Next::Perform => {
                 let jobs = &mut hand.jobs;
                 let Ok(()) = perform_all(app, gate, worker, jobs, &mut hand.dones) else {
-                    let seat = give_up(rt, hall, seat);
-                    bell.ring();
-                    return (seat, Err(NoRoom));
+                    return (give_up(rt, hall, seat, bell), Err(NoRoom));
                 };
             }
             Next::Again => {}

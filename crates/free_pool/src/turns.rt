@@ -15,6 +15,7 @@ ghost use Rattle.free_pool.specs.Acted.{jobs_stuck, keys_acted};
 ghost use Rattle.free_pool.specs.Turns.{AreClaimed, AreDone, AreToPerform, GoesOn, IsAnswer, IsSeated, MayEnd, jobs_left, keys_ended};
 
 use crate::acting::{Acting, Stuck, act_tasks};
+use crate::bell::Bell;
 use crate::hand::Hand;
 use crate::pick::Pick;
 use crate::plan::Plan;
@@ -78,11 +79,12 @@ pub(crate) fn take_turn<'h, 'a, R: Wait, A: App, L: Ledger>(
 }
 
 /// Takes the turn, and says in it that nothing more is to be claimed for want of memory. The jobs in hand
-/// stay there.
+/// stay there. Who sleeps is woken to find that.
 pub(crate) fn give_up<'h, 'a, R: Wait, A: App>(
     rt: &R,
     hall: &'h Hall<'a, A>,
     seat: Seat<'a, A>,
+    bell: &Bell,
 ) -> Seat<'a, A>
     requires seated { IsSeated hall.now seat }
     ensures seated { IsSeated hall.now result }
@@ -92,7 +94,9 @@ pub(crate) fn give_up<'h, 'a, R: Wait, A: App>(
     move_laws::<A>();
     let mut turn = hall.enter(rt, seat);
     turn.engine().give_up();
-    turn.leave::<Brand>()
+    let seat = turn.leave::<Brand>();
+    bell.ring();
+    seat
 }
 
 /// Ends the tasks that were performed, and lets light tasks act, or claims others. Where an end is refused

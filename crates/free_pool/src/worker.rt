@@ -61,12 +61,8 @@ fn work_counted<'h, 'a, R: Wait, A: App, G: Gate, L: Ledger>(
     ensures number { result.view.number ≡ post.entry.seat.view.number }
     ensures unjoined { result.view.unjoined ≡ post.entry.seat.view.unjoined }
 {
-    let Post {
-        app,
-        hall,
-        mut seat,
-        worker,
-    } = post;
+    let (app, hall, worker) = (post.app, post.hall, post.worker);
+    let mut seat = post.seat;
     let mut steps = Steps::<L>::new(blank);
     let mut hand = Hand::new(alloc);
     let mut turns = 0u64;
@@ -84,9 +80,7 @@ fn work_counted<'h, 'a, R: Wait, A: App, G: Gate, L: Ledger>(
             Next::Perform => {
                 let jobs = &mut hand.jobs;
                 let Ok(()) = perform_all(app, gate, worker, jobs, &mut hand.dones) else {
-                    let seat = give_up(rt, hall, seat);
-                    bell.ring();
-                    return seat;
+                    return give_up(rt, hall, seat, bell);
                 };
             }
             // Where tasks acted, its own ring lets it go on at once.
