@@ -1,11 +1,11 @@
 //! What a gate that isn't open is asked, and which worker performs which task by its choices.
 
+use crate::mixer::Mixer;
 use crate::mixing::run;
 use crate::setting::{Mode, Setting};
 use kdg_text::NoRoom;
 use outer_edge::Gate;
 use std::alloc::Global;
-use std::cmp::Ordering;
 use std::sync::Wait;
 use std::sync::atomic::AtomicU64;
 use std::sync::atomic::Ordering::SeqCst;
@@ -19,6 +19,9 @@ const LOOKS: u64 = 20_000_000;
 
 /// How many tasks are clear at once.
 const GROUPS: usize = 64;
+
+/// How many tasks a group has, one for each priority.
+const ROUNDS: u64 = 256;
 
 /// A task, how often it was performed, and by which worker.
 #[derive(Drop)]
@@ -38,12 +41,10 @@ impl Place {
         }
     }
 
-    /// Records that a worker performs this task, if it is that of the key.
-    fn pass(&self, worker: u32, key: &Key) {
-        if self.key.compare(key) == Ordering::Equal {
-            self.times.fetch_add(1, SeqCst);
-            self.by.store(u64::from(worker), SeqCst);
-        }
+    /// Records that a worker performs this task.
+    fn pass(&self, worker: u32) {
+        self.times.fetch_add(1, SeqCst);
+        self.by.store(u64::from(worker), SeqCst);
     }
 
     /// Whether it was performed once, by a worker below this number.
@@ -60,7 +61,7 @@ struct Recorder {
     rounds: Vec<Vec<Place>>,
     /// For how many turns each worker has asked.
     turns: Vec<AtomicU64>,
-    /// How often it was asked with another seed, or out of turn.
+    /// How often it was asked with another seed, or out of turn, or passed by another task.
     strays: AtomicU64,
     /// How many tasks have passed.
     count: AtomicU64,
@@ -90,9 +91,10 @@ impl Gate for Recorder {
     }
 
     fn pass(&self, worker: u32, key: &Key) {
-        if let Some(round) = self.rounds.get(key.prio as usize) {
-            for place in round.iter() {
-                place.pass(worker, key);
+        match self.place_of(key) {
+            Some(place) => place.pass(worker),
+            None => {
+                self.strays.fetch_add(1, SeqCst);
             }
         }
         if self.count.fetch_add(1, SeqCst) == 0 && self.holds {
@@ -133,7 +135,7 @@ fn round_of(alloc: Global, prio: u64, paths: &[Path]) -> Result<Vec<Place>, NoRo
 fn all_rounds(alloc: Global) -> Result<Vec<Vec<Place>>, NoRoom> {
     let mut rounds = Vec::new(alloc);
     let mut paths = first_paths(alloc)?;
-    for prio in 0..64u64 {
+    for prio in 0..ROUNDS {
         rounds.push(round_of(alloc, prio, &paths)?)?;
         paths = next_paths(alloc, &paths)?;
     }
@@ -162,6 +164,13 @@ impl Recorder {
             holds,
             met: AtomicU64::new(0),
         })
+    }
+
+    /// The place of the task of a key.
+    fn place_of(&self, key: &Key) -> Option<&Place> {
+        let round = self.rounds.get(key.prio as usize)?;
+        let at = round.binary_search_by(|place| place.key.compare(key)).ok()?;
+        round.get(at)
     }
 
     /// Waits until another worker has come, or for some seconds.
@@ -276,10 +285,15 @@ fn is_recorded_by<R: Threads + Wait + Sync>(
     recorder: &Recorder,
     askers: usize,
 ) -> Result<bool, NoRoom> {
+    let mixer = Mixer {
+        times,
+        lookahead: 1,
+        groups: GROUPS as u32,
+    };
     let setting = Setting {
         mode,
         workers: 3,
-        times,
+        mixer,
     };
     drop(run(rt, alloc, &setting, recorder)?);
     let is_dealt = match mode {

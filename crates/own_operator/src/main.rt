@@ -1,14 +1,27 @@
-//! `own_operator MODE WORKERS LENGTH`: runs an operator of one's own, a closure over 64 groups of cells, and
-//! prints what the cells come to. MODE is `serial`, `rounds` or `free`, WORKERS a number from 1 to 64,
-//! LENGTH how many multiplications a task makes.
+//! `own_operator MODE WORKERS LENGTH [LOOKAHEAD [GROUPS]]`: runs an operator of one's own, a closure over
+//! groups of one cell each, and prints what the cells come to and how many tasks there were.
+//!
+//! - MODE is `serial`, `rounds` or `free`.
+//! - WORKERS, from 1 to 64, is how many workers perform tasks. Mode `serial` takes no notice of it.
+//! - LENGTH is how many multiplications a task makes, below 2^32.
+//! - LOOKAHEAD, from 1 to 4096 and by default 1, is by how much in priority each task of a group comes after
+//!   the one before it. The first one of group `at` has the priority `at % LOOKAHEAD`.
+//! - GROUPS, from 1 to 4096 and by default 64, is how many groups there are. Each has 16,384 / GROUPS tasks,
+//!   rounded down.
+//!
+//! Other words are answered by a line that tells the usage, and exit code 2.
 #![tactic(auto)]
 
 ghost use Rattle.std.specs.Prelude.{◌≤◌, IfSome};
+ghost use Rattle.own_operator.specs.Mixing.{IsMixer};
 
 #[cfg(test)]
 mod choices;
+mod mixer;
 mod mixing;
 mod setting;
+#[cfg(test)]
+mod words;
 
 use app_laws::Finals;
 use cell_store::Seen;
@@ -21,7 +34,9 @@ use std::process::ExitCode;
 
 fn main(rt: HostRuntime) -> ExitCode {
     let Some(setting) = setting_of(&rt) else {
-        let _ = eprintln!(rt; "usage: own_operator serial|rounds|free WORKERS LENGTH");
+        let _ = eprintln!(rt;
+            "usage: own_operator serial|rounds|free WORKERS LENGTH [LOOKAHEAD [GROUPS]]"
+        );
         return ExitCode::from(2);
     };
     let Ok(finals) = run(&rt, rt.alloc(), &setting, &Seeded) else {
@@ -37,7 +52,8 @@ fn main(rt: HostRuntime) -> ExitCode {
 
 /// What the words of the command line say.
 fn setting_of(rt: &(impl Env + AllocGlobal)) -> Option<Setting>
-    ensures { IfSome result (λ setting. (1 ≤ setting.workers) × (setting.workers ≤ 64)) }
+    ensures workers { IfSome result (λ setting. (1 ≤ setting.workers) × (setting.workers ≤ 64)) }
+    ensures mixer { IfSome result (λ setting. IsMixer setting.mixer) }
 {
     let mut words = Vec::new(rt.alloc());
     for word in env::args(rt).ok()?.skip(1) {

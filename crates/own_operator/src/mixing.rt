@@ -4,14 +4,15 @@ ghost use Rattle.std.specs.Prelude.{◌≡◌, ◌≤◌, ◌<◌, ◌^◌, leng
 ghost use Rattle.std.specs.List.{AllByRecursion};
 ghost use Rattle.hook_app.specs.Kept.{HookKeeps, IsAnswered, IsAsked};
 ghost use Rattle.hook_app.specs.OneLocation.{own_set};
-ghost use Rattle.own_operator.specs.Mixing.{group_sets, group_tasks, mixing, multiplied, next_children};
+ghost use Rattle.own_operator.specs.Mixing.{IsMixer, group_sets, group_tasks, mixing, multiplied, next_children};
 
+use crate::mixer::{Mixer, TASKS};
 use crate::setting::{Mode, Setting};
 use app_laws::{Child, ChildList, Effect, Finals, serial};
 use cell_store::Bundle;
 use free_pool::run_free;
 use graph_update::Engine;
-use hook_app::{Deed, Hook, HookApp};
+use hook_app::{Hook, HookApp};
 use kdg_text::{NoRoom, Text};
 use outer_edge::Gate;
 use rw_sets::{Access, RwSet};
@@ -21,50 +22,27 @@ use std::sync::Wait;
 use std::thread::Threads;
 use task_order::{Body, Start, StartList, Task};
 
-/// How many groups there are, each of one cell.
-const GROUPS: u32 = 64;
-
-/// The priority of a group's last task; its first one has 0.
-const LAST: u64 = 63;
+/// At most that many tasks may be created.
+const BUDGET: u64 = TASKS as u64;
 
 /// A number of the form 4k + 1, so that products go through many values before one comes again.
 const FACTOR: u64 = 6_364_136_223_846_793_005;
 
-/// A task multiplies the cell of its group that many times, and the next one of the group follows it.
-#[derive(Drop)]
-pub struct Mixer {
-    pub times: u32,
-}
-
-impl Deed for Mixer {
-    ghost use Rattle.own_operator.specs.Mixing.{mixing};
-
-    type Val = u64;
-
-    ghost meaning = { λ mixer. mixing mixer.times };
-
-    // Eight factors are multiplied with each other before the program runs, and such a multiplication waits
-    // some nanosecond for the one before it.
-    fn task_nanos(&self) -> Option<u64> {
-        Some(u64::from(self.times / 8))
-    }
-}
-
 /// Does what a task does. Where memory runs out, the bundle comes back as it was.
 fn mix(
     alloc: Global,
-    times: u32,
+    mixer: Mixer,
     task: &Task,
     bundle: Bundle<u64>,
 ) -> Result<Effect<u64>, Bundle<u64>>
-    requires { IsAsked (mixing times) group_sets task.now bundle }
-    ensures { IsAnswered (mixing times) group_sets task.now bundle result }
+    requires { IsAsked (mixing mixer) (group_sets mixer.groups) task.now bundle }
+    ensures { IsAnswered (mixing mixer) (group_sets mixer.groups) task.now bundle result }
 {
-    let Ok(children) = next_task(alloc, task) else {
+    let Ok(children) = next_task(alloc, mixer, task) else {
         return Err(bundle);
     };
     let mut bundle = bundle;
-    let product = multiplied(bundle.value(task.body.at), times);
+    let product = multiplied(bundle.value(task.body.at), mixer.times);
     bundle.put(task.body.at, product);
     Ok(Effect {
         bundle,
@@ -85,15 +63,17 @@ fn multiplied(value: u64, times: u32) -> u64
 }
 
 /// The next task of the group, unless this is its last.
-fn next_task(alloc: Global, task: &Task) -> Result<ChildList, NoRoom>
-    ensures { IfOk result (λ children. children ≡ next_children task.now.key.prio task.now.body) }
+fn next_task(alloc: Global, mixer: Mixer, task: &Task) -> Result<ChildList, NoRoom>
+    requires { (mixing mixer).is_fit_task task.now.key.prio task.now.body }
+    ensures { IfOk result (λ children. children ≡ next_children mixer task.now.key.prio task.now.body) }
 {
     let mut children = ChildList::new(alloc);
-    if task.key.prio >= LAST {
+    let prio = task.key.prio + u64::from(mixer.lookahead);
+    if prio >= mixer.end() {
         return Ok(children);
     }
     let next = Child {
-        prio: task.key.prio + 1,
+        prio,
         body: task.body,
         set: own_set(alloc, task.body.at)?,
     };
@@ -111,55 +91,58 @@ fn own_set(alloc: Global, group: u32) -> Result<RwSet, NoRoom>
 }
 
 /// The set of each group.
-fn sets(alloc: Global) -> Result<Vec<RwSet>, NoRoom>
-    ensures { IfOk result (λ sets. sets.items ≡ group_sets) }
+fn sets(alloc: Global, groups: u32) -> Result<Vec<RwSet>, NoRoom>
+    ensures { IfOk result (λ sets. sets.items ≡ group_sets groups) }
 {
     let mut sets = Vec::new(alloc);
-    for group in 0..GROUPS {
+    for group in 0..groups {
         sets.push(own_set(alloc, group)?)?;
     }
     Ok(sets)
 }
 
 /// A 1 in each cell.
-fn first_cells(alloc: Global) -> Result<Vec<u64>, NoRoom>
-    ensures count { IfOk result (λ cells. length cells.items ≡ 64) }
+fn first_cells(alloc: Global, groups: u32) -> Result<Vec<u64>, NoRoom>
+    ensures count { IfOk result (λ cells. length cells.items ≡ groups) }
     ensures fit { IfOk result (λ cells. AllByRecursion (λ value. value < 2 ^ 64) cells.items) }
 {
-    Ok(Vec::from_elem(alloc, 1, GROUPS as usize)?)
+    Ok(Vec::from_elem(alloc, 1, groups as usize)?)
 }
 
 /// The first task of each group.
-fn first_tasks(alloc: Global) -> Result<StartList, NoRoom>
-    ensures { IfOk result (λ first. first ≡ group_tasks) }
+fn first_tasks(alloc: Global, mixer: Mixer) -> Result<StartList, NoRoom>
+    requires { 1 ≤ mixer.lookahead }
+    ensures { IfOk result (λ first. first ≡ group_tasks mixer.lookahead mixer.groups) }
 {
     let mut first = StartList::new(alloc);
-    for at in 0..GROUPS {
+    for at in 0..mixer.groups {
+        let prio = u64::from(at % mixer.lookahead);
         let body = Body {
             kind: 0,
             at,
             arg: 0,
         };
-        first.push(Start { prio: 0, body })?;
+        first.push(Start { prio, body })?;
     }
     Ok(first)
 }
 
-/// Runs the operator to its end, with the gate's choices by the seed 1: 4,096 tasks.
+/// Runs the operator to its end, with the gate's choices by the seed 1.
 pub fn run<R: Threads + Wait + Sync, G: Gate + Sync>(
     rt: &R,
     alloc: Global,
     setting: &Setting,
     gate: &G,
 ) -> Result<Finals<u64>, NoRoom>
-    requires { (1 ≤ setting.now.workers) × (setting.now.workers ≤ 64) }
+    requires workers { (1 ≤ setting.now.workers) × (setting.now.workers ≤ 64) }
+    requires mixer { IsMixer setting.now.mixer }
 {
-    let times = setting.times;
+    let mixer = setting.mixer;
     let act = |task: &Task, bundle: Bundle<u64>| -> Result<Effect<u64>, Bundle<u64>>
-        requires { IsAsked (mixing times) group_sets task.now bundle }
-        ensures { IsAnswered (mixing times) group_sets task.now bundle result }
-    { mix(alloc, times, task, bundle) };
-    run_by(rt, alloc, setting, gate, &Mixer { times }, act)
+        requires { IsAsked (mixing mixer) (group_sets mixer.groups) task.now bundle }
+        ensures { IsAnswered (mixing mixer) (group_sets mixer.groups) task.now bundle result }
+    { mix(alloc, mixer, task, bundle) };
+    run_by(rt, alloc, setting, gate, act)
 }
 
 /// Runs an operator that keeps the mixer's deed.
@@ -168,18 +151,20 @@ fn run_by<R: Threads + Wait + Sync, G: Gate + Sync, H: Hook<u64> + Sync>(
     alloc: Global,
     setting: &Setting,
     gate: &G,
-    mixer: &Mixer,
     hook: H,
 ) -> Result<Finals<u64>, NoRoom>
     requires workers { (1 ≤ setting.now.workers) × (setting.now.workers ≤ 64) }
-    requires keeps { HookKeeps (mixing mixer.now.times) 64 group_sets 1 (H.may hook) (H.gives hook) }
+    requires mixer { IsMixer setting.now.mixer }
+    requires keeps { HookKeeps (mixing setting.now.mixer) setting.now.mixer.groups (group_sets setting.now.mixer.groups) setting.now.mixer.lookahead (H.may hook) (H.gives hook) }
 {
-    let app = HookApp::new(mixer, GROUPS, sets(alloc)?, 1, hook);
-    let (cells, first) = (first_cells(alloc)?, first_tasks(alloc)?);
+    let mixer = &setting.mixer;
+    let (groups, ahead) = (mixer.groups, u64::from(mixer.lookahead));
+    let app = HookApp::new(mixer, groups, sets(alloc, groups)?, ahead, hook);
+    let (cells, first) = (first_cells(alloc, groups)?, first_tasks(alloc, *mixer)?);
     if let Mode::Serial = setting.mode {
-        return serial(alloc, &app, cells, first, 10_000).map_err(|_| NoRoom);
+        return serial(alloc, &app, cells, first, BUDGET).map_err(|_| NoRoom);
     }
-    let engine = Engine::begin_uncounted(alloc, &app, cells, first, 10_000).map_err(|_| NoRoom)?;
+    let engine = Engine::begin_uncounted(alloc, &app, cells, first, BUDGET).map_err(|_| NoRoom)?;
     if let Mode::Free = setting.mode {
         return run_free(rt, alloc, engine, gate, 1, setting.workers).map_err(|_| NoRoom);
     }

@@ -4,12 +4,16 @@ use Rattle.own_operator.proofs.Groups.{mixed_effect, own_at}
 use Rattle.own_operator.proofs.mixing.mix.Goals as goal
 
 pub value-requires : goal.value-requires
-value-requires c = asked_named (mixing c.args.times) group_sets c.args.task.now c.args.bundle (own_at c.args.task.now.body.at c.requires.fit.0) c.requires
+value-requires c =
+    let mixer = c.args.mixer in
+    asked_named (mixing mixer) (group_sets mixer.groups) c.args.task.now c.args.bundle (own_at mixer.groups c.args.task.now.body.at c.requires.fit.0) c.requires
 
 pub put-requires : goal.put-requires
-put-requires c = asked_written (mixing c.args.times) group_sets c.args.task.now c.args.bundle (own_at c.args.task.now.body.at c.requires.fit.0) c.requires
+put-requires c =
+    let mixer = c.args.mixer in
+    asked_written (mixing mixer) (group_sets mixer.groups) c.args.task.now c.args.bundle (own_at mixer.groups c.args.task.now.body.at c.requires.fit.0) c.requires
 
 pub returns : goal.returns
 returns c = λ values are is.
-    mixed_effect c.args.times c.args.task.now c.args.bundle c.put.new.self c.in-Ok.children c.value.result c.multiplied-product.result c.new.result values
+    mixed_effect c.args.mixer c.args.task.now c.args.bundle c.put.new.self c.in-Ok.children c.value.result c.multiplied-product.result c.new.result values
     c.requires.fit.0 are is c.value.ensures c.multiplied-product.ensures c.put.ensures c.in-Ok.ensures c.new.ensures
