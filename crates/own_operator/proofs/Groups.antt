@@ -1,6 +1,6 @@
 -- The deed of the operator, and what it leaves.
 use Rattle.std.proofs.Common.{◌≡◌, ◌+◌, ◌*◌, ◌/◌, ◌%◌, ◌<◌, ◌≤◌, ◌^◌, ℕ, zero, suc, true, false, cond, List, [], ◌∷◌, length, map, refl, sym, ap, subst, ◌∙◌, arith, lit<, add-one}
-use Rattle.std.specs.Prelude.{nat_lt}
+use Rattle.std.specs.Prelude.{Result, nat_lt}
 use Rattle.std.specs.List.{AllByRecursion, range_with_len}
 use Rattle.std.proofs.Math.Nat.{mod-eq_of_lt, mul_assoc, pow-suc}
 use Rattle.std.proofs.lemmas.Bool.{cond_both}
@@ -14,9 +14,10 @@ use Rattle.rw_sets.specs.Accesses.{Accesses, IsAscending, IsInRange}
 use Rattle.cell_store.specs.declared.cell.Cell.TheVariants.{Home}
 use Rattle.cell_store.specs.Cells.{cell_in, with_value}
 use Rattle.cell_store.specs.Part.{Part}
+use Rattle.app_laws.specs.declared.app.Effect.{Effect}
 use Rattle.app_laws.specs.declared.child.Child.{Child}
 use Rattle.hook_app.specs.Hooked.{AreValuesOf, FitTogether, IsFitDeed, set_at, start_of_task}
-use Rattle.hook_app.specs.Kept.{bundle_with, effect_with}
+use Rattle.hook_app.specs.Kept.{HookKeeps, bundle_with, effect_with}
 use Rattle.hook_app.specs.OneLocation.{found_is, one_value, own_ascending, own_in_range, own_set, put_is}
 use Rattle.hook_app.specs.Values.{KeepsRead}
 use Rattle.own_operator.specs.declared.mixer.Mixer.{Mixer}
@@ -90,6 +91,14 @@ mixing_together mixer = record {
   at_sets = λ prio body fit. let e = length-map-range_with_len own_set 0 mixer.groups in omega (arith, fit.0, e);
   deeds_fit = λ start values fit are. mixed_fit mixer start values fit.0 are;
 }
+
+-- what keeps the deed does so by any name of the sets and the lookahead
+pub keeps_named : (mixer : Mixer) (sets : List Accesses) (ahead : ℕ) (may : Task → Part ℕ → Type 0) (gives : Task → Part ℕ → Result (Effect ℕ) (Part ℕ) → Type 0)
+    → sets ≡ group_sets mixer.groups → ahead ≡ mixer.lookahead → HookKeeps (mixing mixer) mixer.groups (group_sets mixer.groups) mixer.lookahead may gives
+    → HookKeeps (mixing mixer) mixer.groups sets ahead may gives
+keeps_named mixer sets ahead may gives are is keeps =
+    subst (λ (own : List Accesses). HookKeeps (mixing mixer) mixer.groups own ahead may gives) (sym are)
+    (subst (λ (later : ℕ). HookKeeps (mixing mixer) mixer.groups (group_sets mixer.groups) later may gives) (sym is) keeps)
 
 -- the first tasks are fit for an application that does the deed of that mixer
 pub first_fit : (mixer does : Mixer) (tasks : List Start) → IsMixer mixer → does ≡ mixer → tasks ≡ group_tasks mixer.lookahead mixer.groups
