@@ -1,11 +1,11 @@
 -- The posts of a team's workers, from the first split to the last join.
-use Rattle.std.proofs.Common.{get_or, Option, Some, None, true≢false, ◌≡◌, ℕ, zero, suc, ◌<◌, List, [], ◌∷◌, ◌++◌, length, length-append, refl, sym, ap, subst, ◌∙◌, arith}
+use Rattle.std.proofs.Common.{get_or, Option, Some, None, true≢false, ◌≡◌, ℕ, zero, suc, ◌+◌, ◌<◌, List, [], ◌∷◌, ◌++◌, length, length-append, refl, sym, ap, subst, ◌∙◌, arith}
 use Rattle.std.specs.Prelude.{Contains, IsSome}
 use Rattle.graph_update.specs.Engine.{EngineState}
 use Rattle.worker_gate.specs.Steps.{both_views, first_half, second_half}
 use Rattle.worker_gate.specs.Turns.{HallState, SeatState}
 use Rattle.hall_trials.specs.Seated.{HasWorked, IsSeated, MayWork}
-use Rattle.hall_trials.specs.Team.{EachAt, EachPair, IsFirst, IsPosted, IsSplit, down_from}
+use Rattle.hall_trials.specs.Team.{ArePosts, EachAt, EachPair, IsFirst, IsPosted, IsSplit, down_from}
 use Rattle.hall_trials.proofs.Joining.{first_split, joined, may_join, other_split, still_split}
 
 -- ---- lists
@@ -39,32 +39,34 @@ module _ {A V P : Type 0} (hall : HallState (EngineState A V)) (at : P → HallS
   abbrev Posted : ℕ → P → Type 0
   Posted k post = IsPosted hall (suc k) (at post) (app post) (seat post)
 
-  -- while posts are made: so many seats are split off, and each has its post
-  pub record IsPosting (n : ℕ) (own : SeatState (EngineState A V) V) (posts : List P) : Type 0 where
-    pub first : IsFirst hall (down_from n) own
-    pub splits : own.view.splits ≡ n
-    pub long : length posts ≡ n
-    pub posts_are : EachAt Posted posts
+  abbrev Posts : ℕ → SeatState (EngineState A V) V → List P → Type 0
+  Posts n own posts = ArePosts hall at app seat n own posts
 
-  pub one_more : {n : ℕ} {own next : SeatState (EngineState A V) V} {posts now : List P} → IsPosting n own posts → next ≡ record own { view = first_half own.view } → (post : P) → at post ≡ hall
-      → app post ≡ hall.origin.app → seat post ≡ record { hall = hall.id; view = second_half own.view } → now ≡ posts ++ post ∷ [] → IsPosting (suc n) next now
-  one_more {n} {own} {next} {posts} {now} posting is post same app_is other more =
+  pub no_posts : {own : SeatState (EngineState A V) V} {posts : List P} → IsFirst hall [] own → own.view.splits ≡ 0 → posts ≡ [] → Posts 0 own posts
+  no_posts {own} first whole none =
+      subst (λ (posts : List P). Posts 0 own posts) (sym none)
+      (record { first_is = first; splits = whole; long = refl; posts_are = λ k post inside. absurd (omega (arith, inside)) })
+
+  pub one_more : {n : ℕ} {own next : SeatState (EngineState A V) V} {posts now : List P} → Posts n own posts → next ≡ record own { view = first_half own.view } → (post : P) → at post ≡ hall
+      → app post ≡ hall.origin.app → seat post ≡ record { hall = hall.id; view = second_half own.view } → now ≡ posts ++ post ∷ [] → Posts (n + 1) next now
+  one_more {n} {own} {next} {posts} {now} were is post same app_is other more =
       let posted : IsPosted hall (suc n) (at post) (app post) (seat post) = record {
         at_is = same;
         app_is = app_is;
-        split = other_split hall n posting.first.split posting.splits other;
+        split = other_split hall n were.first_is.split were.splits other;
         idle = ap (λ (s : SeatState (EngineState A V) V). s.view.jobs) other;
       } in
-      let last : Posted (length posts) post = subst (λ (k : ℕ). Posted k post) (sym posting.long) posted in
-      record {
-        first = record {
-          split = first_split hall n posting.first.split posting.splits is;
-          drained = ap (λ (s : SeatState (EngineState A V) V). s.view.drained) is ∙ posting.first.drained;
+      let last : Posted (length posts) post = subst (λ (k : ℕ). Posted k post) (sym were.long) posted in
+      let one : suc n ≡ n + 1 = omega arith in
+      subst (λ (k : ℕ). Posts k next now) one (record {
+        first_is = record {
+          split = first_split hall n were.first_is.split were.splits is;
+          drained = ap (λ (s : SeatState (EngineState A V) V). s.view.drained) is ∙ were.first_is.drained;
         };
-        splits = ap (λ (s : SeatState (EngineState A V) V). s.view.splits) is ∙ ap (λ (k : ℕ). suc k) posting.splits;
-        long = let longer = length-append posts (post ∷ []) in let all = ap length more in let was = posting.long in omega (arith, longer, all, was);
-        posts_are = subst (EachAt Posted) (sym more) (each_push Posted posts post posting.posts_are last);
-      }
+        splits = ap (λ (s : SeatState (EngineState A V) V). s.view.splits) is ∙ ap (λ (k : ℕ). suc k) were.splits;
+        long = let longer = length-append posts (post ∷ []) in let all = ap length more in let was = were.long in omega (arith, longer, all, was);
+        posts_are = subst (EachAt Posted) (sym more) (each_push Posted posts post were.posts_are last);
+      })
 
   -- each may work at its post
   pub may_work : (posts : List P) → EachAt Posted posts → (k : ℕ) (post : P) → k < length posts → MayWork (at (get_or posts k post)) (app (get_or posts k post)) (seat (get_or posts k post))

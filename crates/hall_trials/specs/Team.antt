@@ -35,3 +35,11 @@ module _ {A V : Type 0} (hall : HallState (EngineState A V)) where
     pub app_is : app ≡ hall.origin.app
     pub split : IsSplit number [] seat
     pub idle : seat.view.jobs ≡ []
+
+module _ {A V P : Type 0} (hall : HallState (EngineState A V)) (at : P → HallState (EngineState A V)) (app : P → A) (seat : P → SeatState (EngineState A V) V) where
+  -- so many seats are split from the first one, and each has its post
+  pub record ArePosts (n : ℕ) (first : SeatState (EngineState A V) V) (posts : List P) : Type 0 where
+    pub first_is : IsFirst hall (down_from n) first
+    pub splits : first.view.splits ≡ n
+    pub long : length posts ≡ n
+    pub posts_are : EachAt (λ k post. IsPosted hall (suc k) (at post) (app post) (seat post)) posts

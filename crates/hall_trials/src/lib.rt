@@ -11,6 +11,8 @@ mod meeting;
 #[cfg(test)]
 mod outcomes;
 #[cfg(test)]
+mod place;
+#[cfg(test)]
 mod team;
 #[cfg(test)]
 mod tests;

@@ -82,7 +82,10 @@ fn perform_and_end<'h, 'a, R: Wait, A: App>(
 {
     match perform(app, job, worker, &Still) {
         Ok(done) => end_or_stop(rt, hall, seat, done),
-        Err(_) => (give_up_in_turn(rt, hall, seat), false),
+        Err(job) => {
+            drop(job);
+            (give_up_in_turn(rt, hall, seat), false)
+        }
     }
 }
 

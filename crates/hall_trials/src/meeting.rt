@@ -5,10 +5,13 @@ ghost use Rattle.run_laws.specs.Rest.{NoneRuns};
 ghost use Rattle.graph_update.specs.Engine.{EngineState};
 ghost use Rattle.worker_gate.specs.Steps.{left_by};
 ghost use Rattle.hall_trials.specs.Seated.{HasWorked, IsSeated};
-ghost use Rattle.hall_trials.specs.Team.{IsSplit};
+ghost use Rattle.hall_trials.specs.Team.{IsFirst, IsSplit};
 
+use crate::inputs::Startable;
+use crate::outcomes::begin;
+use crate::place::{Place, begin_hall};
 use app_laws::App;
-use graph_update::Engine;
+use graph_update::{Counts, Engine};
 use kdg_text::NoRoom;
 use std::alloc::Global;
 use std::marker::Brand;
@@ -19,22 +22,67 @@ use worker_gate::{EntryOf, Hall, Post, Seat, Turn, leaving_laws, post_sends};
 /// No worker's number.
 const NOBODY: u64 = u64::MAX;
 
-/// Seat 0 takes the turn. While it has it, seat 1 tries in a second thread, and once it has left, seat 1
-/// tries again. The engine comes back with the holders that the three tries met.
-pub fn meet<'a, R: Threads + Sync, A: App + Sync>(
+/// What two threads meet at a hall.
+#[derive(Clone, Copy)]
+pub struct Meeting {
+    /// The holders that the three tries met.
+    pub holders: [Option<u32>; 3],
+    /// How far the engine had come before it.
+    pub before: Counts,
+    /// How far it has come after it.
+    pub after: Counts,
+}
+
+/// Two threads meet at a hall over an application's start. They don't where it has too many first tasks.
+pub fn meet_at_start<R: Threads + Sync, A: Startable + Sync>(
     rt: &R,
     alloc: Global,
-    engine: Engine<'a, A>,
-) -> Result<(Engine<'a, A>, [Option<u32>; 3]), NoRoom>
+    app: &A,
+) -> Result<Option<Meeting>, NoRoom> {
+    match begin(alloc, app)? {
+        Some(engine) => Ok(Some(meet(rt, alloc, engine)?)),
+        None => Ok(None),
+    }
+}
+
+/// Seat 0 takes the turn. While it has it, seat 1 tries in a second thread, and once it has left, seat 1
+/// tries again.
+fn meet<R: Threads + Sync, A: App + Sync>(
+    rt: &R,
+    alloc: Global,
+    engine: Engine<'_, A>,
+) -> Result<Meeting, NoRoom>
     requires idle { NoneRuns engine.progress.nodes }
     requires unmarked { engine.progress.over ≡ None }
 {
-    let app = engine.app();
-    let Ok((hall, seat)) = Hall::<A>::begin(alloc, engine) else {
-        return Err(NoRoom);
-    };
+    let before = engine.counts();
+    let place = begin_hall(alloc, engine)?;
+    let (holders, after) = meet_in(rt, place);
+    Ok(Meeting {
+        holders,
+        before,
+        after,
+    })
+}
+
+/// The holders that they meet in a hall, and how far its engine has come after it.
+fn meet_in<R: Threads + Sync, A: App + Sync>(
+    rt: &R,
+    place: Place<'_, A>,
+) -> ([Option<u32>; 3], Counts)
+    requires first { IsFirst place.hall [] place.seat }
+    requires whole { place.seat.view.splits ≡ 0 }
+{
+    let Place { app, hall, seat } = place;
     let (seat, holders) = meet_at(rt, app, &hall, seat);
-    Ok((hall.close(seat), holders))
+    (holders, counts_at_end(hall.close(seat)))
+}
+
+/// How far an engine has come that is let go.
+fn counts_at_end<A: App>(engine: Engine<'_, A>) -> Counts {
+    let counts = engine.counts();
+    drop(engine);
+    counts
 }
 
 /// They meet at a hall, of which this is the first seat.

@@ -1,10 +1,10 @@
 //! What runs in a hall come to, beside the serial run.
 
-ghost use Rattle.std.specs.Prelude.{◌≡◌, ◌<◌, ◌≤◌, ◌^◌, None, length, IfOk, IfSome};
-ghost use Rattle.app_laws.specs.Applications.{AreFitStarts};
+ghost use Rattle.std.specs.Prelude.{◌≡◌, ◌<◌, ◌≤◌, None, length, IfOk, IfSome};
 ghost use Rattle.run_laws.specs.Rest.{NoneRuns};
 ghost use Rattle.hall_trials.specs.Ends.{HasGoneOn, IsSequentialEnd};
 
+use crate::inputs::Startable;
 use crate::team::worked;
 use app_laws::{App, Finals, SerialFault, serial};
 use cell_store::{Held, Seen, Store};
@@ -16,7 +16,6 @@ use std::alloc::Global;
 use std::snapshot::Snapshot;
 use std::sync::Wait;
 use std::thread::Threads;
-use task_order::{Start, StartList};
 
 /// The most tasks that are created.
 const BUDGET: u64 = 10_000;
@@ -29,45 +28,67 @@ pub struct Trial {
 }
 
 /// Whether each run comes to what the serial run comes to.
-pub fn runs_are_serial<R: Threads + Wait + Sync, A: App + Sync>(
+pub fn runs_are_serial<R: Threads + Wait + Sync, A: Startable + Sync>(
     rt: &R,
     alloc: Global,
     app: &A,
-    cells: &[A::Val],
-    first: &[Start],
     trial: Trial,
 ) -> Result<bool, NoRoom>
 where
     A::Val: PartialEq,
-    requires workers { trial.workers ≤ 64 }
-    requires fit_cells { (A.meaning app.now).is_fit_cells cells.now }
-    requires fit_first { AreFitStarts (A.meaning app.now) first.now }
-    requires few { length first.now < 2 ^ 32 }
+    requires { trial.workers ≤ 64 }
 {
-    let wanted = match serial(
-        alloc,
-        app,
-        copies_of(alloc, cells)?,
-        list_of(alloc, first)?,
-        BUDGET,
-    ) {
-        Ok(finals) => finals,
-        Err(SerialFault::Budget { .. }) => return Ok(false),
-        Err(SerialFault::NoRoom) => return Err(NoRoom),
-    };
+    let (cells, first) = (app.start_cells()?, app.start_tasks()?);
+    match serial(alloc, app, cells, first, BUDGET) {
+        Ok(wanted) => {
+            let alike = runs_come_to(rt, alloc, app, trial, &wanted);
+            drop(wanted);
+            alike
+        }
+        Err(SerialFault::Budget { .. }) => Ok(false),
+        Err(SerialFault::NoRoom) => Err(NoRoom),
+    }
+}
+
+/// Whether each run comes to this.
+fn runs_come_to<R: Threads + Wait + Sync, A: Startable + Sync>(
+    rt: &R,
+    alloc: Global,
+    app: &A,
+    trial: Trial,
+    wanted: &Finals<A::Val>,
+) -> Result<bool, NoRoom>
+where
+    A::Val: PartialEq,
+    requires { trial.workers ≤ 64 }
+{
     for _ in 0..trial.runs {
-        let engine = match begin(alloc, app, cells, first)? {
-            Some(engine) => engine,
-            None => return Ok(false),
-        };
-        if !comes_to(rt, alloc, engine, trial.workers, &wanted)? {
+        if !one_comes_to(rt, alloc, app, trial.workers, wanted)? {
             return Ok(false);
         }
     }
     Ok(true)
 }
 
-/// Whether a run by so many workers comes to this.
+/// Whether one run by so many workers comes to this.
+fn one_comes_to<R: Threads + Wait + Sync, A: Startable + Sync>(
+    rt: &R,
+    alloc: Global,
+    app: &A,
+    workers: u32,
+    wanted: &Finals<A::Val>,
+) -> Result<bool, NoRoom>
+where
+    A::Val: PartialEq,
+    requires { workers ≤ 64 }
+{
+    match begin(alloc, app)? {
+        Some(engine) => comes_to(rt, alloc, engine, workers, wanted),
+        None => Ok(false),
+    }
+}
+
+/// Whether an engine that so many workers run comes to this.
 fn comes_to<R: Threads + Wait + Sync, A: App + Sync>(
     rt: &R,
     alloc: Global,
@@ -82,7 +103,11 @@ where
     requires unmarked { engine.progress.over ≡ None }
 {
     match run_by(rt, alloc, engine, workers)? {
-        Some(finals) => Ok(are_alike(&finals, wanted)),
+        Some(finals) => {
+            let alike = are_alike(&finals, wanted);
+            drop(finals);
+            Ok(alike)
+        }
         None => Ok(false),
     }
 }
@@ -107,20 +132,12 @@ pub fn run_by<R: Threads + Wait + Sync, A: App + Sync>(
     finals_of(engine, &origin)
 }
 
-/// An engine with copies of these cells, at these first tasks. There is none where they are too many.
-pub fn begin<'a, A: App>(
-    alloc: Global,
-    app: &'a A,
-    cells: &[A::Val],
-    first: &[Start],
-) -> Result<Option<Engine<'a, A>>, NoRoom>
-    requires fit_cells { (A.meaning app.now).is_fit_cells cells.now }
-    requires fit_first { AreFitStarts (A.meaning app.now) first.now }
-    requires few { length first.now < 2 ^ 32 }
+/// An engine at an application's start. There is none where it has too many first tasks.
+pub fn begin<A: Startable>(alloc: Global, app: &A) -> Result<Option<Engine<'_, A>>, NoRoom>
     ensures idle { IfOk result (λ begun. IfSome begun (λ engine. NoneRuns engine.progress.nodes)) }
     ensures unmarked { IfOk result (λ begun. IfSome begun (λ engine. engine.progress.over ≡ None)) }
 {
-    let (cells, first) = (copies_of(alloc, cells)?, list_of(alloc, first)?);
+    let (cells, first) = (app.start_cells()?, app.start_tasks()?);
     match Engine::begin_uncounted(alloc, app, cells, first, BUDGET) {
         Ok(engine) => Ok(Some(engine)),
         Err(BeginFault::Budget { .. }) => Ok(None),
@@ -140,7 +157,10 @@ fn finals_of<'a, A: App>(
     course_run_laws::<A>();
     join_laws();
     match engine.graph().least() {
-        Some(_) => Ok(None),
+        Some(_) => {
+            drop(engine);
+            Ok(None)
+        }
         None => Ok(Some(engine.end()?)),
     }
 }
@@ -174,26 +194,4 @@ fn have_same_cell<V: Held + PartialEq>(left: &Store<V>, right: &Store<V>, loc: u
         (Seen::At(one), Seen::At(other)) => one == other,
         _ => false,
     }
-}
-
-/// Copies of these values.
-fn copies_of<V: Held>(alloc: Global, values: &[V]) -> Result<Vec<V>, NoRoom>
-    ensures { IfOk result (λ copies. copies.items ≡ values.now) }
-{
-    let mut copies = Vec::new(alloc);
-    for value in values {
-        copies.push(value.copy()?)?;
-    }
-    Ok(copies)
-}
-
-/// A list of these first tasks.
-fn list_of(alloc: Global, starts: &[Start]) -> Result<StartList, NoRoom>
-    ensures { IfOk result (λ list. list ≡ starts.now) }
-{
-    let mut list = StartList::new(alloc);
-    for start in starts {
-        list.push(*start)?;
-    }
-    Ok(list)
 }

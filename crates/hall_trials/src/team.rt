@@ -1,13 +1,14 @@
 //! Teams of workers, each of which begins a hall and closes it again.
 
-ghost use Rattle.std.specs.Prelude.{◌≡◌, ◌≤◌, suc, [], None, IfOk, length};
+ghost use Rattle.std.specs.Prelude.{◌≡◌, ◌+◌, ◌<◌, ◌≤◌, suc, [], None, IfOk, OnOk, length};
 ghost use Rattle.std.specs.List.{All};
 ghost use Rattle.run_laws.specs.Rest.{NoneRuns};
 ghost use Rattle.hall_trials.specs.Ends.{HasGoneOn};
-ghost use Rattle.hall_trials.specs.Team.{EachAt, EachPair, IsFirst, IsPosted, IsSplit, down_from};
+ghost use Rattle.hall_trials.specs.Team.{ArePosts, EachAt, EachPair, IsFirst, IsSplit, down_from};
 ghost use Rattle.hall_trials.specs.Seated.{HasWorked, MayWork};
 
 use crate::loops::work;
+use crate::place::{Place, begin_hall};
 use app_laws::App;
 use graph_update::Engine;
 use kdg_text::NoRoom;
@@ -15,13 +16,6 @@ use std::alloc::Global;
 use std::sync::Wait;
 use std::thread::{self, Threads};
 use worker_gate::{Hall, Post, Seat, post_sends};
-
-/// A hall that is let go where memory runs out.
-#[derive(Drop)]
-struct Place<'a, A: App> {
-    app: &'a A,
-    hall: Hall<'a, A>,
-}
 
 /// A hall over an engine, from its beginning until nothing more is to be claimed by so many workers.
 pub fn worked<'a, R: Threads + Wait + Sync, A: App + Sync>(
@@ -35,14 +29,28 @@ pub fn worked<'a, R: Threads + Wait + Sync, A: App + Sync>(
     requires unmarked { engine.progress.over ≡ None }
     ensures { IfOk result (HasGoneOn A.meaning engine.entry) }
 {
-    let app = engine.app();
-    let Ok((hall, seat)) = Hall::<A>::begin(alloc, engine) else {
-        return Err(NoRoom);
-    };
-    let place = Place { app, hall };
-    match team_at(rt, alloc, app, &place.hall, seat, workers) {
-        Ok(seat) => {
-            let Place { app: _, hall } = place;
+    let place = begin_hall(alloc, engine)?;
+    worked_in(rt, alloc, place, workers)
+}
+
+/// A hall in which so many workers work, from its first seat on. It is let go where memory runs out.
+fn worked_in<'a, R: Threads + Wait + Sync, A: App + Sync>(
+    rt: &R,
+    alloc: Global,
+    place: Place<'a, A>,
+    workers: u32,
+) -> Result<Engine<'a, A>, NoRoom>
+    requires few { workers ≤ 64 }
+    requires app { place.app.now ≡ place.hall.origin.app }
+    requires first { IsFirst place.hall [] place.seat }
+    requires whole { place.seat.view.splits ≡ 0 }
+    ensures { IfOk result (HasGoneOn A.meaning place.entry.hall.origin) }
+{
+    let mut place = place;
+    let lent = &mut place;
+    match work_at(rt, alloc, lent.app, &lent.hall, &mut lent.seat, workers) {
+        Ok(()) => {
+            let Place { app: _, hall, seat } = place;
             Ok(hall.close(seat))
         }
         Err(NoRoom) => {
@@ -52,77 +60,93 @@ pub fn worked<'a, R: Threads + Wait + Sync, A: App + Sync>(
     }
 }
 
-/// So many workers at a hall, of which this is the first seat. Each has a seat that is split from it.
-fn team_at<'h, 'a, R: Threads + Wait + Sync, A: App + Sync>(
+/// So many workers work at a hall, of which this is the first seat. Each has a seat that is split from
+/// it, and joined to it again.
+fn work_at<'a, R: Threads + Wait + Sync, A: App + Sync>(
     rt: &R,
     alloc: Global,
     app: &'a A,
-    hall: &'h Hall<'a, A>,
-    seat: Seat<'a, A>,
+    hall: &Hall<'a, A>,
+    seat: &mut Seat<'a, A>,
     workers: u32,
-) -> Result<Seat<'a, A>, NoRoom>
+) -> Result<(), NoRoom>
     requires few { workers ≤ 64 }
     requires app { app.now ≡ hall.now.origin.app }
-    requires first { IsFirst hall.now [] seat }
-    requires whole { seat.view.splits ≡ 0 }
-    ensures { IfOk result (IsFirst hall.now []) }
+    requires first { IsFirst hall.now [] seat.old }
+    requires whole { seat.old.view.splits ≡ 0 }
+    ensures { OnOk result (IsFirst hall.now [] seat.new) }
 {
-    let made = posts_of(alloc, app, hall, seat, workers)?;
-    let (seat, posts) = made;
-    match work_all(rt, posts) {
-        Ok(posts) => Ok(joined(hall, seat, posts)),
+    let posts = posts_of(alloc, app, hall, seat, workers)?;
+    let mut backs = work_all(rt, posts)?;
+    join_all(hall, seat, &mut backs);
+    drop(backs);
+    Ok(())
+}
+
+/// A post for each worker, in seats that are split from the first one.
+fn posts_of<'h, 'a, A: App>(
+    alloc: Global,
+    app: &'a A,
+    hall: &'h Hall<'a, A>,
+    seat: &mut Seat<'a, A>,
+    workers: u32,
+) -> Result<Vec<Post<'h, 'a, A>>, NoRoom>
+    requires few { workers ≤ 64 }
+    requires app { app.now ≡ hall.now.origin.app }
+    requires first { IsFirst hall.now [] seat.old }
+    requires whole { seat.old.view.splits ≡ 0 }
+    ensures { IfOk result (λ posts. ArePosts hall.now (λ post. post.hall.now) (λ post. post.app.now) (λ post. post.seat) workers seat.new posts.items) }
+{
+    let mut posts = Vec::new(alloc);
+    match add_posts(app, hall, seat, &mut posts, workers) {
+        Ok(()) => Ok(posts),
         Err(NoRoom) => {
-            drop(Post {
-                app,
-                hall,
-                seat,
-                worker: 0,
-            });
+            drop(posts);
             Err(NoRoom)
         }
     }
 }
 
-/// A post for each worker, and the first seat, from which theirs are split.
-fn posts_of<'h, 'a, A: App>(
-    alloc: Global,
+/// Adds a post for each worker.
+fn add_posts<'h, 'a, A: App>(
     app: &'a A,
     hall: &'h Hall<'a, A>,
-    seat: Seat<'a, A>,
+    seat: &mut Seat<'a, A>,
+    posts: &mut Vec<Post<'h, 'a, A>>,
     workers: u32,
-) -> Result<(Seat<'a, A>, Vec<Post<'h, 'a, A>>), NoRoom>
+) -> Result<(), NoRoom>
     requires few { workers ≤ 64 }
     requires app { app.now ≡ hall.now.origin.app }
-    requires first { IsFirst hall.now [] seat }
-    requires whole { seat.view.splits ≡ 0 }
-    ensures long { IfOk result (λ made. length made.1.items ≡ workers) }
-    ensures first { IfOk result (λ made. IsFirst hall.now (down_from workers) made.0) }
-    ensures posts { IfOk result (λ made. EachAt (λ k post. IsPosted hall.now (suc k) post.hall.now post.app.now post.seat) made.1.items) }
+    requires none { ArePosts hall.now (λ post. post.hall.now) (λ post. post.app.now) (λ post. post.seat) 0 seat.old posts.old.items }
+    ensures { OnOk result (ArePosts hall.now (λ post. post.hall.now) (λ post. post.app.now) (λ post. post.seat) workers seat.new posts.new.items) }
 {
-    let mut seat = seat;
-    let mut posts = Vec::new(alloc);
     for worker in 0..workers {
-        let own = hall.split(&mut seat);
-        match posts.push(Post {
-            app,
-            hall,
-            seat: own,
-            worker,
-        }) {
-            Ok(()) => {}
-            Err(failed) => {
-                drop(failed);
-                drop(Post {
-                    app,
-                    hall,
-                    seat,
-                    worker,
-                });
-                return Err(NoRoom);
-            }
-        }
+        add_post(app, hall, seat, posts, worker)?;
     }
-    Ok((seat, posts))
+    Ok(())
+}
+
+/// Adds the post of one more worker.
+fn add_post<'h, 'a, A: App>(
+    app: &'a A,
+    hall: &'h Hall<'a, A>,
+    seat: &mut Seat<'a, A>,
+    posts: &mut Vec<Post<'h, 'a, A>>,
+    worker: u32,
+) -> Result<(), NoRoom>
+    requires few { worker < 64 }
+    requires app { app.now ≡ hall.now.origin.app }
+    requires posts { ArePosts hall.now (λ post. post.hall.now) (λ post. post.app.now) (λ post. post.seat) worker seat.old posts.old.items }
+    ensures { OnOk result (ArePosts hall.now (λ post. post.hall.now) (λ post. post.app.now) (λ post. post.seat) (worker + 1) seat.new posts.new.items) }
+{
+    let own = hall.split(seat);
+    posts.push(Post {
+        app,
+        hall,
+        seat: own,
+        worker,
+    })?;
+    Ok(())
 }
 
 /// Has all workers work, each at its post, the last one in this thread.
@@ -146,19 +170,17 @@ fn work_all<'h, 'a, R: Threads + Wait + Sync, A: App + Sync>(
     Ok(backs)
 }
 
-/// The first seat, with all others joined to it.
-fn joined<'h, 'a, A: App>(
+/// Joins all other seats to the first one.
+fn join_all<'h, 'a, A: App>(
     hall: &'h Hall<'a, A>,
-    seat: Seat<'a, A>,
-    posts: Vec<Post<'h, 'a, A>>,
-) -> Seat<'a, A>
-    requires first { IsFirst hall.now (down_from (length posts.items)) seat }
-    requires posts { EachAt (λ k post. IsSplit hall.now (suc k) [] post.seat) posts.items }
-    ensures { IsFirst hall.now [] result }
+    seat: &mut Seat<'a, A>,
+    posts: &mut Vec<Post<'h, 'a, A>>,
+)
+    requires first { IsFirst hall.now (down_from (length posts.old.items)) seat.old }
+    requires posts { EachAt (λ k post. IsSplit hall.now (suc k) [] post.seat) posts.old.items }
+    ensures { IsFirst hall.now [] seat.new }
 {
-    let (mut seat, mut posts) = (seat, posts);
     while let Some(post) = posts.pop() {
-        hall.join(&mut seat, post.seat);
+        hall.join(seat, post.seat);
     }
-    seat
 }

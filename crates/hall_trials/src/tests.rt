@@ -1,7 +1,12 @@
+ghost use Rattle.std.specs.Prelude.{◌≤◌};
+
 use crate::inputs::{circuit, mesh};
-use crate::meeting::meet;
-use crate::outcomes::{Trial, begin, runs_are_serial};
+use crate::meeting::{Meeting, meet_at_start};
+use crate::outcomes::{Trial, runs_are_serial};
+use std::alloc::Global;
+use std::sync::Wait;
 use std::test::Fail;
+use std::thread::Threads;
 
 /// Runs by two workers, and by four.
 const TRIALS: [Trial; 2] = [
@@ -15,40 +20,65 @@ const TRIALS: [Trial; 2] = [
     },
 ];
 
+/// Whether each run of the circuit comes to what its serial run comes to.
+fn circuits_are_serial<R: Threads + Wait + Sync>(
+    rt: &R,
+    alloc: Global,
+    trial: Trial,
+) -> Result<bool, Fail>
+    requires { trial.workers ≤ 64 }
+{
+    let circuit = circuit(alloc)?;
+    let are_serial = runs_are_serial(rt, alloc, &circuit, trial);
+    drop(circuit);
+    Ok(are_serial?)
+}
+
 #[test]
 fn circuits_run_as_in_turn(rt: HostRuntime) -> Result<(), Fail> {
-    let alloc = rt.alloc();
-    let circuit = circuit(alloc)?;
-    let (cells, first) = (circuit.first_cells()?, circuit.first_tasks()?);
     for trial in TRIALS {
-        assert!(rt; runs_are_serial(&rt, alloc, &circuit, &cells, first.items(), trial)?);
+        assert!(rt; circuits_are_serial(&rt, rt.alloc(), trial)?);
     }
     Ok(())
 }
 
+/// Whether each run of the mesh comes to what its serial run comes to.
+fn meshes_are_serial<R: Threads + Wait + Sync>(
+    rt: &R,
+    alloc: Global,
+    trial: Trial,
+) -> Result<bool, Fail>
+    requires { trial.workers ≤ 64 }
+{
+    let mesh = mesh(alloc)?;
+    let are_serial = runs_are_serial(rt, alloc, &mesh, trial);
+    drop(mesh);
+    Ok(are_serial?)
+}
+
 #[test]
 fn meshes_run_as_in_turn(rt: HostRuntime) -> Result<(), Fail> {
-    let alloc = rt.alloc();
-    let mesh = mesh(alloc)?;
-    let (cells, first) = (mesh.first_cells()?, mesh.first_tasks()?);
     for trial in TRIALS {
-        assert!(rt; runs_are_serial(&rt, alloc, &mesh, &cells, first.items(), trial)?);
+        assert!(rt; meshes_are_serial(&rt, rt.alloc(), trial)?);
     }
     Ok(())
+}
+
+/// What two threads meet at a hall over the circuit. There is nothing where it has too many first tasks.
+fn circuit_meeting<R: Threads + Sync>(rt: &R, alloc: Global) -> Result<Option<Meeting>, Fail> {
+    let circuit = circuit(alloc)?;
+    let meeting = meet_at_start(rt, alloc, &circuit);
+    drop(circuit);
+    Ok(meeting?)
 }
 
 /// A second thread meets the one that has the turn, and the engine comes back as it was.
 #[test]
 fn a_second_thread_meets_the_first(rt: HostRuntime) -> Result<(), Fail> {
-    let alloc = rt.alloc();
-    let circuit = circuit(alloc)?;
-    let (cells, first) = (circuit.first_cells()?, circuit.first_tasks()?);
-    let Some(engine) = begin(alloc, &circuit, &cells, first.items())? else {
+    let Some(meeting) = circuit_meeting(&rt, rt.alloc())? else {
         panic!(rt; "too many first tasks");
     };
-    let before = engine.counts();
-    let (engine, holders) = meet(&rt, alloc, engine)?;
-    assert_eq!(rt; holders, [None, Some(0), None]);
-    assert_eq!(rt; engine.counts(), before);
+    assert!(rt; meeting.holders == [None, Some(0), None]);
+    assert!(rt; meeting.after == meeting.before);
     Ok(())
 }

@@ -86,7 +86,10 @@ fn end_one<A: App>(engine: &mut Engine<'_, A>, done: Done<A::Val>) -> bool
 {
     match engine.finish_uncounted(done) {
         Ok(()) => true,
-        Err(_) => false,
+        Err(fault) => {
+            drop(fault);
+            false
+        }
     }
 }
 
