@@ -1,6 +1,6 @@
 //! The clear nodes that wait to be claimed.
 
-ghost use Rattle.std.specs.Prelude.{◌≡◌, ◌%◌, ◌^◌, ◌<◌, ◌++◌, [], ◌∷◌, length, slice_get, true, false, IsTrue, IfOk, IfSome, OnOk, OnErr};
+ghost use Rattle.std.specs.Prelude.{◌≡◌, ◌+◌, ◌%◌, ◌^◌, ◌<◌, ◌≤◌, ◌++◌, [], ◌∷◌, length, slice_get, true, false, IsTrue, IfOk, IfSome, OnOk, OnErr};
 ghost use Rattle.std.specs.List.{AllByRecursion, remove};
 ghost use Rattle.std.specs.Option.{option_map};
 ghost use Rattle.kdg_graph.specs.Nodes.{ids_of, tasks_of};
@@ -16,6 +16,9 @@ use kdg_graph::{Graph, NodeId};
 use kdg_text::NoRoom;
 use std::alloc::Global;
 use tiered_list::TieredList;
+
+/// For how many ids room is made at once: as many as a list has in place, so that few take no memory.
+const ROOM: usize = 10;
 
 /// Among which clear nodes one is picked.
 pub(crate) enum Among {
@@ -177,13 +180,14 @@ fn clear_ids<A: App>(
     source_laws();
     let mut passed = 0;
     let mut ids = no_ids(alloc);
+    let mut room = 0;
     let pending = Pending::of(graph);
     for node in graph.sources() {
         if is_at(known, passed, node) {
             passed += 1;
-            push(&mut ids, node)?;
+            push(&mut ids, &mut room, node)?;
         } else if pending.is_safe(node, app, horizon) {
-            push(&mut ids, node)?;
+            push(&mut ids, &mut room, node)?;
         }
     }
     Ok(ids)
@@ -198,11 +202,18 @@ fn is_at(ids: &TieredList<NodeId>, place: usize, id: NodeId) -> bool
     ids.get(place).is_some_and(|found| *found == id)
 }
 
-/// Puts an id behind the others.
-fn push(ids: &mut TieredList<NodeId>, id: NodeId) -> Result<(), NoRoom>
-    ensures { OnOk result (ids.new.items ≡ ids.old.items ++ id ∷ []) }
+/// Puts an id behind the others, of which so many more have room. Where none has, it makes room for several.
+#[inline(always)]
+fn push(ids: &mut TieredList<NodeId>, room: &mut usize, id: NodeId) -> Result<(), NoRoom>
+    requires { length ids.old.items + room.old ≤ ids.old.capacity }
+    ensures items { OnOk result (ids.new.items ≡ ids.old.items ++ id ∷ []) }
+    ensures room { OnOk result (length ids.new.items + room.new ≤ ids.new.capacity) }
 {
-    ids.reserve(1)?;
+    if *room == 0 {
+        ids.reserve(ROOM)?;
+        *room = ROOM;
+    }
+    *room -= 1;
     let len = ids.len();
     ids.insert(len, id);
     Ok(())

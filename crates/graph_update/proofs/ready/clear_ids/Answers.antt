@@ -1,4 +1,4 @@
-use Rattle.std.proofs.Common.{◌≡◌, ◌++◌, [], sym, ap, subst, ◌∙◌, arith}
+use Rattle.std.proofs.Common.{◌≡◌, ◌++◌, [], length, sym, ap, subst, ◌∙◌, arith}
 use Rattle.std.specs.Prelude.{Contains}
 use Rattle.std.specs.List.{AllByRecursion}
 use Rattle.std.proofs.lemmas.List.{append-nil}
@@ -20,6 +20,7 @@ loop-node-init g c =
       passed = ap (λ ids. ids ++ safe_ids app c.args.graph.now c.into_iter-node-iterator.result) c.no_ids-ids.ensures ∙ ap (safe_ids app c.args.graph.now) sources;
       there = subst (AllByRecursion (Contains (sources_of c.args.graph.now))) (sym sources) (all_from (Contains (sources_of c.args.graph.now)) (sources_of c.args.graph.now) (λ id has. has));
       told = c.requires.told;
+      room = omega (arith, ap length c.no_ids-ids.ensures);
     }
 
 pub loop-node-preserved-in-Continue-1 : goal.loop-node-preserved-in-Continue-1
@@ -31,10 +32,11 @@ loop-node-preserved-in-Continue-1 g c =
     (c.loop-node.passed, slice_get_within c.args.known.now.items c.loop-node.passed c.in-Some.node at, get_or_from_slice_get c.args.known.now.items c.loop-node.passed c.in-Some.node c.in-Some.node at) in
     let safe = known_is_safe app c.args.graph.now c.node_laws.ensures.have_ids c.sources-node-items.ensures.graph c.in-Some.node known in
     record {
-      passed = ap (λ ids. ids ++ safe_ids app c.args.graph.now c.next.new.self) c.in_ok-push.ensures
+      passed = ap (λ ids. ids ++ safe_ids app c.args.graph.now c.next.new.self) c.in_ok-push.ensures.items
           ∙ (next_passed app c.args.graph.now c.loop-node.ids.items c.in-Some.node c.next.new.self _ (ap (λ left. c.loop-node.ids.items ++ safe_ids app c.args.graph.now left) (sym steps) ∙ c.loop-node.invariant.passed)).0 safe;
       there = (subst (AllByRecursion (Contains (sources_of c.args.graph.now))) steps c.loop-node.invariant.there).1;
       told = c.loop-node.invariant.told;
+      room = c.in_ok-push.ensures.room;
     }
 
 pub overflow_add-passed : goal.overflow_add-passed
@@ -52,10 +54,11 @@ loop-node-preserved-in-Continue-branch-2 g c =
     let left = subst (AllByRecursion (Contains (sources_of graph))) steps c.loop-node.invariant.there in
     let safe = answer_is app graph c.source_laws.ensures.nodes c.sources-node-items.ensures.graph c.in-Some.node left.0 c.of-pending.result c.of-pending.ensures c.is_safe.result c.is_safe.ensures.answer ∙ c.if-is_safe.true in
     record {
-      passed = ap (λ ids. ids ++ safe_ids app graph c.next.new.self) c.in_ok-push-2.ensures
+      passed = ap (λ ids. ids ++ safe_ids app graph c.next.new.self) c.in_ok-push-2.ensures.items
           ∙ (next_passed app graph c.loop-node.ids.items c.in-Some.node c.next.new.self _ (ap (λ left. c.loop-node.ids.items ++ safe_ids app graph left) (sym steps) ∙ c.loop-node.invariant.passed)).0 safe;
       there = left.1;
       told = subst (λ nodes. g.A.App.tells c.args.app.now c.is_safe.new.horizon (tasks_of nodes)) c.of-pending.ensures c.is_safe.ensures.told;
+      room = c.in_ok-push-2.ensures.room;
     }
 
 pub returns-clause-ids : goal.returns-clause-ids
