@@ -13,7 +13,7 @@ ghost use Rattle.run_laws.specs.Events.{IsFinished, IsOverLimit};
 
 use crate::agenda::{Agenda, Tally};
 use crate::laws::end_basis;
-use crate::rewriting::{end_node, fresh_tasks};
+use crate::rewriting::{fresh_tasks, set_changes};
 use crate::touching::touch_end;
 use crate::{Done, Engine, FinishFault, OverCause};
 use app_laws::{App, ChildList, Effect};
@@ -192,15 +192,10 @@ impl<A: App> Agenda<A> {
         let Ok(()) = fresh_tasks(&mut self.fresh, parent, children) else {
             return Err(text);
         };
-        match end_node(
-            self.alloc,
-            app,
-            &mut self.graph,
-            store,
-            node,
-            &mut self.fresh,
-            steps,
-        ) {
+        let Ok(changes) = set_changes(self.alloc, app, &self.graph, store, node, steps) else {
+            return Err(text);
+        };
+        match self.graph.rewrite(node, changes, &mut self.fresh) {
             Ok(task) => {
                 touch_end(app, &mut self.horizon, &task.body, children);
                 self.ready.expect_more();

@@ -1,12 +1,12 @@
 //! What the end of a task makes of the graph: its children are fresh tasks, and the later nodes in
 //! its way get new sets.
 
-ghost use Rattle.std.specs.Prelude.{◌≡◌, ◌+◌, ◌<◌, ◌≤◌, ◌^◌, List, Some, length, IfOk, OnOk, OnErr};
+ghost use Rattle.std.specs.Prelude.{◌≡◌, ◌+◌, ◌<◌, ◌≤◌, ◌^◌, List, Some, length, IfOk, OnOk};
 ghost use Rattle.std.specs.List.{AllByRecursion};
 ghost use Rattle.kdg_graph.specs.Node.{Node};
-ghost use Rattle.kdg_graph.specs.Nodes.{HasNode, IsGraph, node_at, task_at, tasks_of};
+ghost use Rattle.kdg_graph.specs.Nodes.{HasNode, IsGraph, node_at, tasks_of};
 ghost use Rattle.kdg_graph.specs.Edges.{laters_of};
-ghost use Rattle.kdg_graph.specs.Rewrite.{AreChangesOf, HaveNewKeys, IsRewritten, with_sets, without};
+ghost use Rattle.kdg_graph.specs.Rewrite.{AreChangesOf, with_sets, without};
 ghost use Rattle.app_laws.specs.Applications.{AgreesWith, AreFitTasks};
 ghost use Rattle.graph_update.specs.Engine.{AsksForNoFixedSet, HaveFixedSets};
 ghost use Rattle.run_laws.specs.Events.{fresh_from, renewals, renewed};
@@ -20,42 +20,6 @@ use rw_sets::RwSet;
 use std::alloc::Global;
 use std::sync::ledger::Ledger;
 use task_order::{Key, Task};
-
-/// Takes the node of a task that has ended out of the graph and gives its task, gives new sets to the
-/// later nodes that its recorded set conflicts with, over the cells after it, and puts the fresh tasks
-/// in. After `NoRoom` the graph is as it was. Each of these later nodes takes one step at most, and none where
-/// the sets are fixed.
-#[inline(always)]
-pub(crate) fn end_node<A: App, L: Ledger>(
-    alloc: Global,
-    app: &A,
-    graph: &mut Graph,
-    store: &Store<A::Val>,
-    ended: NodeId,
-    fresh: &mut Vec<Fresh>,
-    steps: &mut Steps<L>,
-) -> Result<Task, NoRoom>
-    requires graph { IsGraph graph.old }
-    requires there { HasNode graph.old ended }
-    requires tasks { AreFitTasks (A.meaning app.now) (tasks_of graph.old) }
-    requires sets { HaveFixedSets (A.meaning app.now) graph.old }
-    requires cells { (values : List A.Val) × (A.meaning app.now).is_fit_cells values × AgreesWith store.now values }
-    requires new { HaveNewKeys (tasks_of graph.old) fresh.old.items }
-    ensures ok { OnOk result ((node : Node) → node_at graph.old ended ≡ Some node →
-        IsRewritten graph.old ended (renewals (A.meaning app.now) store.now graph.old node) fresh.old.items graph.new) }
-    ensures task { IfOk result (λ task. task_at graph.old ended ≡ Some task) }
-    ensures graph { IsGraph graph.new }
-    ensures unchanged { OnErr result (graph.new ≡ graph.old) }
-    ensures steps { (node : Node) → node_at graph.old ended ≡ Some node →
-        steps.new ≤ steps.old + length (laters_of graph.old node) }
-    ensures no_step { AsksForNoFixedSet (A.has_fixed_sets app.now) steps.old steps.new }
-{
-    let changes = set_changes(alloc, app, graph, store, ended, steps)?;
-    match graph.rewrite(ended, changes, fresh) {
-        Ok(task) => Ok(task),
-        Err(_) => Err(NoRoom),
-    }
-}
 
 /// Makes the list that of the children of a task as fresh tasks, with their keys and copies of their
 /// sets. What was in it is dropped. After `NoRoom` it may lack some.
@@ -83,10 +47,11 @@ pub(crate) fn fresh_tasks(
     Ok(())
 }
 
-/// What the end of a node changes of the recorded sets: the renewals, and nothing where the sets are
-/// fixed, since each set would be replaced by itself.
+/// What the end of a node changes of the recorded sets: new sets for the later nodes that its recorded set
+/// conflicts with, over the cells after it, and nothing where the sets are fixed, since each set would be
+/// replaced by itself. Each of these later nodes takes one step at most, and none where the sets are fixed.
 #[inline(always)]
-fn set_changes<A: App, L: Ledger>(
+pub(crate) fn set_changes<A: App, L: Ledger>(
     alloc: Global,
     app: &A,
     graph: &Graph,

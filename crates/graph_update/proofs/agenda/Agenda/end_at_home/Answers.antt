@@ -1,4 +1,4 @@
-use Rattle.std.proofs.Common.{◌≤◌, ◌∙◌, List, refl, sym, ap, subst}
+use Rattle.std.proofs.Common.{◌≡◌, ◌≤◌, ◌∙◌, List, Some, refl, sym, ap, subst}
 use Rattle.std.specs.List.{AllByRecursion}
 use Rattle.task_order.specs.declared.task.Task.{Task}
 use Rattle.task_order.specs.TaskList.{put_all, without}
@@ -7,15 +7,14 @@ use Rattle.cell_store.specs.Values.{AgreesWith}
 use Rattle.kdg_graph.specs.declared.change.Fresh.{Fresh}
 use Rattle.kdg_graph.specs.declared.node_id.NodeId.{NodeId}
 use Rattle.kdg_graph.specs.Node.{Node}
-use Rattle.kdg_graph.specs.Nodes.{tasks_of}
-use Rattle.kdg_graph.specs.Rewrite.{HaveNewKeys, fresh_tasks}
+use Rattle.kdg_graph.specs.Nodes.{node_at, tasks_of}
+use Rattle.kdg_graph.specs.Rewrite.{AreAdded, HaveNewKeys, fresh_tasks}
 use Rattle.output_log.specs.Entries.{IsNewEntry}
 use Rattle.app_laws.specs.declared.child.Child.{Child}
 use Rattle.app_laws.specs.Applications.{IsFitTask}
-use Rattle.graph_update.specs.Engine.{AreKnown, progress_of}
 use Rattle.run_laws.specs.Events.{fresh_from, renewals}
 use Rattle.graph_update.proofs.ReadyIds.{some_are_ready}
-use Rattle.graph_update.proofs.TaskEnds.{counted_end, entry_is_new, fit_given, fresh_is, has_node, is_finished, known, log_is, node_is, not_over, progress_back, stays_fixed, stays_ready, task_is}
+use Rattle.graph_update.proofs.TaskEnds.{counted_end, entry_is_new, fit_given, fresh_is, has_node, is_finished, known, log_is, node_is, not_over, stays_fixed, stays_ready, task_is}
 use Rattle.graph_update.proofs.Touched.{tasks_after, told_of_others}
 use Rattle.graph_update.proofs.agenda.Agenda.end_at_home.Goals as goal
 
@@ -29,13 +28,13 @@ fresh_tasks-requires-clause-not_earlier g c =
     subst (λ (children : List Child). AllByRecursion (λ child. c.task.result.now.key.prio ≤ child.prio) children) (sym c.items-children.ensures.all)
     (subst (λ (task : Task). AllByRecursion (λ child. task.key.prio ≤ child.prio) c.args.children.now) (sym (task_is basis _ _ is c.task.result.now c.task.ensures)) (known basis _ _ is).children_later)
 
-pub end_node-requires-clause-cells : goal.end_node-requires-clause-cells
-end_node-requires-clause-cells g c κs within =
+pub set_changes-requires-clause-cells : goal.set_changes-requires-clause-cells
+set_changes-requires-clause-cells g c κs within =
     let fit = fit_given (c.end_basis.ensures c.args.app.now) _ _ c.requires.home.is_done in
     (fit.0, fit.1, subst (λ cells. AgreesWith cells fit.0) (sym c.requires.home.given) fit.2)
 
-pub end_node-requires-clause-new : goal.end_node-requires-clause-new
-end_node-requires-clause-new g c κs within =
+pub rewrite-requires-clause-new : goal.rewrite-requires-clause-new
+rewrite-requires-clause-new g c =
     let is = c.requires.home.is_done in
     let basis = c.end_basis.ensures c.args.app.now in
     let fresh_are = fresh_is basis _ _ is c.task.result.now c.task.ensures c.items-children.result.now c.items-children.ensures.all c.fresh_tasks.new.fresh.items c.in-Ok-fresh_tasks.ensures in
@@ -45,8 +44,8 @@ pub touch_end-requires-clause-ended : goal.touch_end-requires-clause-ended
 touch_end-requires-clause-ended g c κs within =
     let is = c.requires.home.is_done in
     let basis = c.end_basis.ensures c.args.app.now in
-    let own = task_is basis _ _ is c.in-Ok-end_node.task c.in-Ok-end_node.ensures.task in
-    (c.in-Ok-end_node.task.key.prio, subst (IsFitTask (g.A.App.meaning c.args.app.now)) (is.performed.task ∙ sym own) (known basis _ _ is).fit)
+    let own = task_is basis _ _ is c.in-Ok-rewrite.task c.in-Ok-rewrite.ensures.task in
+    (c.in-Ok-rewrite.task.key.prio, subst (IsFitTask (g.A.App.meaning c.args.app.now)) (is.performed.task ∙ sym own) (known basis _ _ is).fit)
 
 pub touch_end-requires-clause-children : goal.touch_end-requires-clause-children
 touch_end-requires-clause-children g c κs within =
@@ -58,47 +57,43 @@ pub put-requires-clause-new : goal.put-requires-clause-new
 put-requires-clause-new g c =
     let is = c.requires.home.is_done in
     let basis = c.end_basis.ensures c.args.app.now in
-    let own = task_is basis _ _ is c.in-Ok-end_node.task c.in-Ok-end_node.ensures.task in
+    let own = task_is basis _ _ is c.in-Ok-rewrite.task c.in-Ok-rewrite.ensures.task in
     subst (λ (task : Task). IsNewEntry task.key c.reserve_for.new.self.entries) (sym own)
     (subst (IsNewEntry c.requires.home.task.key) (sym c.reserve_for.ensures.entries) (entry_is_new basis _ _ is))
 
-pub returns-in-Ok-end_node-clause-ended : goal.returns-in-Ok-end_node-clause-ended
-returns-in-Ok-end_node-clause-ended g c back =
+pub returns-in-Ok-rewrite-clause-ended : goal.returns-in-Ok-rewrite-clause-ended
+returns-in-Ok-rewrite-clause-ended g c back =
     let is = back.is_done in
     let basis = c.end_basis.ensures c.args.app.now in
     let within = not_over basis _ _ is _ refl c.requires.within in
     let fresh_are = fresh_is basis _ _ is c.task.result.now c.task.ensures c.items-children.result.now c.items-children.ensures.all c.fresh_tasks.new.fresh.items c.in-Ok-fresh_tasks.ensures in
-    let log_are = log_is basis _ _ is c.in-Ok-end_node.task c.in-Ok-end_node.ensures.task c.reserve_for.new.self.entries c.reserve_for.ensures.entries c.put.new.self.entries c.put.ensures.entries in
-    counted_end basis _ _ is (c.sound_finish_laws.ensures c.args.app.now) within c.args.store.now c.end_node.new.graph c.put.new.self.entries
-    (is_finished basis _ _ is c.args.node (node_is basis _ _ is) c.args.store.now c.fresh_tasks.new.fresh.items c.end_node.new.graph c.put.new.self.entries
-    _ _ back.given fresh_are c.in-Ok-end_node.ensures.graph c.in-Ok-end_node.ensures.ok log_are refl refl)
+    let log_are = log_is basis _ _ is c.in-Ok-rewrite.task c.in-Ok-rewrite.ensures.task c.reserve_for.new.self.entries c.reserve_for.ensures.entries c.put.new.self.entries c.put.ensures.entries in
+    let ok = λ (of : Node) (at : node_at c.args.self.now.graph c.args.node ≡ Some of).
+    subst (λ (nodes : List Node). AreAdded nodes c.fresh_tasks.new.fresh.items c.rewrite.new.self) (c.in-Ok-set_changes.ensures.same of at) c.in-Ok-rewrite.ensures.ok in
+    counted_end basis _ _ is (c.sound_finish_laws.ensures c.args.app.now) within c.args.store.now c.rewrite.new.self c.put.new.self.entries
+    (is_finished basis _ _ is c.args.node (node_is basis _ _ is) c.args.store.now c.fresh_tasks.new.fresh.items c.rewrite.new.self c.put.new.self.entries
+    _ _ back.given fresh_are c.in-Ok-rewrite.ensures.graph ok log_are refl refl)
 
-pub returns-in-Ok-end_node-clause-known : goal.returns-in-Ok-end_node-clause-known
-returns-in-Ok-end_node-clause-known g c =
+pub returns-in-Ok-rewrite-clause-known : goal.returns-in-Ok-rewrite-clause-known
+returns-in-Ok-rewrite-clause-known g c =
     let app = c.args.app.now in
     let is = c.requires.home.is_done in
     let basis = c.end_basis.ensures app in
     let graph = is.sound.keys_and_counts.graph in
-    let at = c.in-Ok-end_node.ensures.task in
+    let at = c.in-Ok-rewrite.ensures.task in
     let within = not_over basis _ _ is _ refl c.requires.within in
-    let finished = returns-in-Ok-end_node-clause-ended g c c.requires.home in
-    let after = tasks_after basis c.args.self.now.graph graph c.args.node c.in-Ok-end_node.task at (λ node. renewals (g.A.App.meaning app) c.args.store.now c.args.self.now.graph node)
-    c.fresh_tasks.new.fresh.items c.end_node.new.graph c.in-Ok-end_node.ensures.ok in
+    let finished = returns-in-Ok-rewrite-clause-ended g c c.requires.home in
+    let ok = λ (of : Node) (at : node_at c.args.self.now.graph c.args.node ≡ Some of).
+    subst (λ (nodes : List Node). AreAdded nodes c.fresh_tasks.new.fresh.items c.rewrite.new.self) (c.in-Ok-set_changes.ensures.same of at) c.in-Ok-rewrite.ensures.ok in
+    let after = tasks_after basis c.args.self.now.graph graph c.args.node c.in-Ok-rewrite.task at (λ node. renewals (g.A.App.meaning app) c.args.store.now c.args.self.now.graph node)
+    c.fresh_tasks.new.fresh.items c.rewrite.new.self ok in
     record {
-      clear = some_are_ready (g.A.App.meaning app) c.end_node.new.graph c.expect_more.new.self c.args.self.now.ready.ids.items (ap (λ (ids : Tiered NodeId). ids.items) c.expect_more.ensures.ids) c.expect_more.ensures.current
+      clear = some_are_ready (g.A.App.meaning app) c.rewrite.new.self c.expect_more.new.self c.args.self.now.ready.ids.items (ap (λ (ids : Tiered NodeId). ids.items) c.expect_more.ensures.ids) c.expect_more.ensures.current
           (stays_ready basis _ _ is within _ finished (c.stay_clear_laws.ensures.stay app) c.args.self.now.ready.ids.items c.requires.known.clear.clear)
           c.requires.known.clear.once;
       fixed = stays_fixed basis _ _ is within _ finished c.requires.known.fixed;
-      told = subst (g.A.App.tells app c.touch_end.new.horizon) (sym (after ∙ ap (λ (fresh : List Fresh). put_all (fresh_tasks fresh) (without c.in-Ok-end_node.task.key (tasks_of c.args.self.now.graph))) c.in-Ok-fresh_tasks.ensures))
-          (told_of_others basis c.args.self.now.graph graph c.args.node c.in-Ok-end_node.task at (g.A.App.tells app c.args.self.now.horizon)
+      told = subst (g.A.App.tells app c.touch_end.new.horizon) (sym (after ∙ ap (λ (fresh : List Fresh). put_all (fresh_tasks fresh) (without c.in-Ok-rewrite.task.key (tasks_of c.args.self.now.graph))) c.in-Ok-fresh_tasks.ensures))
+          (told_of_others basis c.args.self.now.graph graph c.args.node c.in-Ok-rewrite.task at (g.A.App.tells app c.args.self.now.horizon)
           (λ tasks. g.A.App.tells app c.touch_end.new.horizon (put_all (fresh_tasks (fresh_from c.task.result.now.key 0 c.items-children.result.now)) tasks))
-          (λ before after told. c.touch_end.ensures c.in-Ok-end_node.task c.task.result.now.key before after refl told) c.requires.known.told);
+          (λ before after told. c.touch_end.ensures c.in-Ok-rewrite.task c.task.result.now.key before after refl told) c.requires.known.told);
     }
-
-pub returns-in-Err-clause-known : goal.returns-in-Err-clause-known
-returns-in-Err-clause-known g c =
-    subst (λ (nodes : List Node). AreKnown (g.A.App.meaning c.args.app.now) (g.A.App.tells c.args.app.now c.args.self.now.horizon) nodes c.args.self.now.ready) (sym c.in-Err.ensures.unchanged) c.requires.known
-
-pub returns-in-Err-clause-unchanged : goal.returns-in-Err-clause-unchanged
-returns-in-Err-clause-unchanged g c =
-    progress_back (progress_of c.args.store.now c.args.self.now.graph c.args.tally.now) c.end_node.new.graph c.reserve_for.new.self.entries refl c.in-Err.ensures.unchanged c.reserve_for.ensures.entries
