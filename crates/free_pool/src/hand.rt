@@ -7,7 +7,7 @@ ghost use Rattle.free_pool.specs.Turns.{AreDone};
 
 use app_laws::App;
 use cell_store::Held;
-use graph_update::{Done, Job, perform};
+use graph_update::{Done, Job};
 use kdg_text::NoRoom;
 use outer_edge::Gate;
 use std::alloc::Global;
@@ -40,7 +40,8 @@ impl<V: Held> Hand<V> {
 }
 
 /// Performs the jobs in order, each once the gate lets the worker pass. The list then has what was
-/// done, in that order; what was in it is dropped.
+/// done, in that order; what was in it is dropped. Room for all of it is made first, and a job isn't
+/// handed to `perform`: what holds either a done task or a job that comes back would be moved twice.
 pub(crate) fn perform_all<A: App, G: Gate>(
     app: &A,
     gate: &G,
@@ -52,11 +53,14 @@ pub(crate) fn perform_all<A: App, G: Gate>(
     ensures { OnOk result (AreDone (A.meaning app.now) jobs.old.items dones.new.items) }
 {
     dones.clear();
+    dones.reserve(jobs.len())?;
     while let Some(job) = jobs.pop_front() {
-        let Ok(done) = perform(app, job, worker, gate) else {
+        gate.pass(worker, &job.task.key);
+        let Job { node, task, bundle } = job;
+        let Ok(effect) = app.run(&task, bundle) else {
             return Err(NoRoom);
         };
-        dones.push_back(done)?;
+        dones.push_back_reserved(Done { node, task, effect });
     }
     Ok(())
 }
