@@ -22,4 +22,13 @@ impl Pick {
             Pick::Exact(choice)
         }
     }
+
+    /// What is picked after it in the same turn: of all again by the number, and of those that are known
+    /// the first, which leaves the list of them soonest.
+    pub(crate) fn after(self) -> Pick {
+        match self {
+            Pick::Exact(number) => Pick::Exact(number),
+            Pick::Known(_) => Pick::Known(0),
+        }
+    }
 }

@@ -193,7 +193,7 @@ fn end_task<A: App, L: Ledger>(
     }
 }
 
-/// Claims tasks until `jobs` has `most`, or none is to be had.
+/// Claims tasks until `jobs` has `most`, or none is to be had, the first one by the pick.
 fn claim_tasks<A: App>(
     engine: &mut Engine<'_, A>,
     pick: Pick,
@@ -210,8 +210,10 @@ fn claim_tasks<A: App>(
     ensures answer { IsAnswer (A.meaning engine.old.app) engine.new.progress result }
 {
     move_laws::<A>();
+    let mut pick = pick;
     while jobs.len() < most {
         let next = claim_next(engine, pick, jobs);
+        pick = pick.after();
         if jobs.is_empty() {
             return next;
         }
