@@ -8,6 +8,7 @@ ghost use Rattle.free_pool.specs.Team.{HasWorked, MayWork};
 use crate::bell::Bell;
 use crate::hand::{Hand, perform_all};
 use crate::lead_turn::{LeadTurned, Wish, take_lead_turn};
+use crate::pick::Pick;
 use crate::plan::Plan;
 use crate::turns::{Next, give_up};
 use app_laws::App;
@@ -53,16 +54,17 @@ impl Rhythm {
         self.every == 1
     }
 
-    /// How many tasks must have ended for there to be something to tell by an outlet. There is no number where
-    /// one of its writes has failed.
-    fn due(&self, outlet: &Outlet) -> Option<u64>
-        ensures { result ≢ None → outlet.now.has_failed ≡ false }
+    /// What is wanted of a turn that claims by this pick: a drain, where so many tasks have ended that there is
+    /// something to tell by an outlet. Where one of its writes has failed, none is.
+    fn wish(&self, pick: Pick, outlet: &Outlet) -> Wish
+        ensures { result.due ≢ None → outlet.now.has_failed ≡ false }
     {
-        if outlet.has_failed() {
+        let due = if outlet.has_failed() {
             None
         } else {
             Some(self.next)
-        }
+        };
+        Wish { pick, due }
     }
 
     /// So many tasks had ended at the last turn.
@@ -144,10 +146,7 @@ fn work_counted<'h, 'a, R: Wait, A: App, G: Gate, K: Sink, L: Ledger>(
     for _ in rt.forever() {
         // Read before the claims: an end after them is heard.
         let rung = bell.rung();
-        let wish = Wish {
-            pick: plan.pick(gate.choose(plan.seed, worker, turns)),
-            due: rhythm.due(outlet),
-        };
+        let wish = rhythm.wish(plan.pick(gate.choose(plan.seed, worker, turns)), outlet);
         turns = turns.saturating_add(1);
         let (back, led) = take_lead_turn(rt, hall, seat, &mut hand, wish, plan, &mut steps);
         seat = back;

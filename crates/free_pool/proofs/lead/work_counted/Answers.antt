@@ -14,7 +14,7 @@ loop-init g c = record {
 }
 
 pub tell_more-requires : goal.tell_more-requires
-tell_more-requires g c = where_some c.take_lead_turn-back.result.1.more c.due.ensures c.take_lead_turn-back.ensures.due
+tell_more-requires g c = where_some c.take_lead_turn-back.result.1.more c.wish-wish.ensures c.take_lead_turn-back.ensures.due
 
 pub loop-preserved-in-Ok-perform_all : goal.loop-preserved-in-Ok-perform_all
 loop-preserved-in-Ok-perform_all g c =
