@@ -52,8 +52,8 @@ own_at groups at below = get_or-map-range_with_len own_set 0 groups at at [] bel
 first_before_end : (mixer : Mixer) (at : ℕ) → IsMixer mixer → at % mixer.lookahead < end_of mixer
 first_before_end mixer at is =
     let within = mod_below at mixer.lookahead (omega (arith, is.lookahead.0)) in
-    let some : 1 ≤ 16384 / mixer.groups = le-div 1 16384 mixer.groups (omega (arith, is.groups.0)) (omega (arith, is.groups.1)) in
-    let once : mixer.lookahead * 1 ≤ end_of mixer = mul-le mixer.lookahead 1 mixer.lookahead (16384 / mixer.groups) (omega arith) some in
+    let some : 1 ≤ mixer.tasks / mixer.groups = le-div 1 mixer.tasks mixer.groups (omega (arith, is.groups.0)) (omega (arith, is.groups.1, is.tasks.0)) in
+    let once : mixer.lookahead * 1 ≤ end_of mixer = mul-le mixer.lookahead 1 mixer.lookahead (mixer.tasks / mixer.groups) (omega arith) some in
     omega (arith, within, once)
 
 mixed_fit : (mixer : Mixer) (start : Start) (values : List ℕ) → start.body.at < mixer.groups → AreValuesOf (mixing mixer) (set_at (group_sets mixer.groups) start.body.at) values

@@ -9,10 +9,11 @@ use Rattle.hook_app.specs.Deeds.{Deeds}
 use Rattle.hook_app.specs.OneLocation.{own_set}
 use Rattle.own_operator.specs.declared.mixer.Mixer.{Mixer}
 
--- how many groups there may be, and which lookaheads
+-- how many groups and tasks there may be, and which lookaheads
 pub record IsMixer (mixer : Mixer) : Type 0 where
   pub groups : (1 ≤ mixer.groups) × (mixer.groups ≤ 4096)
   pub lookahead : (1 ≤ mixer.lookahead) × (mixer.lookahead ≤ 4096)
+  pub tasks : (4096 ≤ mixer.tasks) × (mixer.tasks ≤ 1048576)
 
 -- the sets of that many groups: each writes its own cell
 abbrev pub group_sets : ℕ → List Accesses
@@ -26,9 +27,9 @@ first_at lookahead group = record { prio = group % lookahead; body = record { ki
 abbrev pub group_tasks : ℕ → ℕ → List Start
 group_tasks lookahead groups = map (first_at lookahead) (range_with_len 0 groups)
 
--- the priority before which all tasks come: each of the groups has its part of 16,384 tasks, and one of them in each lookahead
+-- the priority before which all tasks come: each of the groups has its part of the tasks, and one of them in each lookahead
 abbrev pub end_of : Mixer → ℕ
-end_of mixer = mixer.lookahead * (16384 / mixer.groups)
+end_of mixer = mixer.lookahead * (mixer.tasks / mixer.groups)
 
 -- a value after `times` multiplications, without what goes beyond 2^64
 abbrev pub multiplied : ℕ → ℕ → ℕ

@@ -289,6 +289,7 @@ fn is_recorded_by<R: Threads + Wait + Sync>(
         times,
         lookahead: 1,
         groups: GROUPS as u32,
+        tasks: 16_384,
     };
     let setting = Setting {
         mode,

@@ -1,4 +1,4 @@
-//! `own_operator MODE WORKERS LENGTH [LOOKAHEAD [GROUPS]]`: runs an operator of one's own, a closure over
+//! `own_operator MODE WORKERS LENGTH [LOOKAHEAD [GROUPS [TASKS]]]`: runs an operator of one's own, a closure over
 //! groups of one cell each, and prints what the cells come to and how many tasks there were.
 //!
 //! - MODE is `serial`, `rounds` or `free`.
@@ -6,8 +6,9 @@
 //! - LENGTH is how many multiplications a task makes, below 2^32.
 //! - LOOKAHEAD, from 1 to 4096 and by default 1, is by how much in priority each task of a group comes after
 //!   the one before it. The first one of group `at` has the priority `at % LOOKAHEAD`.
-//! - GROUPS, from 1 to 4096 and by default 64, is how many groups there are. Each has 16,384 / GROUPS tasks,
-//!   rounded down.
+//! - GROUPS, from 1 to 4096 and by default 64, is how many groups there are.
+//! - TASKS, from 4096 to 1,048,576 and by default 16,384, is how many tasks there are. Each group has
+//!   TASKS / GROUPS of them, rounded down.
 //!
 //! Other words are answered by a line that tells the usage, and exit code 2.
 #![tactic(auto)]
@@ -35,7 +36,7 @@ use std::process::ExitCode;
 fn main(rt: HostRuntime) -> ExitCode {
     let Some(setting) = setting_of(&rt) else {
         let _ = eprintln!(rt;
-            "usage: own_operator serial|rounds|free WORKERS LENGTH [LOOKAHEAD [GROUPS]]"
+            "usage: own_operator serial|rounds|free WORKERS LENGTH [LOOKAHEAD [GROUPS [TASKS]]]"
         );
         return ExitCode::from(2);
     };

@@ -5,9 +5,6 @@ ghost use Rattle.own_operator.specs.Mixing.{end_of};
 
 use hook_app::Deed;
 
-/// All groups together have that many tasks, or the most below it that gives each of them the same number.
-pub const TASKS: u32 = 16_384;
-
 /// A task multiplies the cell of its group that many times, and the next one of the group follows it.
 #[derive(Clone, Copy)]
 pub struct Mixer {
@@ -17,6 +14,9 @@ pub struct Mixer {
     pub lookahead: u32,
     /// How many groups there are, each of one cell, from 1 to 4096.
     pub groups: u32,
+    /// How many tasks all groups have together, or up to one fewer a group where they don't come out even: from
+    /// 4096 to 1,048,576.
+    pub tasks: u32,
 }
 
 impl Deed for Mixer {
@@ -39,6 +39,6 @@ impl Mixer {
         requires { 1 ≤ self.groups }
         ensures { result ≡ end_of self }
     {
-        u64::from(self.lookahead) * u64::from(TASKS / self.groups)
+        u64::from(self.lookahead) * u64::from(self.tasks / self.groups)
     }
 }

@@ -6,7 +6,7 @@ ghost use Rattle.hook_app.specs.Kept.{HookKeeps, IsAnswered, IsAsked};
 ghost use Rattle.hook_app.specs.OneLocation.{own_set};
 ghost use Rattle.own_operator.specs.Mixing.{IsMixer, group_sets, group_tasks, mixing, multiplied, next_children};
 
-use crate::mixer::{Mixer, TASKS};
+use crate::mixer::Mixer;
 use crate::setting::{Mode, Setting};
 use app_laws::{Child, ChildList, Effect, Finals, serial};
 use cell_store::Bundle;
@@ -21,9 +21,6 @@ use std::alloc::Global;
 use std::sync::Wait;
 use std::thread::Threads;
 use task_order::{Body, Start, StartList, Task};
-
-/// At most that many tasks may be created.
-const BUDGET: u64 = TASKS as u64;
 
 /// A number of the form 4k + 1, so that products go through many values before one comes again.
 const FACTOR: u64 = 6_364_136_223_846_793_005;
@@ -161,10 +158,12 @@ fn run_by<R: Threads + Wait + Sync, G: Gate + Sync, H: Hook<u64> + Sync>(
     let (groups, ahead) = (mixer.groups, u64::from(mixer.lookahead));
     let app = HookApp::new(mixer, groups, sets(alloc, groups)?, ahead, hook);
     let (cells, first) = (first_cells(alloc, groups)?, first_tasks(alloc, *mixer)?);
+    // No more tasks than that are created.
+    let budget = u64::from(mixer.tasks);
     if let Mode::Serial = setting.mode {
-        return serial(alloc, &app, cells, first, BUDGET).map_err(|_| NoRoom);
+        return serial(alloc, &app, cells, first, budget).map_err(|_| NoRoom);
     }
-    let engine = Engine::begin_uncounted(alloc, &app, cells, first, BUDGET).map_err(|_| NoRoom)?;
+    let engine = Engine::begin_uncounted(alloc, &app, cells, first, budget).map_err(|_| NoRoom)?;
     if let Mode::Free = setting.mode {
         return run_free(rt, alloc, engine, gate, 1, setting.workers).map_err(|_| NoRoom);
     }

@@ -25,7 +25,7 @@ pub struct Setting {
 }
 
 /// The setting of the words: the mode, the number of workers and the length of a task, and then, if they
-/// are said, the lookahead and the number of groups.
+/// are said, the lookahead, the number of groups and the number of tasks.
 pub fn read_setting(words: &[String]) -> Option<Setting>
     ensures workers { IfSome result (λ setting. (1 ≤ setting.workers) × (setting.workers ≤ 64)) }
     ensures mixer { IfSome result (λ setting. IsMixer setting.mixer) }
@@ -33,17 +33,18 @@ pub fn read_setting(words: &[String]) -> Option<Setting>
     let [mode, workers, times, more @ ..] = words else {
         return None;
     };
-    if more.len() > 2 {
+    if more.len() > 3 {
         return None;
     }
     let mixer = Mixer {
         times: u32_of(times)?,
-        lookahead: number_or(more.get(0), 1, 4096)?,
-        groups: number_or(more.get(1), 64, 4096)?,
+        lookahead: number_or(more.get(0), 1, 1, 4096)?,
+        groups: number_or(more.get(1), 64, 1, 4096)?,
+        tasks: number_or(more.get(2), 16_384, 4096, 1_048_576)?,
     };
     Some(Setting {
         mode: mode_of(mode)?,
-        workers: number_up_to(workers, 64)?,
+        workers: number_within(workers, 1, 64)?,
         mixer,
     })
 }
@@ -58,23 +59,23 @@ fn mode_of(word: &String) -> Option<Mode> {
     }
 }
 
-/// The number of a word, from 1 to the greatest one. Where there is no word, it is the default.
-fn number_or(word: Option<&String>, default: u32, most: u32) -> Option<u32>
-    requires { (1 ≤ default) × (default ≤ most) }
-    ensures { IfSome result (λ number. (1 ≤ number) × (number ≤ most)) }
+/// The number of a word, from the least to the greatest one. Where there is no word, it is the default.
+fn number_or(word: Option<&String>, default: u32, least: u32, most: u32) -> Option<u32>
+    requires { (least ≤ default) × (default ≤ most) }
+    ensures { IfSome result (λ number. (least ≤ number) × (number ≤ most)) }
 {
     match word {
-        Some(word) => number_up_to(word, most),
+        Some(word) => number_within(word, least, most),
         None => Some(default),
     }
 }
 
-/// The number of a word, from 1 to the greatest one.
-fn number_up_to(word: &String, most: u32) -> Option<u32>
-    ensures { IfSome result (λ number. (1 ≤ number) × (number ≤ most)) }
+/// The number of a word, from the least to the greatest one.
+fn number_within(word: &String, least: u32, most: u32) -> Option<u32>
+    ensures { IfSome result (λ number. (least ≤ number) × (number ≤ most)) }
 {
     let number = u32_of(word)?;
-    if number < 1 || number > most {
+    if number < least || number > most {
         return None;
     }
     Some(number)
