@@ -5,9 +5,12 @@ ghost use Rattle.std.specs.Prelude.{◌≡◌, ◌≤◌, IsFalse};
 use crate::backlog::Backlog;
 use crate::pick::Pick;
 
-/// About how many nanoseconds the tasks that a worker claims in a turn may have to do. A turn for a single
-/// task took two to three microseconds where the engine came from another processor's cache.
+/// About how many nanoseconds the tasks that a worker claims in a turn may have to do at most.
 const BATCH: u64 = 200_000;
+
+/// About how many nanoseconds tasks have to do that make up for a turn. One for a single task took two to
+/// three microseconds where the engine came from another processor's cache.
+const TURN: u64 = 10_000;
 
 /// How many tasks a worker claims in a turn at most: others wait while as many end and are claimed.
 const MOST: u64 = 64;
@@ -30,6 +33,8 @@ pub(crate) struct Plan {
     is_open: bool,
     /// How many tasks a worker claims in a turn at most.
     most: usize,
+    /// How many it claims where there are so many, though others might find none.
+    least: usize,
     /// How many tasks act in a turn at most. Where some may, none is claimed.
     pub(crate) acts: usize,
     /// How far the telling is behind.
@@ -43,9 +48,9 @@ impl Plan {
     pub(crate) fn new(seed: u64, workers: u32, is_open: bool, task_nanos: Option<u64>) -> Plan
         ensures closed { IsFalse is_open → result.acts ≡ 0 }
     {
-        let most = match task_nanos {
-            Some(nanos) if is_open => (BATCH / nanos.max(1)).min(MOST) as usize,
-            _ => 1,
+        let (most, least) = match task_nanos {
+            Some(nanos) if is_open => (tasks_in(BATCH, nanos), tasks_in(TURN, nanos)),
+            _ => (1, 1),
         };
         let acts = match task_nanos {
             Some(nanos) if is_open && nanos <= LIGHT => ACTS,
@@ -56,6 +61,7 @@ impl Plan {
             workers,
             is_open,
             most,
+            least,
             acts,
             backlog: Backlog::new(is_open),
         }
@@ -67,12 +73,18 @@ impl Plan {
         Pick::by(choice, self.is_open)
     }
 
-    /// How many tasks a worker claims in a turn at most, of the `pending` ones: no more than half its share,
-    /// so that others find some, and where one is late they take of what would be its own.
-    pub(crate) fn batch(&self, pending: usize) -> usize
+    /// How many tasks a worker claims in a turn at most, where `clear` ones are known to be clear: half its
+    /// share of these, so that others find some, and where all wait for the last of them they end at about
+    /// one time. But it claims as many as make up for the turn.
+    pub(crate) fn batch(&self, clear: usize) -> usize
         ensures { 1 ≤ result }
     {
-        let share = pending / (self.workers as usize).max(1);
-        self.most.min(share / 2).max(1)
+        let share = clear / (self.workers as usize).max(1);
+        self.most.min((share / 2).max(self.least)).max(1)
     }
+}
+
+/// How many tasks of so many nanoseconds fill the time, within what a turn takes.
+fn tasks_in(time: u64, nanos: u64) -> usize {
+    (time / nanos.max(1)).min(MOST) as usize
 }

@@ -51,6 +51,13 @@ impl<'a, A: App> Engine<'a, A> {
         self.claim_among(&Among::Known, pick)
     }
 
+    /// How many clear tasks it knows without a look. Who claims several at once may go by it, so that
+    /// others find some.
+    #[inline(always)]
+    pub fn known(&self) -> usize {
+        self.agenda.ready.count()
+    }
+
     /// Claims a task that may run now, of all clear nodes or of those that it knows.
     #[inline(always)]
     fn claim_among(&mut self, among: &Among, pick: u64) -> Result<Claim<A::Val>, NoRoom>

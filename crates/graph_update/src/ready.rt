@@ -110,6 +110,14 @@ impl Ready {
         }
     }
 
+    /// How many ids are known.
+    #[inline(always)]
+    pub(crate) fn count(&self) -> usize
+        ensures { result ≡ length self.now.ids.items }
+    {
+        self.ids.len()
+    }
+
     /// The id at the remainder of a pick, where there is one, and its place.
     #[inline(always)]
     pub(crate) fn picked(&self, pick: u64) -> Option<(NodeId, usize)>
