@@ -56,6 +56,21 @@ module _ {V : Type 0} where
   no_jobs [] each = refl
   no_jobs (hand ∷ hands) each = ap (λ (l : List (Job V)). l ++ dealt_jobs hands) (each 0 hand (omega arith)) ∙ no_jobs hands (λ k other inside. each (suc k) other (omega (arith, inside)))
 
+  -- ---- no job is lost
+
+  -- one more job is put behind those of a hand
+  pub one_in_hand : (jobs : List (Job V)) (place : ℕ) (job : Job V) (rest : List (Job V)) (hands : List (Hand (Job V) (Done V))) (hand next : Hand (Job V) (Done V)) → IsPermutation jobs (dealt_jobs hands ++ (job ∷ rest))
+      → slice_get hands place ≡ Some hand → next.jobs.items ≡ hand.jobs.items ++ job ∷ [] → IsPermutation jobs (dealt_jobs (slice_set hands place next) ++ rest)
+  one_in_hand jobs place job rest hands hand next all at more =
+      let before : List (Job V) = dealt_jobs hands in
+      let dealt : IsPermutation ((before ++ job ∷ []) ++ rest) (dealt_jobs (slice_set hands place next) ++ rest) =
+      IsPermutation-append_left rest (before ++ job ∷ []) (dealt_jobs (slice_set hands place next)) (grown (λ (h : Hand (Job V) (Done V)). h.jobs.items) hands place hand next job at more) in
+      IsPermutation-trans jobs (before ++ (job ∷ rest)) (dealt_jobs (slice_set hands place next) ++ rest) all
+      (subst (λ (l : List (Job V)). IsPermutation l (dealt_jobs (slice_set hands place next) ++ rest)) (append_assoc before (job ∷ []) rest) dealt)
+
+  pub all_in_hands : (jobs rest : List (Job V)) (hands : List (Hand (Job V) (Done V))) → IsPermutation jobs (dealt_jobs hands ++ rest) → rest ≡ [] → IsPermutation jobs (dealt_jobs hands)
+  all_in_hands jobs rest hands all empty = subst (IsPermutation jobs) (ap (λ (l : List (Job V)). dealt_jobs hands ++ l) empty ∙ append-nil (dealt_jobs hands)) all
+
   -- ---- hands with some of the jobs
 
   -- the jobs before a number are dealt out, and the rest is left
@@ -79,7 +94,7 @@ module _ {V : Type 0} where
     count = so_far.count;
     shares = λ k hand at.
         sym (append-nil hand.jobs.items) ∙ ap (λ (l : List (Job V)). hand.jobs.items ++ share workers k number l) (sym empty) ∙ so_far.shares k hand at;
-    all = subst (IsPermutation jobs) (ap (λ (l : List (Job V)). dealt_jobs hands ++ l) empty ∙ append-nil (dealt_jobs hands)) so_far.all;
+    all = all_in_hands jobs rest hands so_far.all empty;
   }
 
   -- the next job goes to the worker whose turn it is
@@ -99,10 +114,5 @@ module _ {V : Type 0} where
               ∙ so_far.shares place hand at ∙ ap (λ worker. share workers worker 0 jobs) (sym here.0)
           | inr there ↦ ap (λ (l : List (Job V)). other.jobs.items ++ l) (sym (others workers k number job rest there.0)) ∙ so_far.shares k other there.1
         ];
-        all =
-            let before : List (Job V) = dealt_jobs hands in
-            let dealt : IsPermutation ((before ++ job ∷ []) ++ rest) (dealt_jobs (slice_set hands place next) ++ rest) =
-            IsPermutation-append_left rest (before ++ job ∷ []) (dealt_jobs (slice_set hands place next)) (grown (λ (h : Hand (Job V) (Done V)). h.jobs.items) hands place hand next job at more) in
-            IsPermutation-trans jobs (before ++ (job ∷ rest)) (dealt_jobs (slice_set hands place next) ++ rest) so_far.all
-            (subst (λ (l : List (Job V)). IsPermutation l (dealt_jobs (slice_set hands place next) ++ rest)) (append_assoc before (job ∷ []) rest) dealt);
+        all = one_in_hand jobs place job rest hands hand next so_far.all at more;
       })

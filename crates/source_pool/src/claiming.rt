@@ -21,6 +21,8 @@ const AHEAD: usize = 64;
 #[derive(Drop)]
 pub(crate) struct Picks<'g, G: Gate> {
     gate: &'g G,
+    /// Whether the gate is open.
+    is_open: bool,
     seed: u64,
     /// The turn that the gate is asked for next.
     turn: u64,
@@ -34,6 +36,7 @@ impl<'g, G: Gate> Picks<'g, G> {
     pub(crate) fn new(gate: &'g G, seed: u64) -> Picks<'g, G> {
         Picks {
             gate,
+            is_open: gate.is_open(),
             seed,
             turn: 0,
             picks: [0; AHEAD],
@@ -46,9 +49,12 @@ impl<'g, G: Gate> Picks<'g, G> {
         self.gate
     }
 
-    /// The pick of the next turn.
+    /// The pick of the next turn. An open gate isn't asked: there the earliest task is the next one.
     #[inline(always)]
     pub(crate) fn next(&mut self) -> u64 {
+        if self.is_open {
+            return 0;
+        }
         if let Some(pick) = self.picks.get(self.used) {
             self.used += 1;
             return *pick;

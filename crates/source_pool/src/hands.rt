@@ -1,9 +1,9 @@
 //! How the jobs of a round are performed by a thread for each worker.
 
-ghost use Rattle.std.specs.Prelude.{◌≡◌, ◌≤◌, ◌<◌, ◌^◌, [], length, OnOk};
+ghost use Rattle.std.specs.Prelude.{◌≡◌, ◌≤◌, ◌<◌, ◌^◌, [], false, length, IsPermutation, OnOk};
 ghost use Rattle.std.specs.List.{All, AllByRecursion, AllZip};
 ghost use Rattle.crew.specs.Jobs.{MayRun};
-ghost use Rattle.source_pool.specs.Performing.{AreDealt, AreDoneInSomeTurn, AreEmptyHands, IsPlayed, MayPlay, gathered};
+ghost use Rattle.source_pool.specs.Performing.{AreDealt, AreDoneInSomeTurn, AreEmptyHands, IsPlayed, MayPlay, dealt_jobs, gathered};
 
 use crate::partners::Partners;
 use crate::performing::perform_in_turn;
@@ -28,8 +28,9 @@ pub(crate) struct Hand<J, D> {
     pub(crate) is_done: bool,
 }
 
-/// Performs the jobs of a round by a thread for each worker, as they are dealt out. The lists then
-/// have what was done; what was in the hands is dropped.
+/// Performs the jobs of a round by a thread for each worker, as they are dealt out: in turn, but where the gate is
+/// open, and nobody sees who performs what, in order. The lists then have what was done; what was in the
+/// hands is dropped.
 pub(crate) fn perform_together<R: Threads + Sync, A: App + Sync, G: Gate + Sync>(
     rt: &R,
     app: &A,
@@ -44,7 +45,7 @@ pub(crate) fn perform_together<R: Threads + Sync, A: App + Sync, G: Gate + Sync>
     ensures told { lists.new.partners ≡ lists.old.partners }
 {
     empty_hands(*lists.jobs.allocator(), workers, &mut lists.hands)?;
-    deal(&mut lists.jobs, &mut lists.hands)?;
+    deal(gate.is_open(), &mut lists.jobs, &mut lists.hands)?;
     play_each(rt, app, gate, &mut lists.hands, &mut lists.partners);
     gather(&mut lists.hands, &mut lists.dones)
 }
@@ -79,8 +80,27 @@ fn clear_jobs<V: Held>(hands: &mut Vec<Hand<Job<V>, Done<V>>>)
     }
 }
 
-/// Deals the jobs out in turn among the hands, which have none.
+/// Deals the jobs out among the hands, which have none, in order or in turn.
 fn deal<V: Held>(
+    in_order: bool,
+    jobs: &mut VecDeque<Job<V>>,
+    hands: &mut Vec<Hand<Job<V>, Done<V>>>,
+) -> Result<(), NoRoom>
+    requires some { 0 < length hands.old.items }
+    requires empty { AreEmptyHands (length hands.old.items) hands.old.items }
+    ensures count { OnOk result (length hands.new.items ≡ length hands.old.items) }
+    ensures all { OnOk result (IsPermutation jobs.old.items (dealt_jobs hands.new.items)) }
+    ensures in_turn { in_order ≡ false → OnOk result (AreDealt (length hands.old.items) jobs.old.items hands.new.items) }
+{
+    if in_order {
+        deal_in_order(jobs, hands)
+    } else {
+        deal_in_turn(jobs, hands)
+    }
+}
+
+/// Deals the jobs out in turn among the hands, which have none.
+fn deal_in_turn<V: Held>(
     jobs: &mut VecDeque<Job<V>>,
     hands: &mut Vec<Hand<Job<V>, Done<V>>>,
 ) -> Result<(), NoRoom>
@@ -92,6 +112,27 @@ fn deal<V: Held>(
     while let Some(job) = jobs.pop_front() {
         let worker = number % hands.len();
         hands[worker].jobs.push_back(job)?;
+        number += 1;
+    }
+    Ok(())
+}
+
+/// Deals the jobs out in order among the hands, which have none: to each as many as come next. What was done
+/// is then, hand by hand, in the order of the jobs.
+fn deal_in_order<V: Held>(
+    jobs: &mut VecDeque<Job<V>>,
+    hands: &mut Vec<Hand<Job<V>, Done<V>>>,
+) -> Result<(), NoRoom>
+    requires some { 0 < length hands.old.items }
+    requires empty { AreEmptyHands (length hands.old.items) hands.old.items }
+    ensures count { OnOk result (length hands.new.items ≡ length hands.old.items) }
+    ensures all { OnOk result (IsPermutation jobs.old.items (dealt_jobs hands.new.items)) }
+{
+    let each = jobs.len().div_ceil(hands.len()).max(1);
+    let mut number = 0usize;
+    while let Some(job) = jobs.pop_front() {
+        let place = (number / each).min(hands.len() - 1);
+        hands[place].jobs.push_back(job)?;
         number += 1;
     }
     Ok(())

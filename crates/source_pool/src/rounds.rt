@@ -38,9 +38,9 @@ use text_outlet::{Outlet, TextSink};
 /// counted.
 ///
 /// Worker 0 claims, and the gate chooses for it at each turn, counted from 0; job number `i` of a
-/// round is worker `i mod workers`'s. But where the gate is open, a round in which no thread is likely
-/// to start asks for no choice: its tasks are claimed, performed and ended one after the other, in the
-/// order of their keys. Where the application ignores paths too, pending tasks may get shorter ones between
+/// round is worker `i mod workers`'s. But where the gate is open, so that nobody sees it, no choice is
+/// asked for: tasks are claimed in the order of their keys, and each worker performs as many as come next;
+/// where no thread is likely to start they are claimed, performed and ended one after the other. Where the application ignores paths too, pending tasks may get shorter ones between
 /// two rounds; a gate that isn't open is passed by each task under the key that it began with. What was
 /// handed in is dropped after a fault.
 pub fn run_rounds<'a, R: Threads + Sync, A: App + Sync, G: Gate + Sync>(
