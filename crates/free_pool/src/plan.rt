@@ -8,9 +8,13 @@ use crate::pick::Pick;
 /// About how many nanoseconds the tasks that a worker claims in a turn may have to do at most.
 const BATCH: u64 = 200_000;
 
-/// About how many nanoseconds tasks have to do that make up for a turn. One for a single task took two to
-/// three microseconds where the engine came from another processor's cache.
-const TURN: u64 = 10_000;
+/// A task that has no more nanoseconds to do is short: it takes about as long to bring it and its cells from
+/// another processor's cache.
+const SHORT: u64 = 8_000;
+
+/// About how many nanoseconds the short tasks that a worker claims in a turn may have to do, though others
+/// might find none.
+const SHARE: u64 = 64_000;
 
 /// How many tasks a worker claims in a turn at most: others wait while as many end and are claimed.
 const MOST: u64 = 64;
@@ -33,8 +37,8 @@ pub(crate) struct Plan {
     is_open: bool,
     /// How many tasks a worker claims in a turn at most.
     most: usize,
-    /// How many it claims where there are so many, though others might find none.
-    least: usize,
+    /// How many short tasks it claims, up to its share of all tasks.
+    short: usize,
     /// How many tasks act in a turn at most. Where some may, none is claimed.
     pub(crate) acts: usize,
     /// How far the telling is behind.
@@ -48,9 +52,13 @@ impl Plan {
     pub(crate) fn new(seed: u64, workers: u32, is_open: bool, task_nanos: Option<u64>) -> Plan
         ensures closed { IsFalse is_open → result.acts ≡ 0 }
     {
-        let (most, least) = match task_nanos {
-            Some(nanos) if is_open => (tasks_in(BATCH, nanos), tasks_in(TURN, nanos)),
-            _ => (1, 1),
+        let most = match task_nanos {
+            Some(nanos) if is_open => tasks_in(BATCH, nanos),
+            _ => 1,
+        };
+        let short = match task_nanos {
+            Some(nanos) if is_open && nanos <= SHORT => tasks_in(SHARE, nanos),
+            _ => 0,
         };
         let acts = match task_nanos {
             Some(nanos) if is_open && nanos <= LIGHT => ACTS,
@@ -61,7 +69,7 @@ impl Plan {
             workers,
             is_open,
             most,
-            least,
+            short,
             acts,
             backlog: Backlog::new(is_open),
         }
@@ -73,14 +81,17 @@ impl Plan {
         Pick::by(choice, self.is_open)
     }
 
-    /// How many tasks a worker claims in a turn at most, where `clear` ones are known to be clear: half its
-    /// share of these, so that others find some, and where all wait for the last of them they end at about
-    /// one time. But it claims as many as make up for the turn.
-    pub(crate) fn batch(&self, clear: usize) -> usize
+    /// How many tasks a worker claims in a turn at most, of `pending` ones of which `clear` are known to be
+    /// clear. It leaves half its share of the clear ones, so that others find some, and where all wait for
+    /// the last of them they end at about one time. But of short tasks it claims up to its share of all: where
+    /// each worker does so, what it finds clear next is mostly what follows its own tasks.
+    pub(crate) fn batch(&self, clear: usize, pending: usize) -> usize
         ensures { 1 ≤ result }
     {
-        let share = clear / (self.workers as usize).max(1);
-        self.most.min((share / 2).max(self.least)).max(1)
+        let workers = (self.workers as usize).max(1);
+        let half = clear / workers / 2;
+        let share = self.short.min(pending / workers);
+        self.most.min(half.max(share)).max(1)
     }
 }
 

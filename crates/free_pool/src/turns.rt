@@ -137,7 +137,7 @@ pub(crate) fn work_in_turn<'a, A: App, L: Ledger>(
         let Acting { next, stuck } = act_tasks(engine, plan.acts, &mut hand.acted, steps);
         return (Turned { ended, next }, stuck);
     }
-    let most = plan.batch(engine.known());
+    let most = plan.batch(engine.known(), engine.graph().len());
     let next = claim_tasks(engine, pick, most, &mut hand.jobs);
     (Turned { ended, next }, None)
 }
