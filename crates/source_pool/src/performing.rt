@@ -24,8 +24,8 @@ use std::thread::Threads;
 use task_order::{ascending_laws, earlier_laws};
 
 /// Draws the jobs of all clear tasks, has them performed, and puts what was done in the order of its
-/// keys: job number `i` is worker `i mod workers`'s, and each worker performs its jobs in order. What
-/// was in the lists is dropped.
+/// keys. Where the gate isn't open job number `i` is worker `i mod workers`'s, and each worker performs its
+/// jobs in order. What was in the lists is dropped.
 pub(crate) fn perform_round<R: Threads + Sync, A: App + Sync, G: Gate + Sync>(
     rt: &R,
     engine: &mut Engine<'_, A>,
