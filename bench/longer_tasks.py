@@ -3,7 +3,8 @@
 
 Prints a table: the length of a task, how long one takes in a run with one worker, and how many times as fast 2 and 4
 workers are. Each figure is from the least time of some runs by the clock.
-With LOOKAHEAD and GROUPS in the environment these are handed on, and RUNS says how many runs there are of each kind.
+With LOOKAHEAD, GROUPS and TASKS in the environment these are handed on, and RUNS says how many runs there are of each
+kind.
 Wants a machine with four idle processors."""
 import os
 import re
@@ -13,7 +14,7 @@ import time
 
 LENGTHS = [10_000, 16_000, 20_000, 50_000, 100_000, 160_000, 200_000, 400_000, 800_000]
 RUNS = int(os.environ.get('RUNS', '9'))
-SHAPE = [os.environ.get('LOOKAHEAD', '1'), os.environ.get('GROUPS', '64')]
+SHAPE = [os.environ.get('LOOKAHEAD', '1'), os.environ.get('GROUPS', '64'), os.environ.get('TASKS', '16384')]
 WORKERS = [1, 2, 4]
 
 
