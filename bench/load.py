@@ -23,13 +23,14 @@ def filled(lines, comment):
     return text + comment + 'x' * (BYTES - len(text) - len(comment))
 
 
-def gates():
+def gates(kind='NAND', stimuli=0):
     """An input and 4,095 gates of 255 fan-ins each, of earlier signals, by long names."""
     pick = random.Random(1)
     names = [f'signal_{number:05}' for number in range(4096)]
     lines = [f'INPUT({names[0]})', f'OUTPUT({names[4095]})']
     for number in range(1, 4096):
-        lines.append(f'{names[number]} = NAND({",".join(pick.choice(names[:number]) for _ in range(255))})')
+        lines.append(f'{names[number]} = {kind}({",".join(pick.choice(names[:number]) for _ in range(255))})')
+    lines += [f'@ {time} {time % 2}' for time in range(1, stimuli + 1)]
     return filled(lines, '#')
 
 
@@ -61,7 +62,10 @@ def springs():
 
 
 INPUTS = {
+    # At time 1 each of them turns, and every gate has an event of each of its fan-ins.
     'gates': (gates, 'sim --until 3'),
+    # None turns but those that read the input alone, so a gate has one event at a time.
+    'still_gates': (lambda: gates('AND', 100), 'sim --until 101'),
     'stimuli': (stimuli, 'sim --until 65536'),
     'places': (lambda: places(4096), 'rank'),
     'edges': (lambda: places(4096), 'levels'),
