@@ -59,6 +59,33 @@ pub(crate) fn doubled(
     None
 }
 
+/// What the worker takes of a number that is given, and what the giver then collects as done, by one
+/// thread.
+pub(crate) fn taken_and_done(
+    desk: &Desk<u64, u32, Doubling>,
+    giver: Giver<u64, u32>,
+    worker: Worker<u64, u32>,
+    x: u64,
+) -> Option<(u64, u64)>
+    requires giver { giver.desk ≡ desk.now.desk }
+    requires worker { worker.desk ≡ desk.now.desk }
+    requires small { x < 1000 }
+{
+    let ticket = desk.give(giver, x);
+    match desk.try_take(worker) {
+        Taken::Work(task, taken) => {
+            let _worker = desk.finish(task, 2 * taken);
+            match desk.collect(ticket) {
+                Collected::Done(_giver, y) => Some((taken, y)),
+                Collected::Back(_giver, _x) => None,
+                Collected::Away(_ticket) => None,
+            }
+        }
+        Taken::Nothing(_worker) => None,
+        Taken::Closed => None,
+    }
+}
+
 /// The sum of the doubles of 0, 1 and so on. The worker is then told that nothing more comes.
 pub(crate) fn sum_of_doubles(
     desk: &Desk<u64, u32, Doubling>,

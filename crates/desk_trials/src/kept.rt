@@ -3,11 +3,11 @@
 ghost use Rattle.std.specs.Prelude.{◌≡◌, ◌*◌, ◌<◌, IfSome};
 
 use crate::doubling::Doubling;
-use work_desk::{Answer, Partner, Server};
+use work_desk::{Answer, Partner, Servers};
 
 /// Doubles all numbers that come.
-pub(crate) fn serve_kept(server: Server<u64, u32, Doubling>) {
-    server.serve(
+pub(crate) fn serve_kept(servers: Servers<u64, u32, Doubling>) {
+    servers.serve(
         &|x: u64| -> u64
             requires { x < 1000 }
             ensures { result ≡ 2 * x }
@@ -30,17 +30,24 @@ pub(crate) fn kept_double(
     }
 }
 
-/// The sum of the doubles of 0, 1 and so on. The worker is then told that nothing more comes.
-pub(crate) fn kept_sum(partner: Partner<u64, u32, Doubling>, count: u64) -> Option<u64>
+/// The sum of the doubles of 0, 1 and so on, given at one desk after the other. The worker is then told that
+/// nothing more comes.
+pub(crate) fn kept_sum(
+    one: Partner<u64, u32, Doubling>,
+    other: Partner<u64, u32, Doubling>,
+    count: u64,
+) -> Option<u64>
     requires { count < 1000 }
 {
-    let mut partner = partner;
+    let (mut next, mut last) = (one, other);
     let mut sum = 0u64;
     for x in 0..count {
-        let (back, double) = kept_double(partner, x)?;
-        partner = back;
+        let (back, double) = kept_double(next, x)?;
+        next = last;
+        last = back;
         sum = sum.wrapping_add(double);
     }
-    partner.close();
+    next.close();
+    last.close();
     Some(sum)
 }

@@ -1,9 +1,10 @@
 //! Workers that are kept over many rounds, each at a desk of its own.
 
-ghost use Rattle.std.specs.Prelude.{◌≡◌, IfOk};
+ghost use Rattle.std.specs.Prelude.{◌≡◌, IfOk, IfSome};
 
 use crate::desk::Desk;
 use crate::errand::Errand;
+use crate::outcomes::Taken;
 use crate::seats::{Giver, Worker};
 use crate::steps::Deed;
 use kdg_text::NoRoom;
@@ -29,7 +30,7 @@ impl<T: Drop, K, D: Deed<T, K>> Model for Partner<T, K, D> {
     ghost invariant = { λ p. p.giver.desk ≡ (arc_value p.desk).desk };
 }
 
-/// A kept worker, as its own thread sees it. It is seen as what its desk was told.
+/// A kept worker at one desk, as its own thread sees it. It is seen as what the desk was told.
 #[derive(Drop)]
 pub struct Server<T: Drop, K, D: Deed<T, K>> {
     desk: Arc<Desk<T, K, D>>,
@@ -84,12 +85,25 @@ impl<T: Drop, K, D: Deed<T, K>> Partner<T, K, D> {
 }
 
 impl<T: Drop, K, D: Deed<T, K>> Server<T, K, D> {
-    /// Performs all work that comes, until none will, or it has looked in vain for long.
-    pub fn serve<F: Fn(T) -> T>(self, perform: &F)
+    /// Whether there is work, or none will come. That is a plain load.
+    pub(crate) fn has_news(&self) -> bool {
+        self.desk.has_news()
+    }
+
+    /// Performs the work, where there is some. The server comes back, but where none will come.
+    pub(crate) fn serve_once<F: Fn(T) -> T>(self, perform: &F) -> Option<Server<T, K, D>>
         requires may { (x : T) → D.may self x → F.pre perform.now x }
         requires done { (x y : T) → D.may self x → F.post perform.now x y → D.done self x y }
+        ensures { IfSome result (λ server. server ≡ self) }
     {
         let Server { desk, worker } = self;
-        desk.serve(worker, perform);
+        match desk.try_take(worker) {
+            Taken::Work(task, x) => {
+                let worker = desk.finish(task, perform(x));
+                Some(Server { desk, worker })
+            }
+            Taken::Nothing(worker) => Some(Server { desk, worker }),
+            Taken::Closed => None,
+        }
     }
 }

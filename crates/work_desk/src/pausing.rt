@@ -12,12 +12,17 @@ impl<T: Drop, K, D: Deed<T, K>> Desk<T, K, D> {
     /// Looks until there is work or none will come, `looks` times at most. A look is a plain load.
     pub fn look_for_work(&self, looks: u32) {
         for look in 0..looks {
-            let word = self.table.shared.peek(0);
-            if word == LAID || word == CLOSED {
+            if self.has_news() {
                 return;
             }
             pause(look);
         }
+    }
+
+    /// Whether there is work, or none will come.
+    pub(crate) fn has_news(&self) -> bool {
+        let word = self.table.shared.peek(0);
+        word == LAID || word == CLOSED
     }
 
     /// Looks until no worker has the work in hand, `looks` times at most.
@@ -32,7 +37,7 @@ impl<T: Drop, K, D: Deed<T, K>> Desk<T, K, D> {
 }
 
 /// What one does between two looks.
-fn pause(look: u32) {
+pub(crate) fn pause(look: u32) {
     if look < SPINS {
         spin_loop();
     } else {
