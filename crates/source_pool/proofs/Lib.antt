@@ -7,6 +7,7 @@ pub mod EarliestFirst
 pub mod Ending
 pub mod EndsInKeyOrder
 pub mod EngineAtRest
+pub mod Exits
 pub mod Faults
 pub mod Flows
 pub mod Fronts

@@ -14,12 +14,11 @@ ghost use Rattle.kdg_graph.specs.contracts.node_id.NodeId as node;
 ghost use Rattle.source_pool.specs.contracts.hands.Hand as hand;
 
 use crate::hands::Hand;
-use crate::partners::{Order, Playing, Told};
+use crate::partners::{HandServer, HandServers, Told};
 use app_laws::{App, Effect};
 use cell_store::Bundle;
 use graph_update::{Done, Job};
 use task_order::Task;
-use work_desk::Server;
 
 /// It may go to another thread.
 fn sends<T: Send>()
@@ -80,5 +79,7 @@ pub(crate) fn post_sends<A: App + Sync>()
 {
     order_sends::<A>();
     told_sends::<A>();
-    sends::<Server<Order<A>, Told<A>, Playing>>();
+    sends::<HandServer<A>>();
+    sends::<Vec<Option<HandServer<A>>>>();
+    sends::<HandServers<A>>();
 }

@@ -1,8 +1,9 @@
 //! How the jobs of a round are performed by a thread for each worker.
 
-ghost use Rattle.std.specs.Prelude.{◌≡◌, ◌≤◌, ◌<◌, ◌^◌, [], false, length, IsPermutation, OnOk};
+ghost use Rattle.std.specs.Prelude.{◌≡◌, ◌≤◌, ◌<◌, [], false, length, IsPermutation, OnOk};
 ghost use Rattle.std.specs.List.{All, AllByRecursion, AllZip};
 ghost use Rattle.crew.specs.Jobs.{MayRun};
+ghost use Rattle.source_pool.specs.declared.hands.Dealing.TheVariants.{InTurn};
 ghost use Rattle.source_pool.specs.Performing.{AreDealt, AreDoneInSomeTurn, AreEmptyHands, IsPlayed, MayPlay, dealt_jobs, gathered};
 
 use crate::partners::Partners;
@@ -15,11 +16,14 @@ use kdg_text::NoRoom;
 use outer_edge::Gate;
 use std::alloc::Global;
 use std::collections::VecDeque;
+use std::mem;
 use std::thread::{self, Threads};
 
-/// What a worker has in hand in a round.
+/// What a worker has in hand at a time.
 #[derive(Drop)]
 pub(crate) struct Hand<J, D> {
+    /// The worker's number.
+    pub(crate) worker: u32,
     /// What is dealt to the worker and not yet performed, the first one dealt first.
     pub(crate) jobs: VecDeque<J>,
     /// What it has performed, in order.
@@ -28,9 +32,43 @@ pub(crate) struct Hand<J, D> {
     pub(crate) is_done: bool,
 }
 
+impl<J: Drop, D: Drop> Hand<J, D> {
+    /// A hand of this worker with nothing in it.
+    fn of(alloc: Global, worker: u32) -> Hand<J, D>
+        ensures none { result.jobs.items ≡ [] }
+        ensures not_done { result.is_done ≡ false }
+    {
+        Hand {
+            worker,
+            jobs: VecDeque::new(alloc),
+            dones: VecDeque::new(alloc),
+            is_done: false,
+        }
+    }
+
+    /// The hand, which goes elsewhere. In its place is an empty one.
+    pub(crate) fn taken_out(&mut self) -> Hand<J, D>
+        ensures hand { result ≡ self.old }
+        ensures none { self.new.is_done ≡ false }
+    {
+        let empty = Hand::of(*self.jobs.allocator(), self.worker);
+        mem::replace(self, empty)
+    }
+}
+
+/// How the jobs of a round are dealt out.
+#[derive(Clone, Copy)]
+enum Dealing {
+    /// To one hand after the other, round and round.
+    InTurn,
+    /// To each hand from this one on as many as come next.
+    InOrder { first: usize },
+}
+
 /// Performs the jobs of a round by a thread for each worker, as they are dealt out: in turn, but where the gate is
-/// open, and nobody sees who performs what, in order. The lists then have what was done; what was in the
-/// hands is dropped.
+/// open, and nobody sees who performs what, in order. Then kept workers get a hand at each desk, and the
+/// caller has none at first: it performs what they don't come to. The lists then have what was done; what was in
+/// the hands is dropped.
 pub(crate) fn perform_together<R: Threads + Sync, A: App + Sync, G: Gate + Sync>(
     rt: &R,
     app: &A,
@@ -44,30 +82,42 @@ pub(crate) fn perform_together<R: Threads + Sync, A: App + Sync, G: Gate + Sync>
     ensures done { OnOk result (AreDoneInSomeTurn (A.meaning app.now) lists.old.jobs.items lists.new.dones.items) }
     ensures told { lists.new.partners ≡ lists.old.partners }
 {
-    empty_hands(*lists.jobs.allocator(), workers, &mut lists.hands)?;
-    deal(gate.is_open(), &mut lists.jobs, &mut lists.hands)?;
+    let desks = lists.partners.desks().min(lists.jobs.len());
+    let (hands, dealing) = match (gate.is_open(), desks) {
+        (false, _) => (workers as usize, Dealing::InTurn),
+        (true, 0) => (workers as usize, Dealing::InOrder { first: 0 }),
+        (true, desks) => (desks + 1, Dealing::InOrder { first: 1 }),
+    };
+    empty_hands(*lists.jobs.allocator(), hands, workers, &mut lists.hands)?;
+    deal(dealing, &mut lists.jobs, &mut lists.hands)?;
     play_each(rt, app, gate, &mut lists.hands, &mut lists.partners);
     gather(&mut lists.hands, &mut lists.dones)
 }
 
-/// Makes the hands those of the workers, without jobs.
+/// Makes the hands so many, without jobs: the first is the caller's, worker 0's, and the next ones are those of
+/// the others in turn.
 fn empty_hands<V: Held>(
     alloc: Global,
+    count: usize,
     workers: u32,
     hands: &mut Vec<Hand<Job<V>, Done<V>>>,
 ) -> Result<(), NoRoom>
-    ensures { OnOk result (AreEmptyHands workers hands.new.items) }
+    ensures { OnOk result (AreEmptyHands count hands.new.items) }
 {
-    hands.truncate(workers as usize);
+    hands.truncate(count);
     clear_jobs(hands);
-    while hands.len() < workers as usize {
-        hands.push(Hand {
-            jobs: VecDeque::new(alloc),
-            dones: VecDeque::new(alloc),
-            is_done: false,
-        })?;
+    while hands.len() < count {
+        hands.push(Hand::of(alloc, whose(hands.len(), workers)))?;
     }
     Ok(())
+}
+
+/// Whose the hand at a place is, where the first is worker 0's and the next ones are those of the others in turn.
+fn whose(place: usize, workers: u32) -> u32 {
+    match place {
+        0 => 0,
+        _ => 1 + ((place - 1) % (workers.max(2) as usize - 1)) as u32,
+    }
 }
 
 /// Drops the jobs of all hands.
@@ -80,9 +130,9 @@ fn clear_jobs<V: Held>(hands: &mut Vec<Hand<Job<V>, Done<V>>>)
     }
 }
 
-/// Deals the jobs out among the hands, which have none, in order or in turn.
+/// Deals the jobs out among the hands, which have none.
 fn deal<V: Held>(
-    in_order: bool,
+    dealing: Dealing,
     jobs: &mut VecDeque<Job<V>>,
     hands: &mut Vec<Hand<Job<V>, Done<V>>>,
 ) -> Result<(), NoRoom>
@@ -90,12 +140,11 @@ fn deal<V: Held>(
     requires empty { AreEmptyHands (length hands.old.items) hands.old.items }
     ensures count { OnOk result (length hands.new.items ≡ length hands.old.items) }
     ensures all { OnOk result (IsPermutation jobs.old.items (dealt_jobs hands.new.items)) }
-    ensures in_turn { in_order ≡ false → OnOk result (AreDealt (length hands.old.items) jobs.old.items hands.new.items) }
+    ensures in_turn { dealing ≡ InTurn → OnOk result (AreDealt (length hands.old.items) jobs.old.items hands.new.items) }
 {
-    if in_order {
-        deal_in_order(jobs, hands)
-    } else {
-        deal_in_turn(jobs, hands)
+    match dealing {
+        Dealing::InTurn => deal_in_turn(jobs, hands),
+        Dealing::InOrder { first } => deal_in_order(first, jobs, hands),
     }
 }
 
@@ -117,9 +166,10 @@ fn deal_in_turn<V: Held>(
     Ok(())
 }
 
-/// Deals the jobs out in order among the hands, which have none: to each as many as come next. What was done
-/// is then, hand by hand, in the order of the jobs.
+/// Deals the jobs out in order among the hands from the first one to get any on, which have none: to each as
+/// many as come next. What was done is then, hand by hand, in the order of the jobs.
 fn deal_in_order<V: Held>(
+    first: usize,
     jobs: &mut VecDeque<Job<V>>,
     hands: &mut Vec<Hand<Job<V>, Done<V>>>,
 ) -> Result<(), NoRoom>
@@ -128,10 +178,12 @@ fn deal_in_order<V: Held>(
     ensures count { OnOk result (length hands.new.items ≡ length hands.old.items) }
     ensures all { OnOk result (IsPermutation jobs.old.items (dealt_jobs hands.new.items)) }
 {
-    let each = jobs.len().div_ceil(hands.len()).max(1);
+    let last = hands.len() - 1;
+    let first = first.min(last);
+    let each = jobs.len().div_ceil(hands.len() - first).max(1);
     let mut number = 0usize;
     while let Some(job) = jobs.pop_front() {
-        let place = (number / each).min(hands.len() - 1);
+        let place = first.saturating_add(number / each).min(last);
         hands[place].jobs.push_back(job)?;
         number += 1;
     }
@@ -149,12 +201,11 @@ fn play_each<R: Threads + Sync, A: App + Sync, G: Gate + Sync>(
 )
     requires told { partners.old ≡ app.now }
     requires some { 0 < length hands.old }
-    requires few { length hands.old < 2 ^ 32 }
     requires may_play { All (MayPlay (A.meaning app.now)) hands.old }
     ensures told { partners.new ≡ partners.old }
     ensures played { AllZip (IsPlayed (A.meaning app.now)) hands.old hands.new }
 {
-    if partners.is_empty() {
+    if partners.desks() == 0 {
         play_all(rt, app, gate, hands);
         return;
     }
@@ -171,7 +222,6 @@ fn play_all<R: Threads + Sync, A: App + Sync, G: Gate + Sync>(
     hands: &mut [Hand<Job<A::Val>, Done<A::Val>>],
 )
     requires some { 0 < length hands.old }
-    requires few { length hands.old < 2 ^ 32 }
     requires may_play { All (MayPlay (A.meaning app.now)) hands.old }
     ensures { AllZip (IsPlayed (A.meaning app.now)) hands.old hands.new }
 {
@@ -180,10 +230,10 @@ fn play_all<R: Threads + Sync, A: App + Sync, G: Gate + Sync>(
         rt,
         hands,
         workers,
-        &|worker: usize, hand: &mut Hand<Job<A::Val>, Done<A::Val>>|
-            requires { (worker < 2 ^ 32) × MayPlay (A.meaning app.now) hand.now }
+        &|_place: usize, hand: &mut Hand<Job<A::Val>, Done<A::Val>>|
+            requires { MayPlay (A.meaning app.now) hand.now }
             ensures { IsPlayed (A.meaning app.entry.now) hand.entry.now hand.exit.now }
-        { play(app, gate, worker as u32, hand) },
+        { play(app, gate, hand) },
     );
 }
 
@@ -204,18 +254,13 @@ fn gather<V: Held>(
     Ok(())
 }
 
-/// Performs the jobs of a worker's hand, in order. The hand then has what was done, and whether that
-/// is all; what was there before is dropped.
-pub(crate) fn play<A: App, G: Gate>(
-    app: &A,
-    gate: &G,
-    worker: u32,
-    hand: &mut Hand<Job<A::Val>, Done<A::Val>>,
-)
+/// Performs the jobs of a hand, in order. The hand then has what was done, and whether that is all; what was
+/// there before is dropped.
+pub(crate) fn play<A: App, G: Gate>(app: &A, gate: &G, hand: &mut Hand<Job<A::Val>, Done<A::Val>>)
     requires { MayPlay (A.meaning app.now) hand.old }
     ensures { IsPlayed (A.meaning app.now) hand.old hand.new }
 {
-    let end = worker.saturating_add(1);
-    let performed = perform_in_turn(app, gate, worker..end, &mut hand.jobs, &mut hand.dones);
+    let end = hand.worker.saturating_add(1);
+    let performed = perform_in_turn(app, gate, hand.worker..end, &mut hand.jobs, &mut hand.dones);
     hand.is_done = performed.is_ok();
 }

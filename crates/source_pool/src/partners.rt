@@ -1,6 +1,6 @@
 //! Workers that are kept over the rounds of a run.
 
-ghost use Rattle.std.specs.Prelude.{◌≡◌, ◌+◌, ◌<◌, ◌^◌, false, length, IfOk, IfSome};
+ghost use Rattle.std.specs.Prelude.{◌≡◌, false, IfOk, IfSome};
 ghost use Rattle.std.specs.List.{All, AllZip};
 ghost use Rattle.source_pool.specs.Performing.{IsPlayed, MayPlay};
 
@@ -11,12 +11,14 @@ use graph_update::{Done, Job};
 use kdg_text::NoRoom;
 use outer_edge::Gate;
 use std::alloc::Global;
-use std::collections::VecDeque;
 use std::marker::Model;
-use std::mem;
 use std::snapshot::Snapshot;
 use std::thread::{self, Threads};
-use work_desk::{Answer, Deed, Errand, Partner, Server, meet};
+use work_desk::{Answer, Deed, Errand, Partner, Server, Servers, meet};
+
+/// At how many desks the kept workers of a run serve in all, or some more, so that each has as many. The
+/// more there are, the better the last jobs of a round are shared.
+const DESKS: usize = 128;
 
 /// The application whose tasks are in hand, for contracts alone.
 #[derive(Drop)]
@@ -24,10 +26,9 @@ pub(crate) struct Told<A> {
     pub(crate) app: Snapshot<A>,
 }
 
-/// A worker's hand, and whose it is.
+/// A hand that goes to a kept worker.
 #[derive(Drop)]
 pub(crate) struct Order<A: App> {
-    pub(crate) worker: u32,
     pub(crate) hand: Hand<Job<A::Val>, Done<A::Val>>,
 }
 
@@ -42,11 +43,14 @@ impl<A: App> Deed<Order<A>, Told<A>> for Playing {
     ghost done = { λ told given back. IsPlayed (A.meaning told.app.value) given.hand back.hand };
 }
 
-/// A kept worker, as the caller sees it.
+/// A desk of a kept worker, as the caller sees it.
 pub(crate) type HandPartner<A> = Partner<Order<A>, Told<A>, Playing>;
 
-/// A kept worker, as its own thread sees it.
+/// A desk of a kept worker, as its own thread sees it.
 pub(crate) type HandServer<A> = Server<Order<A>, Told<A>, Playing>;
+
+/// The desks of a kept worker, as its own thread sees them.
+pub(crate) type HandServers<A> = Servers<Order<A>, Told<A>, Playing>;
 
 /// A hand that a kept worker has.
 pub(crate) type HandErrand<A> = Errand<Order<A>, Told<A>, Playing>;
@@ -55,11 +59,12 @@ pub(crate) type HandErrand<A> = Errand<Order<A>, Told<A>, Playing>;
 #[derive(Drop)]
 pub(crate) struct Post<'a, A: App> {
     pub(crate) app: &'a A,
-    pub(crate) server: HandServer<A>,
-    ghost same: { server.app.value ≡ app.now },
+    pub(crate) servers: HandServers<A>,
+    ghost same: { servers.app.value ≡ app.now },
 }
 
-/// The workers from 1 on, where they are kept: each is told of one application.
+/// The desks of the workers from 1 on, where these are kept: first each one's first, then each one's second,
+/// and so on. Each is told of one application.
 #[derive(Drop)]
 pub(crate) struct Partners<A: App> {
     told: Told<A>,
@@ -90,13 +95,20 @@ impl<A: App> Partners<A> {
         }
     }
 
-    /// Whether no worker is kept.
-    pub(crate) fn is_empty(&self) -> bool {
-        self.list.is_empty()
+    /// At how many desks the kept workers serve. There is none where no worker is kept.
+    pub(crate) fn desks(&self) -> usize {
+        self.list.len()
     }
 
-    /// Keeps one more worker, which is told of the same application, and answers its seat.
-    pub(crate) fn add(&mut self, alloc: Global) -> Result<HandServer<A>, NoRoom>
+    /// A kept worker without a desk.
+    fn servers(&self, alloc: Global) -> HandServers<A>
+        ensures { result.app.value ≡ self.now }
+    {
+        Servers::new(alloc, &self.told)
+    }
+
+    /// One more desk, which is told of the same application, and answers who serves there.
+    fn add(&mut self, alloc: Global) -> Result<HandServer<A>, NoRoom>
         ensures told { self.new ≡ self.old }
         ensures server { IfOk result (λ server. server.app.value ≡ self.old) }
     {
@@ -105,8 +117,8 @@ impl<A: App> Partners<A> {
         Ok(server)
     }
 
-    /// Has the hands of the workers from 1 on played by their partners, as far as there are some,
-    /// and plays worker 0's meanwhile. Each hand then has what became of its own.
+    /// Has the hands but the caller's own played by kept workers, each at the desk in its place, as far as
+    /// there are some, and plays its own meanwhile. Each hand then has what became of its own.
     pub(crate) fn play<G: Gate>(
         &mut self,
         app: &A,
@@ -117,12 +129,11 @@ impl<A: App> Partners<A> {
         requires told { self.old ≡ app.now }
         requires own { MayPlay (A.meaning app.now) own.old }
         requires others { All (MayPlay (A.meaning app.now)) others.old }
-        requires few { length others.old + 1 < 2 ^ 32 }
         ensures told { self.new ≡ self.old }
         ensures own { IsPlayed (A.meaning app.now) own.old own.new }
         ensures others { AllZip (IsPlayed (A.meaning app.now)) others.old others.new }
     {
-        play_shared(app, gate, &mut self.list, own, others, 1);
+        play_shared(app, gate, &mut self.list, own, others);
     }
 
     /// Tells each worker that nothing more comes.
@@ -148,10 +159,30 @@ pub(crate) fn keep_workers<'a, A: App>(
 {
     let mut posts = Vec::new(alloc);
     for _worker in 1..workers {
-        let server = partners.add(alloc)?;
-        posts.push(Post { app, server })?;
+        let servers = partners.servers(alloc);
+        posts.push(Post { app, servers })?;
+    }
+    for _number in 0..DESKS.div_ceil(posts.len().max(1)) {
+        add_desks(alloc, &mut posts, partners)?;
     }
     Ok(posts)
+}
+
+/// One more desk for each of the workers.
+fn add_desks<A: App>(
+    alloc: Global,
+    posts: &mut Vec<Post<'_, A>>,
+    partners: &mut Partners<A>,
+) -> Result<(), NoRoom>
+    requires told { All (λ post. post.servers.app.value ≡ partners.old) posts.old.items }
+    ensures told { partners.new ≡ partners.old }
+    ensures posts { All (λ post. post.servers.app.value ≡ partners.old) posts.new.items }
+{
+    for place in 0..posts.len() {
+        let server = partners.add(alloc)?;
+        posts[place].servers.add(server)?;
+    }
+    Ok(())
 }
 
 /// Has each worker play all hands that come, by a thread of its own.
@@ -168,8 +199,8 @@ pub(crate) fn serve_all<R: Threads + Sync, A: App + Sync, G: Gate + Sync>(
 
 /// Plays all hands that come.
 fn serve<A: App, G: Gate>(gate: &G, post: Post<'_, A>) {
-    let Post { app, server } = post;
-    server.serve(
+    let Post { app, servers } = post;
+    servers.serve(
         &|order: Order<A>| -> Order<A>
             requires { MayPlay (A.meaning app.now) order.hand }
             ensures { IsPlayed (A.meaning app.entry.now) order.hand result.hand }
@@ -177,78 +208,55 @@ fn serve<A: App, G: Gate>(gate: &G, post: Post<'_, A>) {
     );
 }
 
-/// A hand that its worker has played.
+/// The hand, once it is played.
 fn played<A: App, G: Gate>(app: &A, gate: &G, order: Order<A>) -> Order<A>
     requires { MayPlay (A.meaning app.now) order.hand }
     ensures { IsPlayed (A.meaning app.now) order.hand result.hand }
 {
-    let Order { worker, mut hand } = order;
-    play(app, gate, worker, &mut hand);
-    Order { worker, hand }
+    let Order { mut hand } = order;
+    play(app, gate, &mut hand);
+    Order { hand }
 }
 
-/// What is left in a place whose hand is away.
-fn nothing_in<J: Drop, D: Drop>(hand: &Hand<J, D>) -> Hand<J, D>
-    ensures { result.is_done ≡ false }
-{
-    let alloc = *hand.jobs.allocator();
-    Hand {
-        jobs: VecDeque::new(alloc),
-        dones: VecDeque::new(alloc),
-        is_done: false,
-    }
-}
-
-/// Has the hands of the workers from `first` on played by their partners, as far as there are some,
-/// and plays the caller's own hand meanwhile. Each hand then has what became of its own.
+/// Has the hands but the caller's own played by kept workers, each at the desk in its place, as far as there
+/// are some, and plays its own meanwhile. At last it takes them back, the last one first, and plays those that
+/// no worker has come to. Each hand then has what became of its own.
 fn play_shared<A: App, G: Gate>(
     app: &A,
     gate: &G,
     partners: &mut [Option<HandPartner<A>>],
     own: &mut Hand<Job<A::Val>, Done<A::Val>>,
     others: &mut [Hand<Job<A::Val>, Done<A::Val>>],
-    first: u32,
 )
     requires told { All (λ partner. IfSome partner (λ told. told.app.value ≡ app.now)) partners.old }
     requires own { MayPlay (A.meaning app.now) own.old }
     requires others { All (MayPlay (A.meaning app.now)) others.old }
-    requires few { first + length others.old < 2 ^ 32 }
     ensures told { All (λ partner. IfSome partner (λ told. told.app.value ≡ app.now)) partners.new }
     ensures own { IsPlayed (A.meaning app.now) own.old own.new }
     ensures others { AllZip (IsPlayed (A.meaning app.now)) others.old others.new }
 {
     let Some((hand, more_hands)) = others.split_first_mut() else {
-        play(app, gate, 0, own);
+        play(app, gate, own);
         return;
     };
     let Some((partner, more_partners)) = partners.split_first_mut() else {
-        play_shared(app, gate, partners, own, more_hands, first + 1);
-        play(app, gate, first, hand);
+        play_shared(app, gate, partners, own, more_hands);
+        play(app, gate, hand);
         return;
     };
     let Some(free) = partner.take() else {
-        play_shared(app, gate, more_partners, own, more_hands, first + 1);
-        play(app, gate, first, hand);
+        play_shared(app, gate, more_partners, own, more_hands);
+        play(app, gate, hand);
         return;
     };
-    let errand = free.give(ordered(first, hand));
-    play_shared(app, gate, more_partners, own, more_hands, first + 1);
+    let errand = free.give(Order {
+        hand: hand.taken_out(),
+    });
+    play_shared(app, gate, more_partners, own, more_hands);
     *partner = come_back(app, gate, errand, hand);
 }
 
-/// The worker's hand, for its partner. In its place is an empty one.
-fn ordered<A: App>(worker: u32, hand: &mut Hand<Job<A::Val>, Done<A::Val>>) -> Order<A>
-    ensures hand { result.hand ≡ hand.old }
-    ensures none { hand.new.is_done ≡ false }
-{
-    let empty = nothing_in(hand);
-    Order {
-        worker,
-        hand: mem::replace(hand, empty),
-    }
-}
-
-/// Puts a hand back that a partner was given, once it is played, by that one or else here.
+/// Puts a hand back that a kept worker was given, once it is played, by that one or else here.
 fn come_back<A: App, G: Gate>(
     app: &A,
     gate: &G,
@@ -267,8 +275,7 @@ fn come_back<A: App, G: Gate>(
             Some(free)
         }
         Answer::Back(free, order) => {
-            *hand = order.hand;
-            play(app, gate, order.worker, hand);
+            *hand = played(app, gate, order).hand;
             Some(free)
         }
         Answer::Lost => None,

@@ -15,7 +15,7 @@ use crate::laws::{drawing_laws, kept_laws};
 use crate::round_lists::RoundLists;
 use app_laws::App;
 use cell_store::Held;
-use graph_update::{Done, Engine, Job, perform};
+use graph_update::{Done, Engine, Job};
 use kdg_text::NoRoom;
 use outer_edge::Gate;
 use std::collections::VecDeque;
@@ -90,8 +90,9 @@ fn cells_in<V: Held>(jobs: &VecDeque<Job<V>>) -> usize
     cells
 }
 
-/// Performs the jobs in order, as these workers in turn. The list then has what was done, in that
-/// order; what was in it is dropped.
+/// Performs the jobs in order, as these workers in turn, each job once the gate lets its worker pass. The
+/// list then has what was done, in that order; what was in it is dropped. Room for all of it is made first, and
+/// a job isn't handed to `perform`: what holds either a done task or a job that comes back would be moved twice.
 #[inline(always)]
 pub(crate) fn perform_in_turn<A: App, G: Gate>(
     app: &A,
@@ -104,12 +105,15 @@ pub(crate) fn perform_in_turn<A: App, G: Gate>(
     ensures { OnOk result (AllZip (IsJobDone (A.meaning app.now)) jobs.old.items dones.new.items) }
 {
     dones.clear();
+    dones.reserve(jobs.len())?;
     let mut worker = workers.start;
     while let Some(job) = jobs.pop_front() {
-        let Ok(done) = perform(app, job, worker, gate) else {
+        gate.pass(worker, &job.task.key);
+        let Job { node, task, bundle } = job;
+        let Ok(effect) = app.run(&task, bundle) else {
             return Err(NoRoom);
         };
-        dones.push_back(done)?;
+        dones.push_back_reserved(Done { node, task, effect });
         worker = next_worker(worker, workers.start, workers.end);
     }
     Ok(())

@@ -1,4 +1,4 @@
-use Rattle.std.proofs.Common.{◌≡◌, [], ◌∷◌, ◌++◌, false, sym, subst, arith}
+use Rattle.std.proofs.Common.{◌≡◌, [], ◌∷◌, ◌++◌, sym, subst, arith}
 use Rattle.std.specs.List.{All}
 use Rattle.std.proofs.lemmas.List.Elements.{All-push}
 use Rattle.run_laws.specs.Jobs.{Done, Job}
@@ -8,7 +8,7 @@ use Rattle.source_pool.proofs.hands.empty_hands.Goals as goal
 pub loop-alloc-preserved : goal.loop-alloc-preserved
 loop-alloc-preserved g c =
     let at = c.loop-alloc in
-    let hand : Hand (Job g.row.V.Denot) (Done g.row.V.Denot) = record { jobs = c.new.result; dones = c.new-in-loop-alloc.result; is_done = false } in
+    let hand : Hand (Job g.row.V.Denot) (Done g.row.V.Denot) = c.of.result in
     let IsEmpty = λ (h : Hand (Job g.row.V.Denot) (Done g.row.V.Denot)). h.jobs.items ≡ [] in
     let added : c.push.new.self.items ≡ at.hands.items ++ hand ∷ [] = c.in_ok-push.ensures.items in
     let longer = c.in_ok-push.ensures.len in
@@ -16,5 +16,5 @@ loop-alloc-preserved g c =
     let less = c.loop-alloc-test.true in
     record {
       few = omega (arith, longer, count, less);
-      empty = subst (All IsEmpty) (sym added) (All-push IsEmpty at.hands.items hand at.invariant.empty c.new.ensures.items);
+      empty = subst (All IsEmpty) (sym added) (All-push IsEmpty at.hands.items hand at.invariant.empty c.of.ensures.none);
     }

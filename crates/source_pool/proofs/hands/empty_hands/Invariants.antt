@@ -2,12 +2,12 @@ use Rattle.std.proofs.Common.{◌≡◌, ◌-◌, ◌≤◌, [], vec_len}
 use Rattle.std.specs.List.{All}
 use Rattle.source_pool.proofs.hands.empty_hands.Given as goal
 
--- no more hands than workers, all of them without jobs
+-- no more hands than are to be, all of them without jobs
 abbrev pub invariant-loop-alloc : goal.invariant-loop-alloc
 invariant-loop-alloc g l = record {
-  few : vec_len l.hands ≤ l.workers;
+  few : vec_len l.hands ≤ l.count;
   empty : All (λ hand. hand.jobs.items ≡ []) l.hands.items;
 }
 
 abbrev pub decreases-loop-alloc : goal.decreases-loop-alloc
-decreases-loop-alloc g l = l.workers - vec_len l.hands
+decreases-loop-alloc g l = l.count - vec_len l.hands

@@ -18,7 +18,7 @@ give-errand-requires g t c =
     let partners = subst (λ (partners : List (Option (Told g.row.A.Denot))). All knows partners) c.in-Some-split_first_mut.ensures.cases.0 c.requires.told in
     let told = All-head knows c.in-Some-split_first_mut.partner.now c.in-Some-split_first_mut.more_partners.now partners in
     let same : c.in-Some-take.free.app.value ≡ c.args.app.now = subst knows (sym c.in-Some-take.ensures.value) told in
-    rw (same, c.ordered.ensures.hand) may
+    rw (same, c.taken_out.ensures.hand) may
 
 pub play_shared-requires-2-clause-told : goal.play_shared-requires-2-clause-told
 play_shared-requires-2-clause-told g t c κs within =
@@ -44,4 +44,4 @@ come_back-requires-clause-may g t c κs within =
     let app : Application g.row.A-Val.Denot = g.A.App.meaning c.args.app.now in
     let hands = subst (λ (hands : List (Hand (Job g.row.A-Val.Denot) (Done g.row.A-Val.Denot))). All (MayPlay app) hands) c.in-Some.ensures.cases.0 c.requires.others in
     let may = All-head (MayPlay app) c.in-Some.hand.now c.in-Some.more_hands.now hands in
-    rw (c.give-errand.ensures, c.ordered.ensures.hand) may
+    rw (c.give-errand.ensures, c.taken_out.ensures.hand) may

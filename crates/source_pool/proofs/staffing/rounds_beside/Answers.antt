@@ -1,9 +1,8 @@
 use mir.Syntax.{of_param}
 use denote.Param.{param}
-use denote.Exit.{if_kept, unseen}
-use denote.Param.Send.{IsSend, Quiet, sendable}
+use denote.Param.Send.{IsSend, sendable}
 use denote.Ref.{NamedLft}
-use Rattle.std.proofs.Common.{◌≡◌, ◌<◌, ◌^◌, Bool, true, false, ℕ, List, [], ◌∷◌, Option, Result, refl, sym, subst, rules}
+use Rattle.std.proofs.Common.{◌≡◌, ◌<◌, ◌^◌, ℕ, List, [], ◌∷◌, Option, Result, refl, sym, subst, rules}
 use Rattle.std.proofs.Crossing.{crosses}
 use Rattle.std.specs.List.{All}
 use Rattle.std.proofs.lemmas.List.Elements.{All-cons, All-head, All-nil}
@@ -16,13 +15,10 @@ use Rattle.app_laws.specs.declared.serial_run.Finals.{Finals}
 use Rattle.crew.specs.declared.answers.OverCause.{OverCause}
 use Rattle.text_outlet.specs.declared.outlet.Outlet.{Outlet}
 use Rattle.source_pool.specs.contracts.partners.Post as post
+use Rattle.source_pool.proofs.Exits.{unseen_is_quiet}
 use Rattle.source_pool.proofs.Sending.{tells_none}
 use Rattle.source_pool.proofs.Telling.{cut_at_start}
 use Rattle.source_pool.proofs.staffing.rounds_beside.Goals as goal
-
-unseen_is_quiet : {D : Type 0} (kept : Bool) → Quiet (if_kept kept (unseen {D = D}) (unseen {D = D}))
-unseen_is_quiet true x w = tt
-unseen_is_quiet false x w = tt
 
 one_at_rest : {A V H : Type 0} (meaning : A → Application V) (begun : Begun A V H) (runs : List (Begun A V H)) → runs ≡ begun ∷ []
     → BeginsAtRest (meaning begun.engine.app) begun.engine.progress → begun.engine.progress.limit < 2 ^ 64 → IsOneAtRest meaning runs
