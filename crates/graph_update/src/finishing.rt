@@ -2,6 +2,7 @@
 
 ghost use Rattle.std.specs.Prelude.{◌≡◌, ◌+◌, ◌<◌, ◌≤◌, Some, length, IfErr, OnOk, OnErr};
 ghost use Rattle.task_order.specs.declared.task.Task.{Task};
+ghost use Rattle.cell_store.specs.Cells.{AreWrittenHome, bundle_of, cells_taken};
 ghost use Rattle.kdg_graph.specs.Edges.{laters_of};
 ghost use Rattle.kdg_graph.specs.Node.{Node};
 ghost use Rattle.kdg_graph.specs.Nodes.{node_at};
@@ -17,7 +18,7 @@ use crate::rewriting::{fresh_tasks, set_changes};
 use crate::touching::touch_end;
 use crate::{Done, Engine, FinishFault, OverCause};
 use app_laws::{App, ChildList, Effect};
-use cell_store::Store;
+use cell_store::{Bundle, Held, Shell, Store};
 use kdg_graph::NodeId;
 use kdg_text::{Steps, Text};
 use run_laws::{drain_laws, sound_finish_laws, stay_clear_laws};
@@ -110,7 +111,7 @@ impl<'a, A: App> Engine<'a, A> {
         match ended {
             Ok(()) => Ok(()),
             Err(text) => {
-                let bundle = self.store.regain(shell);
+                let bundle = regain(&mut self.store, shell);
                 Err(Effect {
                     bundle,
                     children,
@@ -119,6 +120,17 @@ impl<'a, A: App> Engine<'a, A> {
             }
         }
     }
+}
+
+/// Moves the cells that a shell writes out again. It stands apart and is laid in, so that the place for what
+/// is moved is cleared only where a task did not end.
+#[inline(always)]
+fn regain<V: Held>(store: &mut Store<V>, shell: Shell<V>) -> Bundle<V>
+    requires { AreWrittenHome store.old shell.set }
+    ensures taken { store.new ≡ cells_taken store.old shell.set }
+    ensures bundle { result ≡ bundle_of store.old shell }
+{
+    store.regain(shell)
 }
 
 impl<A: App> Agenda<A> {

@@ -92,10 +92,32 @@ impl Ready {
         ensures ready { AreReady (A.meaning app.now) graph.now self.new }
         ensures unchanged { OnErr result (self.new ≡ self.old) }
     {
-        if !self.is_enough(among) {
-            self.ids = clear_ids(self.alloc, &self.ids, app, graph, horizon)?;
-            self.is_current = true;
+        if self.is_enough(among) {
+            return Ok(());
         }
+        self.look_again(app, graph, horizon)
+    }
+
+    /// Looks at the sources. After `NoRoom` all is as it was. It stays a call, since most claims do without.
+    #[inline(never)]
+    fn look_again<A: App>(
+        &mut self,
+        app: &A,
+        graph: &Graph,
+        horizon: &mut A::Horizon,
+    ) -> Result<(), NoRoom>
+        requires graph { IsGraph graph.now }
+        requires covered { AreCovered (A.meaning app.now) graph.now }
+        requires fixed { HaveFixedSets (A.meaning app.now) graph.now }
+        requires told { A.tells app.now horizon.old (tasks_of graph.now) }
+        requires ready { AreReady (A.meaning app.now) graph.now self.old }
+        ensures told { A.tells app.now horizon.new (tasks_of graph.now) }
+        ensures current { OnOk result (self.new.is_current ≡ true) }
+        ensures ready { AreReady (A.meaning app.now) graph.now self.new }
+        ensures unchanged { OnErr result (self.new ≡ self.old) }
+    {
+        self.ids = clear_ids(self.alloc, &self.ids, app, graph, horizon)?;
+        self.is_current = true;
         Ok(())
     }
 
@@ -186,12 +208,13 @@ fn clear_ids<A: App>(
 {
     node_laws();
     source_laws();
+    let count = known.len();
     let mut passed = 0;
     let mut ids = no_ids(alloc);
     let mut room = 0;
     let pending = Pending::of(graph);
     for node in graph.sources() {
-        if is_at(known, passed, node) {
+        if is_known(known, count, passed, node) {
             passed += 1;
             push(&mut ids, &mut room, node)?;
         } else if pending.is_safe(node, app, horizon) {
@@ -199,6 +222,16 @@ fn clear_ids<A: App>(
         }
     }
     Ok(ids)
+}
+
+/// Whether this id stands at the place, of so many known ones. Mostly none is known, and then none is looked
+/// up.
+#[inline(always)]
+fn is_known(known: &TieredList<NodeId>, count: usize, place: usize, id: NodeId) -> bool
+    ensures there { result ≡ true → slice_get known.now.items place ≡ Some id }
+    ensures small { result ≡ true → length known.now.items < 2 ^ 63 }
+{
+    place < count && is_at(known, place, id)
 }
 
 /// Whether this id stands at the place.

@@ -27,7 +27,7 @@ pub loop-node-preserved-in-Continue-1 : goal.loop-node-preserved-in-Continue-1
 loop-node-preserved-in-Continue-1 g c =
     let app = g.A.App.meaning c.args.app.now in
     let steps = c.in-Some.ensures.steps in
-    let at = c.is_at.ensures.there c.if-is_at.true in
+    let at = c.is_known.ensures.there c.if-is_known.true in
     let known = all_at (IsOfClear app c.args.graph.now) c.args.known.now.items c.in-Some.node c.requires.known
     (c.loop-node.passed, slice_get_within c.args.known.now.items c.loop-node.passed c.in-Some.node at, get_or_from_slice_get c.args.known.now.items c.loop-node.passed c.in-Some.node c.in-Some.node at) in
     let safe = known_is_safe app c.args.graph.now c.node_laws.ensures.have_ids c.sources-node-items.ensures.graph c.in-Some.node known in
@@ -41,7 +41,7 @@ loop-node-preserved-in-Continue-1 g c =
 
 pub overflow_add-passed : goal.overflow_add-passed
 overflow_add-passed g c =
-    omega (arith, slice_get_within c.args.known.now.items c.loop-node.passed c.in-Some.node (c.is_at.ensures.there c.if-is_at.true), c.is_at.ensures.small)
+    omega (arith, slice_get_within c.args.known.now.items c.loop-node.passed c.in-Some.node (c.is_known.ensures.there c.if-is_known.true), c.is_known.ensures.small c.if-is_known.true)
 
 pub is_safe-requires-clause-fixed : goal.is_safe-requires-clause-fixed
 is_safe-requires-clause-fixed g c κs within = subst (HaveFixedSets (g.A.App.meaning c.args.app.now)) (sym c.of-pending.ensures) c.requires.fixed

@@ -40,8 +40,8 @@ invariant_of-self-in-Err g c =
     let done : Done _ = record { node = c.args.node; task = g.task; effect = c.args.effect } in
     let is = inside_done g.A.App.meaning _ _ done c.self.view_is c.requires.1.1.1.1.1.1.0 in
     let basis = c.end_basis.ensures c.self.inside.app.now in
-    let cells_are = cells_back c.self.inside.store c.give-shell.new.self c.args.effect.bundle c.give-shell.result (known basis _ done is).out c.give-shell.ensures.given c.give-shell.ensures.shell basis.lower.takes_back c.regain-bundle.new.self c.regain-bundle.ensures.taken in
-    let back = with_cells _ _ c.in-Err.ensures.unchanged c.regain-bundle.new.self c.self.inside.store cells_are in
+    let cells_are = cells_back c.self.inside.store c.give-shell.new.self c.args.effect.bundle c.give-shell.result (known basis _ done is).out c.give-shell.ensures.given c.give-shell.ensures.shell basis.lower.takes_back c.regain-bundle.new.store c.regain-bundle.ensures.taken in
+    let back = with_cells _ _ c.in-Err.ensures.unchanged c.regain-bundle.new.store c.self.inside.store cells_are in
     (subst (IsKept (g.A.App.meaning c.self.inside.app.now)) (sym back) c.self.invariant.0, c.in-Err.ensures.known)
 
 pub returns-in-Ok-clause-finished : goal.returns-in-Ok-clause-finished
@@ -90,6 +90,6 @@ returns-in-Err-clause-unchanged g c =
     let done : Done _ = record { node = c.args.node; task = g.task; effect = c.args.effect } in
     let is = inside_done g.A.App.meaning _ _ done c.self.view_is c.requires.1.1.1.1.1.1.0 in
     let basis = c.end_basis.ensures c.self.inside.app.now in
-    let cells_are = cells_back c.self.inside.store c.give-shell.new.self c.args.effect.bundle c.give-shell.result (known basis _ done is).out c.give-shell.ensures.given c.give-shell.ensures.shell basis.lower.takes_back c.regain-bundle.new.self c.regain-bundle.ensures.taken in
-    let back = with_cells _ _ c.in-Err.ensures.unchanged c.regain-bundle.new.self c.self.inside.store cells_are in
+    let cells_are = cells_back c.self.inside.store c.give-shell.new.self c.args.effect.bundle c.give-shell.result (known basis _ done is).out c.give-shell.ensures.given c.give-shell.ensures.shell basis.lower.takes_back c.regain-bundle.new.store c.regain-bundle.ensures.taken in
+    let back = with_cells _ _ c.in-Err.ensures.unchanged c.regain-bundle.new.store c.self.inside.store cells_are in
     ap (λ (progress : Progress _). let engine : EngineState _ _ = record { app = c.self.inside.app.now; progress = progress } in engine) back ∙ c.self.view_is

@@ -1,5 +1,0 @@
-use Rattle.graph_update.proofs.ReadyIds.{all_are_ready}
-use Rattle.graph_update.proofs.ready.Ready.look.Goals as goal
-
-pub returns-in_ok-self-clause-ready : goal.returns-in_ok-self-clause-ready
-returns-in_ok-self-clause-ready g c = all_are_ready (g.A.App.meaning c.args.app.now) c.args.graph.now _ c.requires.graph c.in_ok-self.ensures.ids
