@@ -2,9 +2,9 @@
 
 use super::rows::expect;
 use app_laws::{App, serial};
-use cell_store::value_laws;
-use gf2_eliminate::{Line2, Matrix};
-use kdg_text::Text;
+use cell_store::{Held, value_laws};
+use gf2_eliminate::{Line2, Matrix, OneSet};
+use kdg_text::{NoRoom, Text};
 use mtx_reader::read_mtx;
 use std::alloc::Global;
 use std::test::Fail;
@@ -29,6 +29,26 @@ fn begins_with(matrix: &Matrix, cells: usize, prios: &[u64]) -> Result<bool, Fai
     }
     let have_cells = matrix.first_cells()?.len() == cells && matrix.cells() as usize == cells;
     Ok(have_cells && starts.items().len() == prios.len())
+}
+
+/// Ascending places in the first, the second and the fifth word of a set.
+const PLACES: [u32; 5] = [0, 3, 64, 127, 300];
+
+/// The set of those places.
+fn five_ones(alloc: Global) -> Result<OneSet, NoRoom> {
+    OneSet::from_vec(Vec::from_array(alloc, PLACES)?)
+}
+
+/// Whether a line has ones at those places, and is a row that was a pivot, another row, or a column.
+fn is_line_of_five(line: &Line2, used: Option<bool>) -> Result<bool, NoRoom> {
+    match line {
+        Line2::Row { cols, used: was } => {
+            Ok(cols.places()?.as_slice() == PLACES.as_slice() && used == Some(*was))
+        }
+        Line2::Col { rows } => {
+            Ok(rows.places()?.as_slice() == PLACES.as_slice() && used.is_none())
+        }
+    }
 }
 
 /// What a matrix prints in a serial run.
@@ -92,5 +112,28 @@ fn matrices_are_reduced(rt: HostRuntime) -> Result<(), Fail> {
         let print = print_of(rt.alloc(), &matrix)?;
         expect(&rt, print.bytes() == want.as_bytes(), lines);
     }
+    Ok(())
+}
+
+#[test]
+fn a_set_has_the_places_of_its_vector(rt: HostRuntime) -> Result<(), Fail> {
+    let ones = five_ones(rt.alloc())?;
+    assert!(rt; ones.places()?.as_slice() == PLACES.as_slice());
+    Ok(())
+}
+
+#[test]
+fn a_copy_of_a_line_is_equal(rt: HostRuntime) -> Result<(), Fail> {
+    for used in [false, true] {
+        let row = Line2::Row {
+            cols: five_ones(rt.alloc())?,
+            used,
+        };
+        assert!(rt; is_line_of_five(&row.copy()?, Some(used))?);
+    }
+    let column = Line2::Col {
+        rows: five_ones(rt.alloc())?,
+    };
+    assert!(rt; is_line_of_five(&column.copy()?, None)?);
     Ok(())
 }

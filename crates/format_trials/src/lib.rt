@@ -11,6 +11,8 @@ mod decks;
 #[cfg(test)]
 mod eliminations;
 #[cfg(test)]
+mod levels;
+#[cfg(test)]
 mod meshes;
 #[cfg(test)]
 mod patterns;
