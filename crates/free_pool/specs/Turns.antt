@@ -3,9 +3,10 @@ use Rattle.std.specs.Prelude.{◌≡◌, ◌≢◌, ◌⊎◌, ℕ, List, [], �
 use Rattle.std.specs.List.{AllZip}
 use Rattle.task_order.specs.declared.key.Key.{Key}
 use Rattle.app_laws.specs.Applications.{Application}
+use Rattle.crew.specs.declared.answers.Claim.TheVariants as claim
 use Rattle.crew.specs.Jobs.{MayRun}
 use Rattle.run_laws.specs.Events.{clear_nodes}
-use Rattle.run_laws.specs.Jobs.{Done, Job}
+use Rattle.run_laws.specs.Jobs.{Claim, Done, Job}
 use Rattle.run_laws.specs.Progress.{Progress}
 use Rattle.run_laws.specs.Sound.{IsSound}
 use Rattle.graph_update.specs.Engine.{EngineState}
@@ -32,6 +33,13 @@ GoesOn next.Perform = Unit {0}
 GoesOn next.Again = Unit {0}
 GoesOn next.Wait = Unit {0}
 GoesOn next.Stop = ⊥
+
+-- what a claim's answer leads to
+abbrev pub next_after : {V : Type 0} → Claim V → Next
+next_after (claim.Over cause) = next.Stop
+next_after claim.Ended = next.Stop
+next_after claim.NotYet = next.Wait
+next_after (claim.Job job) = next.Perform
 
 -- there is something to perform just where that is what the turn leads to
 abbrev pub AreToPerform : {V : Type 0} → List (Job V) → Next → Type 0

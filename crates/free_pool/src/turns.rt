@@ -1,10 +1,11 @@
 //! What a worker does in a turn.
 
-ghost use Rattle.std.specs.Prelude.{◌≡◌, ◌≢◌, ◌<◌, ◌≤◌, ℕ, List, [], ◌∷◌, ◌++◌, drop, length, None, Some, IfOk, IsTrue, IsFalse, OnErr};
+ghost use Rattle.std.specs.Prelude.{◌≡◌, ◌≢◌, ◌<◌, ◌≤◌, List, [], ◌∷◌, ◌++◌, drop, length, None, Some, IfOk, IsTrue, IsFalse, OnErr, OnOk};
 ghost use Rattle.std.specs.List.{AllByRecursion};
+ghost use Rattle.std.specs.VecDeque.{deque_capacity, deque_len};
 ghost use Rattle.crew.specs.Jobs.{IsPerformed, MayRun};
-ghost use Rattle.graph_update.specs.Engine.{EngineState, FinishStaysSound, IsToRun};
-ghost use Rattle.run_laws.specs.Answers.{IsClaimAnswer};
+ghost use Rattle.graph_update.specs.Engine.{EngineState, FinishStaysSound};
+ghost use Rattle.run_laws.specs.Answers.{jobs_after};
 ghost use Rattle.run_laws.specs.Jobs.{Job};
 ghost use Rattle.run_laws.specs.Laws.{IsDone};
 ghost use Rattle.run_laws.specs.Moves.{Moved};
@@ -12,7 +13,7 @@ ghost use Rattle.worker_gate.specs.Fits.{drained_count};
 ghost use Rattle.worker_gate.specs.Steps.{left_by};
 ghost use Rattle.worker_gate.specs.Turns.{MayLeave};
 ghost use Rattle.free_pool.specs.Acted.{jobs_stuck, keys_acted};
-ghost use Rattle.free_pool.specs.Turns.{AreClaimed, AreDone, AreToPerform, GoesOn, IsAnswer, IsSeated, MayEnd, jobs_left, keys_ended};
+ghost use Rattle.free_pool.specs.Turns.{AreClaimed, AreDone, AreToPerform, GoesOn, IsAnswer, IsSeated, MayEnd, jobs_left, keys_ended, next_after};
 
 use crate::acting::{Acting, Stuck, act_tasks};
 use crate::bell::Bell;
@@ -20,6 +21,7 @@ use crate::hand::Hand;
 use crate::pick::Pick;
 use crate::plan::Plan;
 use app_laws::App;
+use cell_store::Held;
 use graph_update::{Claim, Done, Engine, Job};
 use kdg_text::{NoRoom, Steps};
 use output_log::join_laws;
@@ -242,13 +244,8 @@ fn claim_next<A: App>(
         engine.give_up();
         return Next::Stop;
     };
-    match claim_by(engine, pick) {
-        Ok(Claim::Job(job)) => {
-            jobs.push_front_reserved(job);
-            Next::Perform
-        }
-        Ok(Claim::NotYet) => Next::Wait,
-        Ok(Claim::Over(_) | Claim::Ended) => Next::Stop,
+    match claim_by(engine, pick, jobs) {
+        Ok(next) => next,
         Err(_) => {
             engine.give_up();
             Next::Stop
@@ -256,16 +253,44 @@ fn claim_next<A: App>(
     }
 }
 
-/// Claims a task, with some pick.
-fn claim_by<A: App>(engine: &mut Engine<'_, A>, pick: Pick) -> Result<Claim<A::Val>, NoRoom>
+/// Claims a task, with some pick, and keeps its job where `jobs` has room. Each kind of claim keeps its own:
+/// where both met first, a job would be moved there. After `NoRoom` all is as it was.
+#[inline(always)]
+fn claim_by<A: App>(
+    engine: &mut Engine<'_, A>,
+    pick: Pick,
+    jobs: &mut VecDeque<Job<A::Val>>,
+) -> Result<Next, NoRoom>
+    requires room { deque_len jobs.old < deque_capacity jobs.old }
     ensures app { engine.new.app ≡ engine.old.app }
-    ensures answer { IfOk result (λ answer. (other : ℕ) × IsClaimAnswer (A.meaning engine.old.app) engine.old.progress other engine.new.progress answer) }
-    ensures may_run { IfOk result (IsToRun (A.meaning engine.old.app)) }
+    ensures moved { OnOk result (Moved (A.meaning engine.old.app) engine.old.progress jobs.old.items engine.new.progress jobs.new.items []) }
+    ensures drained { drained_count engine.new.progress ≡ drained_count engine.old.progress }
+    ensures claimed { IfOk result (λ next. AreClaimed (A.meaning engine.old.app) jobs.old.items next jobs.new.items) }
+    ensures answer { IfOk result (IsAnswer (A.meaning engine.old.app) engine.new.progress) }
     ensures unchanged { OnErr result (engine.new ≡ engine.old) }
+    ensures kept { OnErr result (jobs.new.items ≡ jobs.old.items) }
 {
+    move_laws::<A>();
     match pick {
-        Pick::Exact(number) => engine.claim(number),
-        Pick::Known(number) => engine.claim_known(number),
+        Pick::Exact(number) => Ok(keep_claimed(engine.claim(number)?, jobs)),
+        Pick::Known(number) => Ok(keep_claimed(engine.claim_known(number)?, jobs)),
+    }
+}
+
+/// Keeps the job that a claim gave, where it gave one, and tells what the claim leads to.
+#[inline(always)]
+fn keep_claimed<V: Held>(answer: Claim<V>, jobs: &mut VecDeque<Job<V>>) -> Next
+    requires room { deque_len jobs.old < deque_capacity jobs.old }
+    ensures jobs { jobs.new.items ≡ jobs_after answer jobs.old.items }
+    ensures next { result ≡ next_after answer }
+{
+    match answer {
+        Claim::Job(job) => {
+            jobs.push_front_reserved(job);
+            Next::Perform
+        }
+        Claim::NotYet => Next::Wait,
+        Claim::Over(_) | Claim::Ended => Next::Stop,
     }
 }
 
