@@ -3,7 +3,11 @@
 ghost use Rattle.std.specs.Prelude.{◌≡◌, ◌*◌, ◌<◌, IfSome};
 
 use crate::doubling::Doubling;
+use std::thread::yield_now;
 use work_desk::{Answer, Partner, Servers};
+
+/// How often one gives before one tells that no worker is there.
+const TRIES: u32 = 1_000_000;
 
 /// Doubles all numbers that come.
 pub(crate) fn serve_kept(servers: Servers<u64, u32, Doubling>) {
@@ -50,4 +54,33 @@ pub(crate) fn kept_sum(
     next.close();
     last.close();
     Some(sum)
+}
+
+/// The partner again, once its worker has doubled a number. A number that isn't taken at once is given
+/// anew.
+fn served(partner: Partner<u64, u32, Doubling>) -> Option<Partner<u64, u32, Doubling>> {
+    let mut partner = partner;
+    for _ in 0..TRIES {
+        let errand = partner.give(21);
+        yield_now();
+        match errand.collect() {
+            Answer::Done(back, _) => return Some(back),
+            Answer::Back(back, _) => partner = back,
+            Answer::Lost => return None,
+        }
+    }
+    None
+}
+
+/// Whether a worker takes what is given at each desk. It is then told that nothing more comes.
+pub(crate) fn are_served(
+    one: Partner<u64, u32, Doubling>,
+    other: Partner<u64, u32, Doubling>,
+) -> bool {
+    let (Some(one), Some(other)) = (served(one), served(other)) else {
+        return false;
+    };
+    one.close();
+    other.close();
+    true
 }

@@ -1,5 +1,5 @@
 use crate::doubling::{Doubling, serve, sum_of_doubles, taken_and_done};
-use crate::kept::{kept_sum, serve_kept};
+use crate::kept::{are_served, kept_sum, serve_kept};
 use std::test::Fail;
 use std::thread::join;
 use work_desk::{Desk, Servers, meet};
@@ -44,6 +44,22 @@ fn a_worker_at_two_desks_performs_round_after_round(rt: HostRuntime) -> Result<(
         move || serve_kept(servers),
     );
     assert_eq!(rt; sum, Some(809_100));
+    Ok(())
+}
+
+#[test]
+fn both_desks_of_a_worker_are_served(rt: HostRuntime) -> Result<(), Fail> {
+    let (one, first) = meet::<u64, u32, Doubling>(rt.alloc(), &0)?;
+    let (other, second) = meet::<u64, u32, Doubling>(rt.alloc(), &0)?;
+    let mut servers = Servers::new(rt.alloc(), &0);
+    servers.add(first)?;
+    servers.add(second)?;
+    let (are_served, ()) = join(
+        &rt,
+        move || are_served(one, other),
+        move || serve_kept(servers),
+    );
+    assert!(rt; are_served);
     Ok(())
 }
 
