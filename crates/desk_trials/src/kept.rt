@@ -56,6 +56,11 @@ pub(crate) fn kept_sum(
     Some(sum)
 }
 
+/// Whether work that nobody takes is told to be away.
+pub(crate) fn is_away_untaken(partner: Partner<u64, u32, Doubling>) -> bool {
+    partner.give(21).is_away()
+}
+
 /// The partner again, once its worker has doubled a number. A number that isn't taken at once is given
 /// anew.
 fn served(partner: Partner<u64, u32, Doubling>) -> Option<Partner<u64, u32, Doubling>> {

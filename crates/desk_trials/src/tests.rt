@@ -1,5 +1,5 @@
 use crate::doubling::{Doubling, serve, sum_of_doubles, taken_and_done};
-use crate::kept::{are_served, kept_sum, serve_kept};
+use crate::kept::{are_served, is_away_untaken, kept_sum, serve_kept};
 use std::test::Fail;
 use std::thread::join;
 use work_desk::{Desk, Servers, meet};
@@ -60,6 +60,13 @@ fn both_desks_of_a_worker_are_served(rt: HostRuntime) -> Result<(), Fail> {
         move || serve_kept(servers),
     );
     assert!(rt; are_served);
+    Ok(())
+}
+
+#[test]
+fn work_that_nobody_takes_is_not_away(rt: HostRuntime) -> Result<(), Fail> {
+    let (partner, _server) = meet::<u64, u32, Doubling>(rt.alloc(), &0)?;
+    assert!(rt; !is_away_untaken(partner));
     Ok(())
 }
 

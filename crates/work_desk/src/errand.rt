@@ -42,6 +42,11 @@ pub enum Answer<T: Drop, K, D: Deed<T, K>> {
 }
 
 impl<T: Drop, K, D: Deed<T, K>> Errand<T, K, D> {
+    /// Whether a worker has the work in hand now, so that `collect` would wait for it. That is a plain load.
+    pub fn is_away(&self) -> bool {
+        self.desk.is_taken()
+    }
+
     /// What came of the work. Only a worker that has it in hand is waited for.
     pub fn collect(self) -> Answer<T, K, D>
         ensures { IsAnswer D.done self result }

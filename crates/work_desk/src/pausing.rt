@@ -25,10 +25,15 @@ impl<T: Drop, K, D: Deed<T, K>> Desk<T, K, D> {
         word == LAID || word == CLOSED
     }
 
+    /// Whether a worker has the work in hand. That is a plain load.
+    pub(crate) fn is_taken(&self) -> bool {
+        self.table.shared.peek(0) == TAKEN
+    }
+
     /// Looks until no worker has the work in hand, `looks` times at most.
     pub fn look_for_end(&self, looks: u32) {
         for look in 0..looks {
-            if self.table.shared.peek(0) != TAKEN {
+            if !self.is_taken() {
                 return;
             }
             pause(look);

@@ -13,7 +13,7 @@ use std::snapshot::Snapshot;
 /// How often one looks at all desks at a time.
 const LOOKS: u32 = 1_000_000;
 
-/// How often in a row one looks so often in vain before one stops: some half a minute.
+/// How often in a row one looks so often in vain before one stops: half a minute to a minute.
 const PATIENCE: u32 = 64;
 
 /// How often one performs work or looks so often. That is for longer than any run takes.
