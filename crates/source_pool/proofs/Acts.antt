@@ -43,7 +43,7 @@ all_of_some P test nodes all = all_from P (tasks_of (filter test nodes)) (λ tas
     let among = from_filter test nodes from.0 from.1 in
     subst P from.2 (all_at P (tasks_of nodes) from.0.task all (in_map (λ (n : Node). n.task) nodes from.0 among.0)))
 
-some_ascend : (test : Node → Bool) (nodes : List Node) → IsAscending (tasks_of nodes) → IsAscending (tasks_of (filter test nodes))
+pub some_ascend : (test : Node → Bool) (nodes : List Node) → IsAscending (tasks_of nodes) → IsAscending (tasks_of (filter test nodes))
 some_ascend test [] up = tt
 some_ascend test (node ∷ nodes) up =
     let rest = some_ascend test nodes up.1 in
@@ -111,7 +111,7 @@ module _ {V : Type 0} {app : Application V} (basis : Basis app) where
     in_order : IsAscending (tasks_of nodes)
     in_order = some_ascend (is_clear app now.nodes) now.nodes sound.keys_and_counts.graph.ascending
 
-    they_are_the_clear : tasks_of nodes ≡ clear_tasks app state
+    pub they_are_the_clear : tasks_of nodes ≡ clear_tasks app state
     they_are_the_clear =
         let ready = subst (IsReady app) rest.state_is sound.ready in
         let listed = basis.listed state ready in

@@ -1,5 +1,5 @@
 -- The jobs that are drawn in a round are those of all clear tasks.
-use Rattle.std.proofs.Common.{◌≡◌, ◌<◌, ◌⊎◌, inl, inr, ℕ, suc, not, Bool, true, false, cond, List, [], ◌∷◌, ◌++◌, length, get_or, refl, sym, ap, subst, ◌∙◌, arith, eq-eqb}
+use Rattle.std.proofs.Common.{◌≡◌, ◌<◌, ◌⊎◌, inl, inr, ℕ, suc, not, Bool, true, false, cond, List, [], ◌∷◌, ◌++◌, length, get_or, refl, sym, ap, subst, ◌∙◌, arith, eq-eqb, IsPermutation}
 use Rattle.std.specs.Prelude.{Contains}
 use Rattle.std.specs.List.{AllByRecursion, filter}
 use Rattle.std.specs.declared.cmp.Ordering.{Ordering}
@@ -9,7 +9,7 @@ use Rattle.std.proofs.lemmas.Bool.{true≢false, and_from}
 use Rattle.std.proofs.lemmas.List.{length-map}
 use Rattle.std.proofs.lemmas.List.Elements.{Contains-get_or}
 use Rattle.std.proofs.lemmas.List.Folds.{Any-from_list_any, list_any_none}
-use Rattle.std.proofs.lemmas.List.Sorted.{IsPermutation-sym, IsPermutation-to_front}
+use Rattle.std.proofs.lemmas.List.Sorted.{Contains-permutation, IsPermutation-sym, IsPermutation-to_front}
 use Rattle.task_order.specs.declared.key.Key.{Key}
 use Rattle.task_order.specs.declared.task.Task.{Task}
 use Rattle.task_order.specs.Key.{key_cmp}
@@ -22,14 +22,14 @@ use Rattle.app_laws.specs.Applications.{Application, set_in, tasks_before}
 use Rattle.commuting.specs.Clear.{IsClear, IsReady}
 use Rattle.commuting.specs.Rounds.{after_round, clear_tasks}
 use Rattle.commuting.specs.States.{State, after_tasks, state_of}
-use Rattle.run_laws.specs.Jobs.{Done, Job}
+use Rattle.run_laws.specs.Jobs.{Job}
 use Rattle.run_laws.specs.Events.{is_clear, clear_nodes}
 use Rattle.run_laws.specs.Lists.{all_at, all_from, cases, found_is_there, from_filter, from_map, in_filter, in_map, length-part, none}
 use Rattle.run_laws.specs.NodeLists.{start, start_keeps_set, start_keeps_task, tasks-earlier_than}
 use Rattle.run_laws.specs.Progress.{Progress, whole_state}
 use Rattle.run_laws.specs.Sound.{HasJob, IsSound, is_unblocked}
 use Rattle.source_pool.specs.Basis.{Basis}
-use Rattle.source_pool.specs.Course.{AreAllDone, IsJobDone, IsDrawing, IsEnding, done_tasks}
+use Rattle.source_pool.specs.Course.{IsDrawing, IsEnding, job_tasks}
 use Rattle.source_pool.specs.KeptLaws.{EndsAreTheRound}
 use Rattle.source_pool.specs.Laws.{ClaimsGoOn, ClaimsLeaveFewer, DrawingsBegin, DrawnJobsAreTheRound, DrawnJobsDiffer, RoundsHaveJobs, StartsAreAtRest}
 use Rattle.source_pool.proofs.Jobs.{job_is_clear, node_of}
@@ -129,8 +129,8 @@ module _ {V : Type 0} {app : Application V} (basis : Basis app) where
 
   -- ---- all jobs of a round
 
-  module _ (first now : Progress V) (cells : List V) (state : State V) (text : List ℕ) (jobs : List (Job V)) (dones : List (Done V))
-      (drawing : IsDrawing app first cells state text now jobs) (all_drawn : clear_nodes app now.nodes ≡ []) (all : AreAllDone app jobs dones) (in_order : IsAscending (done_tasks dones)) where
+  module _ (first now : Progress V) (cells : List V) (state : State V) (text : List ℕ) (jobs turn : List (Job V))
+      (drawing : IsDrawing app first cells state text now jobs) (all_drawn : clear_nodes app now.nodes ≡ []) (same : IsPermutation jobs turn) (in_order : IsAscending (job_tasks turn)) where
     abbrev values : List V
     values = drawing.values
 
@@ -140,11 +140,11 @@ module _ {V : Type 0} {app : Application V} (basis : Basis app) where
     whole_clear : (task : Task) → IsClear app (whole_state now values) task → IsClear app state task
     whole_clear task clear = subst (λ (s : State V). IsClear app s task) drawing.state_is clear
 
-    done_is_clear : (task : Task) → Contains (done_tasks dones) task → IsClear app state task
-    done_is_clear task has =
-        let from : (done : Done V) × Contains dones done × (done.task ≡ task) = from_map (λ (done : Done V). done.task) dones task has in
-        let job = all.no_other from.0 from.1 in
-        subst (IsClear app state) (job.2.task ∙ from.2) (whole_clear job.0.task (job_is_clear basis now jobs values job.0 sound job.1))
+    turn_is_clear : (task : Task) → Contains (job_tasks turn) task → IsClear app state task
+    turn_is_clear task has =
+        let from : (job : Job V) × Contains turn job × (job.task ≡ task) = from_map (λ (job : Job V). job.task) turn task has in
+        let drawn = Contains-permutation turn jobs from.0 (IsPermutation-sym jobs turn same) from.1 in
+        subst (IsClear app state) from.2 (whole_clear from.0.task (job_is_clear basis now jobs values from.0 sound drawn))
 
     runs : (node : Node) → Contains now.nodes node → is_unblocked app now.nodes node ≡ true → node.running ≡ true
     runs node there free = by_case node.running refl
@@ -164,8 +164,8 @@ module _ {V : Type 0} {app : Application V} (basis : Basis app) where
         let is = own.is.task in
         cc
 
-    clear_is_done : (task : Task) → IsClear app state task → Contains (done_tasks dones) task
-    clear_is_done task clear =
+    clear_has_turn : (task : Task) → IsClear app state task → Contains (job_tasks turn) task
+    clear_has_turn task clear =
         let here_clear = subst (λ (s : State V). IsClear app s task) (sym drawing.state_is) clear in
         let from : (node : Node) × Contains now.nodes node × (node.task ≡ task) = from_map (λ (n : Node). n.task) now.nodes task here_clear.pending in
         let node = from.0 in
@@ -176,27 +176,31 @@ module _ {V : Type 0} {app : Application V} (basis : Basis app) where
         let has : Contains jobs job = (its.0, its.2, its.3) in
         let key = same_key basis.exact job.task.key node.task.key its.4 in
         let task_is : job.task ≡ node.task = task_of_key job node has from.1 key in
-        let done : (d : Done V) × Contains dones d × IsJobDone app job d = all.each job has in
-        let same : done.0.task ≡ task = sym done.2.task ∙ task_is ∙ from.2 in
-        subst (Contains (done_tasks dones)) same (in_map (λ (d : Done V). d.task) dones done.0 done.1)
+        subst (Contains (job_tasks turn)) (task_is ∙ from.2) (in_map (λ (j : Job V). j.task) turn job (Contains-permutation jobs turn job same has))
 
-    they_are_the_clear : done_tasks dones ≡ clear_tasks app state
+    they_are_the_clear : job_tasks turn ≡ clear_tasks app state
     they_are_the_clear =
         let ready = subst (IsReady app) drawing.state_is drawing.course.come.sound.ready in
         let listed = basis.listed state ready in
-        same_tasks basis.irreflexive basis.transitive (done_tasks dones) (clear_tasks app state) in_order listed.ascending
-        (λ task has. listed.all task (done_is_clear task has))
-        (λ task has. clear_is_done task (all_at (IsClear app state) (clear_tasks app state) task listed.clear.clear has))
+        same_tasks basis.irreflexive basis.transitive (job_tasks turn) (clear_tasks app state) in_order listed.ascending
+        (λ task has. listed.all task (turn_is_clear task has))
+        (λ task has. clear_has_turn task (all_at (IsClear app state) (clear_tasks app state) task listed.clear.clear has))
 
-    round_ends : IsEnding app first cells (after_round app state) text now dones
-    round_ends = record {
-      jobs = jobs;
-      values = values;
-      course = drawing.course;
-      all_done = all;
-      in_order = in_order;
-      leads = ap (after_tasks app.act (done_tasks dones)) drawing.state_is ∙ ap (λ tasks. after_tasks app.act tasks state) they_are_the_clear;
-    }
+    round_ends : IsEnding app first cells (after_round app state) text now turn
+    round_ends =
+        let course = drawing.course in
+        record {
+          values = values;
+          course = record {
+            drained = course.drained;
+            entries = course.entries;
+            come = basis.any_order first cells course.drained course.entries now jobs turn values course.come same;
+            text_is = course.text_is;
+            over = course.over;
+          };
+          in_order = in_order;
+          leads = ap (after_tasks app.act (job_tasks turn)) drawing.state_is ∙ ap (λ tasks. after_tasks app.act tasks state) they_are_the_clear;
+        }
 
   pub drawn_jobs_are_the_round : DrawnJobsAreTheRound app
   drawn_jobs_are_the_round = round_ends
@@ -204,8 +208,8 @@ module _ {V : Type 0} {app : Application V} (basis : Basis app) where
   -- ---- the number of jobs
 
   pub ends_are_the_round : EndsAreTheRound app
-  ends_are_the_round first now cells state text jobs dones drawing all_drawn all in_order =
-      sym (length-map dones (λ done. done.task)) ∙ ap length (they_are_the_clear first now cells state text jobs dones drawing all_drawn all in_order)
+  ends_are_the_round first now cells state text jobs turn drawing all_drawn same in_order =
+      sym (length-map turn (λ job. job.task)) ∙ ap length (they_are_the_clear first now cells state text jobs turn drawing all_drawn same in_order)
 
   pub rounds_have_jobs : RoundsHaveJobs app
   rounds_have_jobs first now cells state text jobs drawing all_drawn pending empty =

@@ -7,12 +7,13 @@ use Rattle.std.specs.declared.cmp.Ordering.TheVariants.{Less}
 use Rattle.std.proofs.lemmas.Bool.{true≢false}
 use Rattle.std.proofs.lemmas.List.Sorted.{ranks_by, sorted_far}
 use Rattle.task_order.specs.declared.key.Key.{Key}
+use Rattle.task_order.specs.declared.task.Task.{Task}
 use Rattle.task_order.specs.Key.{key_cmp, key_cmp_total}
 use Rattle.task_order.specs.Laws.{EarlierIsConnected}
 use Rattle.task_order.specs.TaskList.{HasDistinctKeys, IsAscending, IsNewKey}
 use Rattle.run_laws.specs.Jobs.{Done, Job}
 use Rattle.run_laws.specs.Lists.{all_at, all_from, in_map}
-use Rattle.source_pool.specs.Course.{HaveOwnKeys, done_tasks}
+use Rattle.source_pool.specs.Course.{HaveOwnKeys, job_tasks}
 
 -- ---- lists of anything
 
@@ -30,8 +31,12 @@ first_later connected key other differ late = elim (connected key other differ) 
 ]
 
 module _ {V : Type 0} where
+  -- the tasks of performed jobs, in order
+  abbrev pub done_tasks : List (Done V) → List Task
+  done_tasks dones = map (λ (done : Done V). done.task) dones
+
   -- jobs with keys of their own, and their tasks
-  pub own_tasks : (jobs : List (Job V)) → HaveOwnKeys jobs → HasDistinctKeys (map (λ job. job.task) jobs)
+  pub own_tasks : (jobs : List (Job V)) → HaveOwnKeys jobs → HasDistinctKeys (job_tasks jobs)
   own_tasks [] own = tt
   own_tasks (job ∷ jobs) own = (all_mapped (λ other. other.key ≢ job.task.key) (λ (j : Job V). j.task) jobs (all_other job jobs own.0), own_tasks jobs own.1)
     where

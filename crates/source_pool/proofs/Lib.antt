@@ -2,8 +2,10 @@ pub mod Acts
 pub mod Dealing
 pub mod Drained
 pub mod Drawing
+pub mod DrawnInOrder
 pub mod DrawnOut
 pub mod EarliestFirst
+pub mod Ended
 pub mod Ending
 pub mod EndsInKeyOrder
 pub mod EngineAtRest
@@ -12,6 +14,8 @@ pub mod Faults
 pub mod Flows
 pub mod Fronts
 pub mod HandsPlayed
+pub mod InKeyOrder
+pub mod InParts
 pub mod Jobs
 pub mod JoinedTexts
 pub mod Kept
@@ -23,7 +27,9 @@ pub mod Legs
 pub mod Lists
 pub mod Passing
 pub mod PerformedInOrder
+pub mod RoundDrawn
 pub mod RoundNumbers
 pub mod RunsBeside
 pub mod Sending
+pub mod SharesInParts
 pub mod Telling

@@ -1,11 +1,12 @@
 -- Two lists place by place, members of lists, and lists in key order.
-use Rattle.std.proofs.Common.{◌≡◌, ◌≢◌, ◌<◌, ◌⊎◌, ℕ, inl, inr, List, [], ◌∷◌, ◌++◌, drop, length, length-append, take, Option, Some, None, refl, sym, ◌∙◌, ap, subst, arith}
-use Rattle.std.specs.Prelude.{Contains, IsSome}
-use Rattle.std.specs.List.{All, AllByRecursion, AllZip}
+use Rattle.std.proofs.Common.{◌≡◌, ◌≢◌, ◌<◌, ℕ, suc, inl, inr, List, [], ◌∷◌, ◌++◌, drop, length, length-append, map, take, Option, Some, None, refl, sym, ◌∙◌, ap, subst, arith, IsPermutation}
+use Rattle.std.specs.Prelude.{Contains, IsSome, slice_index_or, slice_set}
+use Rattle.std.specs.List.{All, AllByRecursion, AllZip, swap}
 use Rattle.std.specs.declared.cmp.Ordering.TheVariants.{Less}
 use Rattle.std.proofs.lemmas.Bool.{true≢false}
+use Rattle.std.proofs.lemmas.List.{get_or-map, length-map, map-set}
 use Rattle.std.proofs.lemmas.List.Elements.{All-append, All-cons, All-drop, All-head, All-nil, All-take}
-use Rattle.std.proofs.lemmas.List.Sorted.{Contains-permutation, IsPermutation-middle, IsPermutation-sym}
+use Rattle.std.proofs.lemmas.List.Sorted.{IsPermutation-keeps, IsPermutation-map, IsPermutation-refl, IsPermutation-swap, IsPermutation-trans}
 use Rattle.task_order.specs.declared.task.Task.{Task}
 use Rattle.task_order.specs.Key.{key_cmp}
 use Rattle.task_order.specs.Laws.{EarlierIsIrreflexive, EarlierIsTransitive}
@@ -24,20 +25,67 @@ AllZip-append R [] others (y ∷ ys) more each rest = absurd each
 AllZip-append R (x ∷ xs) others [] more each rest = absurd each
 AllZip-append R (x ∷ xs) others (y ∷ ys) more each rest = (each.0, AllZip-append R xs others ys more each.1 rest)
 
-pub AllZip-turned : {X Y : Type 0} (R : X → Y → Type 0) (xs : List X) (ys : List Y) → AllZip R xs ys → AllZip (λ y x. R x y) ys xs
-AllZip-turned R [] [] each = tt
-AllZip-turned R [] (y ∷ ys) each = absurd each
-AllZip-turned R (x ∷ xs) [] each = absurd each
-AllZip-turned R (x ∷ xs) (y ∷ ys) each = (each.0, AllZip-turned R xs ys each.1)
+pub length_beside : {X Y : Type 0} (R : X → Y → Type 0) (xs : List X) (ys : List Y) → AllZip R xs ys → length xs ≡ length ys
+length_beside R [] [] each = refl
+length_beside R [] (y ∷ ys) each = absurd each
+length_beside R (x ∷ xs) [] each = absurd each
+length_beside R (x ∷ xs) (y ∷ ys) each = ap suc (length_beside R xs ys each.1)
 
--- what stands in the other list where a member does
-pub partner_of : {X Y : Type 0} (R : X → Y → Type 0) (xs : List X) (ys : List Y) (x : X) → AllZip R xs ys → Contains xs x → (y : Y) × Contains ys y × R x y
-partner_of R [] ys x each has = absurd (none x has)
-partner_of R (z ∷ xs) [] x each has = absurd each
-partner_of {X} {Y} R (z ∷ xs) (y ∷ ys) x each has = elim (cases z x xs has) [
-  | inl same ↦ (y, here y ys, subst (λ (w : X). R w y) same each.0)
-  | inr later ↦ let rest : (w : Y) × Contains ys w × R x w = partner_of R xs ys x each.1 later in (rest.0, there y rest.0 ys rest.1, rest.2)
-]
+-- some order of the first list, beside the other one place by place
+pub record Beside {X Y : Type 0} (R : X → Y → Type 0) (xs : List X) (ys : List Y) : Type 0 where
+  pub turn : List X
+  pub same : IsPermutation xs turn
+  pub each : AllZip R turn ys
+
+module _ {X Y : Type 0} (R : X → Y → Type 0) where
+  abbrev Pair : Type 0
+  Pair = (x : X) × (y : Y) × R x y
+
+  abbrev firsts : List Pair → List X
+  firsts ps = map (λ (p : Pair). p.0) ps
+
+  abbrev seconds : List Pair → List Y
+  seconds ps = map (λ (p : Pair). p.1) ps
+
+  in_pairs : (xs : List X) (ys : List Y) → AllZip R xs ys → (ps : List Pair) × (firsts ps ≡ xs) × (seconds ps ≡ ys)
+  in_pairs [] [] each = ([], refl, refl)
+  in_pairs [] (y ∷ ys) each = absurd each
+  in_pairs (x ∷ xs) [] each = absurd each
+  in_pairs (x ∷ xs) (y ∷ ys) each =
+      let rest : (ps : List Pair) × (firsts ps ≡ xs) × (seconds ps ≡ ys) = in_pairs xs ys each.1 in
+      ((x, y, each.0) ∷ rest.0, (λ i. x ∷ rest.1 i), (λ i. y ∷ rest.2 i))
+
+  from_pairs : (ps : List Pair) → AllZip R (firsts ps) (seconds ps)
+  from_pairs [] = tt
+  from_pairs (p ∷ ps) = (p.2, from_pairs ps)
+
+  seconds-swap : (ps : List Pair) (i j : ℕ) → i < length ps → j < length ps → seconds (swap ps i j) ≡ swap (seconds ps) i j
+  seconds-swap [] i j p q = refl
+  seconds-swap (a ∷ ps) i j p q =
+      let second = λ (p : Pair). p.1 in
+      let l = a ∷ ps in
+      map-set second (slice_set l i (slice_index_or l j a)) j (slice_index_or l i a)
+      ∙ (λ t. slice_set ((map-set second l i (slice_index_or l j a) ∙ ap (slice_set (seconds l) i) (sym (get_or-map second l j a (second a) q))) t) j (sym (get_or-map second l i a (second a) p) t))
+
+  follow : (ps : List Pair) (ys : List Y) → IsPermutation (seconds ps) ys → (qs : List Pair) × IsPermutation ps qs × (seconds qs ≡ ys)
+  follow ps ys = IsPermutation-keeps (seconds ps) (λ l. (qs : List Pair) × IsPermutation ps qs × (seconds qs ≡ l)) (ps, IsPermutation-refl ps, refl) (λ l i j p q so_far.
+      let qs = so_far.0 in
+      let long = ap length so_far.2 in
+      let many = length-map qs (λ (p : Pair). p.1) in
+      let p' : i < length qs = omega (arith, p, long, many) in
+      let q' : j < length qs = omega (arith, q, long, many) in
+      (swap qs i j, IsPermutation-trans ps qs (swap qs i j) so_far.1 (IsPermutation-swap qs (swap qs i j) i j p' q' refl), seconds-swap qs i j p' q' ∙ ap (λ (l : List Y). swap l i j) so_far.2)) ys
+
+  -- where one list is put in another order, the list beside it may be put so too
+  pub beside_in_order : (xs : List X) (ys zs : List Y) → AllZip R xs ys → IsPermutation ys zs → Beside R xs zs
+  beside_in_order xs ys zs each same =
+      let pairs = in_pairs xs ys each in
+      let moved = follow pairs.0 zs (subst (λ (l : List Y). IsPermutation l zs) (sym pairs.2) same) in
+      record {
+        turn = firsts moved.0;
+        same = subst (λ (l : List X). IsPermutation l (firsts moved.0)) pairs.1 (IsPermutation-map (λ (p : Pair). p.0) pairs.0 moved.0 moved.1);
+        each = subst (AllZip R (firsts moved.0)) moved.2 (from_pairs moved.0);
+      }
 
 -- ---- a loop that empties a list
 
@@ -51,29 +99,6 @@ nothing_left (Some y) (x ∷ xs) some never = absurd (never y refl)
 
 pub all_turned : {X : Type 0} (P : X → Type 0) (x : X) (xs : List X) → P x → AllByRecursion P xs → AllByRecursion P (xs ++ x ∷ [])
 all_turned P x xs own all = all-append P xs (x ∷ []) all (own, tt)
-
--- ---- one in the middle
-
--- what stands before a member, and what after it
-pub record Place {X : Type 0} (xs : List X) (x : X) : Type 0 where
-  pub before : List X
-  pub after : List X
-  pub is : xs ≡ before ++ x ∷ after
-
-pub place_of : {X : Type 0} (xs : List X) (x : X) → Contains xs x → Place xs x
-place_of [] x has = absurd (none x has)
-place_of {X} (y ∷ xs) x has = elim (cases y x xs has) [
-  | inl same ↦ record { before = []; after = xs; is = ap (λ (z : X). z ∷ xs) same }
-  | inr later ↦ let rest = place_of xs x later in record { before = y ∷ rest.before; after = rest.after; is = ap (λ zs. y ∷ zs) rest.is }
-]
-
-pub other_than : {X : Type 0} (before : List X) (x : X) (after : List X) (y : X) → Contains (before ++ x ∷ after) y → (x ≡ y) ⊎ Contains (before ++ after) y
-other_than before x after y has = cases x y (before ++ after) (Contains-permutation (before ++ x ∷ after) (x ∷ (before ++ after)) y (IsPermutation-middle before x after) has)
-
-pub among_all : {X : Type 0} (before : List X) (x : X) (after : List X) (y : X) → Contains (before ++ after) y → Contains (before ++ x ∷ after) y
-among_all before x after y has =
-    let moved = IsPermutation-sym (before ++ x ∷ after) (x ∷ (before ++ after)) (IsPermutation-middle before x after) in
-    Contains-permutation (x ∷ (before ++ after)) (before ++ x ∷ after) y moved (there x y (before ++ after) has)
 
 -- ---- lists in key order
 

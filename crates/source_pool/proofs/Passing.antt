@@ -25,11 +25,10 @@ use Rattle.run_laws.specs.Progress.{Progress, whole_state}
 use Rattle.run_laws.specs.Rest.{IsClearNode}
 use Rattle.run_laws.specs.Sound.{IsSound}
 use Rattle.source_pool.specs.Basis.{Basis}
-use Rattle.source_pool.specs.Course.{IsActing, done_tasks}
+use Rattle.source_pool.specs.Course.{IsActing, job_tasks}
 use Rattle.source_pool.specs.KeptLaws.{ActsPassWithTheRound, EndsPassWithTheRound}
 use Rattle.source_pool.proofs.Acts as acts
-use Rattle.source_pool.proofs.Ending as ends
-use Rattle.source_pool.proofs.Jobs.{job_is_clear}
+use Rattle.source_pool.proofs.Jobs.{first_performed, job_is_clear}
 
 length-children : (parent : Key) (number : ℕ) (starts : List Start) → length (children_from parent number starts) ≡ length starts
 length-children parent number [] = refl
@@ -151,27 +150,24 @@ module _ {V : Type 0} {app : Application V} (basis : Basis app) where
   -- ---- ends
 
   pub ends_pass_with_the_round : EndsPassWithTheRound app
-  ends_pass_with_the_round start now cells target text done dones ending over =
-      let its = ends.first basis start now cells target text done dones ending in
+  ends_pass_with_the_round start now cells target text job jobs done ending is over =
       let values = ending.values in
       let here = whole_state now values in
       let come = ending.course.come in
       let sound = come.sound in
-      let all_clear : AreClear app here (done_tasks (done ∷ dones)) = record {
-        distinct = basis.distinct (done_tasks (done ∷ dones)) ending.in_order;
-        clear = all_from (IsClear app here) (done_tasks (done ∷ dones)) (λ task has.
-            let from : (d : Done V) × Contains (done ∷ dones) d × (d.task ≡ task) = from_map (λ (d : Done V). d.task) (done ∷ dones) task has in
-            let of = ending.all_done.no_other from.0 from.1 in
-            subst (IsClear app here) (of.2.task ∙ from.2) (job_is_clear basis now ending.jobs values of.0 sound of.1));
+      let all_clear : AreClear app here (job_tasks (job ∷ jobs)) = record {
+        distinct = basis.distinct (job_tasks (job ∷ jobs)) ending.in_order;
+        clear = all_from (IsClear app here) (job_tasks (job ∷ jobs)) (λ task has.
+            let from : (j : Job V) × Contains (job ∷ jobs) j × (j.task ≡ task) = from_map (λ (j : Job V). j.task) (job ∷ jobs) task has in
+            subst (IsClear app here) from.2 (job_is_clear basis now (job ∷ jobs) values from.0 sound from.1));
       } in
-      let grows = with_children here done.task (done_tasks dones) sound.ready all_clear in
-      let children : length done.effect.children ≡ length (app.act done.task values).children =
-      as_many_children now done its.job ending.jobs its.others values sound its.performed ∙ ap (λ (task : Task). length (app.act task values).children) its.performed.task in
+      let grows = with_children here job.task (job_tasks jobs) sound.ready all_clear in
+      let children = as_many_children now done job (job ∷ jobs) jobs values sound (first_performed app job jobs done is) in
       omega (
         arith,
         grows,
         children,
-        length-map dones (λ (d : Done V). d.task),
+        length-map jobs (λ (j : Job V). j.task),
         length-map now.nodes (λ (n : Node). n.task),
         ap (λ (s : State V). length s.pending) ending.leads,
         over,

@@ -1,5 +1,5 @@
 -- How far rounds of claims and ends have come since an execution in which nothing was running.
-use Rattle.std.specs.Prelude.{◌≡◌, ◌≢◌, ℕ, zero, suc, List, [], map, None, Contains}
+use Rattle.std.specs.Prelude.{◌≡◌, ◌≢◌, ℕ, zero, suc, List, [], map, None}
 use Rattle.std.specs.List.{AllByRecursion}
 use Rattle.task_order.specs.declared.task.Task.{Task}
 use Rattle.task_order.specs.TaskList.{IsAscending}
@@ -16,9 +16,9 @@ use Rattle.run_laws.specs.Jobs.{Done, Job}
 use Rattle.run_laws.specs.Progress.{Progress, whole_state}
 use Rattle.run_laws.specs.Rest.{IsClearNode}
 
--- the tasks of performed jobs, in order
-abbrev pub done_tasks : {V : Type 0} → List (Done V) → List Task
-done_tasks dones = map (λ done. done.task) dones
+-- the tasks of jobs, in order
+abbrev pub job_tasks : {V : Type 0} → List (Job V) → List Task
+job_tasks jobs = map (λ job. job.task) jobs
 
 -- no two jobs have one key
 abbrev pub HaveOwnKeys : {V : Type 0} → List (Job V) → Type 0
@@ -36,11 +36,6 @@ module _ {V : Type 0} (app : Application V) where
     pub node : job.node ≡ done.node
     pub task : job.task ≡ done.task
     pub effect : IsEffect app job.task job.bundle done.effect
-
-  -- each of the jobs is performed, and no other, in any order
-  pub record AreAllDone (jobs : List (Job V)) (dones : List (Done V)) : Type 0 where
-    pub each : (job : Job V) → Contains jobs job → (done : Done V) × Contains dones done × IsJobDone job done
-    pub no_other : (done : Done V) → Contains dones done → (job : Job V) × Contains jobs job × IsJobDone job done
 
   -- this number of rounds, each of which had a task, lead from one state to the other
   abbrev pub LeadsByRounds : ℕ → State V → State V → Type 0
@@ -79,11 +74,9 @@ module _ {V : Type 0} (app : Application V) where
       pub in_order : IsAscending (tasks_of nodes)
       pub leads : after_tasks app.act (tasks_of nodes) state ≡ target
 
-    -- while jobs are ended in key order: these are performed and not ended yet, and once their tasks have acted the state is the target
-    pub record IsEnding (target : State V) (text : List ℕ) (now : Progress V) (dones : List (Done V)) : Type 0 where
-      pub jobs : List (Job V)
+    -- while jobs are ended in key order: these are not ended yet, and once their tasks have acted the state is the target
+    pub record IsEnding (target : State V) (text : List ℕ) (now : Progress V) (jobs : List (Job V)) : Type 0 where
       pub values : List V
       pub course : IsOnCourse text now jobs values
-      pub all_done : AreAllDone jobs dones
-      pub in_order : IsAscending (done_tasks dones)
-      pub leads : after_tasks app.act (done_tasks dones) (whole_state now values) ≡ target
+      pub in_order : IsAscending (job_tasks jobs)
+      pub leads : after_tasks app.act (job_tasks jobs) (whole_state now values) ≡ target

@@ -1,5 +1,5 @@
 -- What holds of the texts that are kept, and of rounds that pass the limit, for every application.
-use Rattle.std.specs.Prelude.{◌≡◌, ◌<◌, ℕ, ◌+◌, List, [], ◌∷◌, ◌++◌, length}
+use Rattle.std.specs.Prelude.{◌≡◌, ◌<◌, ℕ, ◌+◌, List, [], ◌∷◌, ◌++◌, length, IsPermutation}
 use Rattle.task_order.specs.TaskList.{IsAscending}
 use Rattle.cell_store.specs.Values.{values_of}
 use Rattle.kdg_graph.specs.declared.node_id.NodeId.{NodeId}
@@ -14,7 +14,7 @@ use Rattle.run_laws.specs.Jobs.{Done, Job}
 use Rattle.run_laws.specs.Progress.{Progress}
 use Rattle.run_laws.specs.Renaming.{IsRenamed}
 use Rattle.run_laws.specs.Sound.{IsSound}
-use Rattle.source_pool.specs.Course.{AreAllDone, IsActing, IsAtRest, IsDrawing, IsEnding, LeadsByRounds, done_tasks}
+use Rattle.source_pool.specs.Course.{IsActing, IsAtRest, IsDrawing, IsEnding, IsJobDone, LeadsByRounds, job_tasks}
 use Rattle.source_pool.specs.Kept.{KeepsAfter, KeepsBehind, acted_in, sequential_entries, sequential_text}
 use Rattle.source_pool.specs.Legs.{BeginsAtRest}
 use Rattle.source_pool.specs.Runs.{state_at_rest}
@@ -38,9 +38,9 @@ module _ {V : Type 0} (app : Application V) where
 
   -- and as many ends
   abbrev pub EndsAreTheRound : Type 0
-  EndsAreTheRound = (start now : Progress V) (cells : List V) (state : State V) (text : List ℕ) (jobs : List (Job V)) (dones : List (Done V)) →
-      IsDrawing app start cells state text now jobs → clear_nodes app now.nodes ≡ [] → AreAllDone app jobs dones → IsAscending (done_tasks dones) →
-      length dones ≡ length (clear_tasks app state)
+  EndsAreTheRound = (start now : Progress V) (cells : List V) (state : State V) (text : List ℕ) (jobs turn : List (Job V)) →
+      IsDrawing app start cells state text now jobs → clear_nodes app now.nodes ≡ [] → IsPermutation jobs turn → IsAscending (job_tasks turn) →
+      length turn ≡ length (clear_tasks app state)
 
   -- where a task passes the limit, the whole round does
   abbrev pub ActsPassWithTheRound : Type 0
@@ -48,8 +48,8 @@ module _ {V : Type 0} (app : Application V) where
       IsActing app start cells target text now (id ∷ ids) → IsTooMany app now id next created limit → start.limit < now.ended + (length (id ∷ ids) + length target.pending)
 
   abbrev pub EndsPassWithTheRound : Type 0
-  EndsPassWithTheRound = (start now : Progress V) (cells : List V) (target : State V) (text : List ℕ) (done : Done V) (dones : List (Done V)) →
-      IsEnding app start cells target text now (done ∷ dones) → IsOverLimit app now done → start.limit < now.ended + (length (done ∷ dones) + length target.pending)
+  EndsPassWithTheRound = (start now : Progress V) (cells : List V) (target : State V) (text : List ℕ) (job : Job V) (jobs : List (Job V)) (done : Done V) →
+      IsEnding app start cells target text now (job ∷ jobs) → IsJobDone app job done → IsOverLimit app now done → start.limit < now.ended + (length (job ∷ jobs) + length target.pending)
 
   -- where paths are ignored, the pending tasks may become first tasks while no text is logged that isn't drained: what is kept from there
   -- is kept from the start too

@@ -1,14 +1,14 @@
 -- What claims and ends make of rounds, for every application.
-use Rattle.std.specs.Prelude.{◌≡◌, ◌≢◌, ◌<◌, ℕ, suc, ◌+◌, ◌-◌, List, [], ◌∷◌, ◌++◌, length, Some, None}
+use Rattle.std.specs.Prelude.{◌≡◌, ◌≢◌, ◌<◌, ℕ, suc, ◌+◌, ◌-◌, List, [], ◌∷◌, ◌++◌, length, Some, None, IsPermutation}
 use Rattle.task_order.specs.Key.{end}
 use Rattle.task_order.specs.TaskList.{IsAscending}
 use Rattle.cell_store.specs.Values.{homes, values_of}
 use Rattle.kdg_graph.specs.declared.node_id.NodeId.{NodeId}
-use Rattle.kdg_graph.specs.Nodes.{HasNode, ids_of}
+use Rattle.kdg_graph.specs.Nodes.{HasNode, ids_of, tasks_of}
 use Rattle.output_log.specs.Entries.{joined_by_key, joined_texts}
 use Rattle.app_laws.specs.Applications.{Application}
 use Rattle.app_laws.specs.Execution.{Execution}
-use Rattle.commuting.specs.Rounds.{TakesRounds, after_round}
+use Rattle.commuting.specs.Rounds.{TakesRounds, after_round, clear_tasks}
 use Rattle.commuting.specs.States.{State, run_from}
 use Rattle.run_laws.specs.Jobs.{Done, Job}
 use Rattle.run_laws.specs.Acting.{HasActed, IsTooMany}
@@ -16,7 +16,7 @@ use Rattle.run_laws.specs.Laws.{IsDone}
 use Rattle.run_laws.specs.Events.{IsOfClear, IsClaimed, IsFinished, IsOverLimit, clear_nodes, drainable, drained}
 use Rattle.run_laws.specs.Progress.{Progress, whole_state}
 use Rattle.run_laws.specs.Sound.{IsSound}
-use Rattle.source_pool.specs.Course.{AreAllDone, HaveOwnKeys, IsActing, IsAtRest, IsDrawing, IsEnding, LeadsByRounds, done_tasks}
+use Rattle.source_pool.specs.Course.{HaveOwnKeys, IsActing, IsAtRest, IsDrawing, IsEnding, IsJobDone, LeadsByRounds, job_tasks}
 
 module _ {V : Type 0} (app : Application V) where
   -- ---- claims
@@ -31,12 +31,22 @@ module _ {V : Type 0} (app : Application V) where
   ClaimsGoOn = (start now next : Progress V) (cells : List V) (state : State V) (text : List ℕ) (jobs : List (Job V)) (pick : ℕ) (job : Job V) →
       IsDrawing app start cells state text now jobs → IsClaimed app now pick next job → IsDrawing app start cells state text next (jobs ++ job ∷ [])
 
+  -- the first of the clear nodes is claimed: its task comes first among their tasks, and the others are left
+  abbrev pub ClaimsGoInKeyOrder : Type 0
+  ClaimsGoInKeyOrder = (start now next : Progress V) (cells : List V) (state : State V) (text : List ℕ) (jobs : List (Job V)) (job : Job V) →
+      IsDrawing app start cells state text now jobs → IsClaimed app now 0 next job → tasks_of (clear_nodes app now.nodes) ≡ job.task ∷ tasks_of (clear_nodes app next.nodes)
+
+  -- between two rounds the tasks of the clear nodes are the clear tasks
+  abbrev pub ClearNodesHaveClearTasks : Type 0
+  ClearNodesHaveClearTasks = (start now : Progress V) (cells : List V) (state : State V) (text : List ℕ) →
+      IsAtRest app start cells state text now → (tasks_of (clear_nodes app now.nodes) ≡ clear_tasks app state) × IsAscending (clear_tasks app state)
+
   -- where no node is clear any more, the drawn jobs are those of all clear tasks of the state in which the round began: once they
-  -- are performed and end in key order, the round is done
+  -- have ended in key order, the round is done
   abbrev pub DrawnJobsAreTheRound : Type 0
-  DrawnJobsAreTheRound = (start now : Progress V) (cells : List V) (state : State V) (text : List ℕ) (jobs : List (Job V)) (dones : List (Done V)) →
-      IsDrawing app start cells state text now jobs → clear_nodes app now.nodes ≡ [] → AreAllDone app jobs dones → IsAscending (done_tasks dones) →
-      IsEnding app start cells (after_round app state) text now dones
+  DrawnJobsAreTheRound = (start now : Progress V) (cells : List V) (state : State V) (text : List ℕ) (jobs turn : List (Job V)) →
+      IsDrawing app start cells state text now jobs → clear_nodes app now.nodes ≡ [] → IsPermutation jobs turn → IsAscending (job_tasks turn) →
+      IsEnding app start cells (after_round app state) text now turn
 
   -- a round has a job, where any task is pending
   abbrev pub RoundsHaveJobs : Type 0
@@ -53,19 +63,20 @@ module _ {V : Type 0} (app : Application V) where
 
   -- ---- ends
 
-  -- the first of the performed jobs may end
+  -- the first of the jobs may end, once it is performed
   abbrev pub FirstMayEnd : Type 0
-  FirstMayEnd = (start now : Progress V) (cells : List V) (target : State V) (text : List ℕ) (done : Done V) (dones : List (Done V)) →
-      IsEnding app start cells target text now (done ∷ dones) → IsDone app now done
+  FirstMayEnd = (start now : Progress V) (cells : List V) (target : State V) (text : List ℕ) (job : Job V) (jobs : List (Job V)) (done : Done V) →
+      IsEnding app start cells target text now (job ∷ jobs) → IsJobDone app job done → IsDone app now done
 
   abbrev pub EndsGoOn : Type 0
-  EndsGoOn = (start now next : Progress V) (cells : List V) (target : State V) (text : List ℕ) (done : Done V) (dones : List (Done V)) →
-      IsEnding app start cells target text now (done ∷ dones) → ¬ IsOverLimit app now done → IsFinished app now done next → IsEnding app start cells target text next dones
+  EndsGoOn = (start now next : Progress V) (cells : List V) (target : State V) (text : List ℕ) (job : Job V) (jobs : List (Job V)) (done : Done V) →
+      IsEnding app start cells target text now (job ∷ jobs) → IsJobDone app job done → ¬ IsOverLimit app now done → IsFinished app now done next →
+      IsEnding app start cells target text next jobs
 
   -- where the limit is passed, the sequential run from the start doesn't end within what was left of it
   abbrev pub TooManyNeverEnd : Type 0
-  TooManyNeverEnd = (start now : Progress V) (cells : List V) (target : State V) (text : List ℕ) (done : Done V) (dones : List (Done V)) →
-      IsEnding app start cells target text now (done ∷ dones) → IsOverLimit app now done →
+  TooManyNeverEnd = (start now : Progress V) (cells : List V) (target : State V) (text : List ℕ) (job : Job V) (jobs : List (Job V)) (done : Done V) →
+      IsEnding app start cells target text now (job ∷ jobs) → IsJobDone app job done → IsOverLimit app now done →
       run_from app.act (start.limit - start.ended) end (whole_state start cells) ≡ None
 
   abbrev pub EndsComeToRest : Type 0

@@ -1,11 +1,12 @@
 //! How the jobs of a round are drawn.
 
-ghost use Rattle.std.specs.Prelude.{◌≡◌, [], OnOk};
+ghost use Rattle.std.specs.Prelude.{◌≡◌, [], None, OnOk};
 ghost use Rattle.std.specs.List.{AllByRecursion};
 ghost use Rattle.cell_store.specs.Values.{values_of};
 ghost use Rattle.crew.specs.Jobs.{MayRun};
 ghost use Rattle.run_laws.specs.Events.{clear_nodes};
 ghost use Rattle.source_pool.specs.Course.{IsAtRest, RunPoint, IsDrawing};
+ghost use Rattle.source_pool.specs.Performing.{HasDrawn};
 
 use crate::laws::drawing_laws;
 use app_laws::App;
@@ -90,6 +91,50 @@ pub(crate) fn draw<A: App, G: Gate>(
     drawing_laws::<A>();
     jobs.clear();
     while let Claim::Job(job) = engine.claim(picks.next())? {
+        jobs.push_back(job)?;
+    }
+    Ok(())
+}
+
+/// Claims the earliest clear tasks, as long as some is clear, until the list has `most` jobs; what was in it
+/// is dropped.
+pub(crate) fn draw_some<A: App>(
+    engine: &mut Engine<'_, A>,
+    most: usize,
+    jobs: &mut VecDeque<Job<A::Val>>,
+) -> Result<(), NoRoom>
+    ensures app { engine.new.app ≡ engine.old.app }
+    ensures drawn { OnOk result (HasDrawn (A.meaning engine.old.app) (λ drawn. drawn ≡ jobs.new.items) engine.old.progress engine.new.progress) }
+    ensures may_run { OnOk result (AllByRecursion (MayRun (A.meaning engine.old.app)) jobs.new.items) }
+    ensures ended { OnOk result (engine.new.progress.ended ≡ engine.old.progress.ended) }
+{
+    drawing_laws::<A>();
+    jobs.clear();
+    while jobs.len() < most {
+        let Claim::Job(job) = engine.claim(0)? else {
+            break;
+        };
+        jobs.push_back(job)?;
+    }
+    Ok(())
+}
+
+/// Claims the earliest clear tasks until none is clear. The list then has their jobs; what was in it is
+/// dropped.
+pub(crate) fn draw_rest<A: App>(
+    engine: &mut Engine<'_, A>,
+    jobs: &mut VecDeque<Job<A::Val>>,
+) -> Result<(), NoRoom>
+    requires not_over { engine.old.progress.over ≡ None }
+    ensures app { engine.new.app ≡ engine.old.app }
+    ensures drawn { OnOk result (HasDrawn (A.meaning engine.old.app) (λ drawn. drawn ≡ jobs.new.items) engine.old.progress engine.new.progress) }
+    ensures none_clear { OnOk result (clear_nodes (A.meaning engine.old.app) engine.new.progress.nodes ≡ []) }
+    ensures may_run { OnOk result (AllByRecursion (MayRun (A.meaning engine.old.app)) jobs.new.items) }
+    ensures ended { OnOk result (engine.new.progress.ended ≡ engine.old.progress.ended) }
+{
+    drawing_laws::<A>();
+    jobs.clear();
+    while let Claim::Job(job) = engine.claim(0)? {
         jobs.push_back(job)?;
     }
     Ok(())

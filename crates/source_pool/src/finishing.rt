@@ -1,17 +1,15 @@
 //! How the jobs of a round end.
 
-ghost use Rattle.std.specs.Prelude.{◌≡◌, ◌+◌, length, IfErr, IsPermutation, IsSortedByKey, OnOk};
+ghost use Rattle.std.specs.Prelude.{◌≡◌, IfErr, IsPermutation, IsSortedByKey, OnOk};
 ghost use Rattle.task_order.specs.Key.{key_cmp};
-ghost use Rattle.cell_store.specs.Values.{values_of};
-ghost use Rattle.source_pool.specs.Course.{IsAtRest, RunPoint, IsEnding};
-ghost use Rattle.source_pool.specs.Kept.{PassesWith};
-ghost use Rattle.source_pool.specs.Runs.{IsRunFault};
+ghost use Rattle.source_pool.specs.Performing.{AreDone, EndAtFault, HaveEnded, IsHandOf, MayEnd};
 
 use crate::RunFault;
+use crate::hands::Hand;
 use crate::laws::{ending_laws, kept_laws};
 use app_laws::App;
 use cell_store::Held;
-use graph_update::{Done, Engine};
+use graph_update::{Done, Engine, Job};
 use kdg_text::Steps;
 use std::collections::VecDeque;
 use std::sync::ledger::Ledger;
@@ -32,13 +30,10 @@ pub(crate) fn end_all<A: App, L: Ledger>(
     dones: &mut VecDeque<Done<A::Val>>,
     steps: &mut Steps<L>,
 ) -> Result<(), RunFault>
-    ghost to: { RunPoint A.Val }
-    requires ending { IsEnding (A.meaning engine.old.app) to.start (values_of to.start.cells) to.state to.text engine.old.progress dones.old.items }
+    requires may_end { MayEnd (A.meaning engine.old.app) (AreDone (A.meaning engine.old.app) dones.old.items) engine.old.progress }
     ensures app { engine.new.app ≡ engine.old.app }
-    ensures rest { OnOk result (IsAtRest (A.meaning engine.old.app) to.start (values_of to.start.cells) to.state to.text engine.new.progress) }
-    ensures ended { OnOk result (engine.new.progress.ended ≡ engine.old.progress.ended + length dones.old.items) }
-    ensures fault { IfErr result (IsRunFault (A.meaning engine.old.app) to.start) }
-    ensures passed { IfErr result (PassesWith to.start.limit (engine.old.progress.ended + length dones.old.items) to.state) }
+    ensures ended { OnOk result (HaveEnded (A.meaning engine.old.app) (AreDone (A.meaning engine.old.app) dones.old.items) engine.old.progress engine.new.progress) }
+    ensures fault { IfErr result (EndAtFault (A.meaning engine.old.app) (AreDone (A.meaning engine.old.app) dones.old.items) engine.old.progress) }
 {
     ending_laws::<A>();
     kept_laws::<A>();
@@ -46,4 +41,21 @@ pub(crate) fn end_all<A: App, L: Ledger>(
         engine.finish(done, steps)?;
     }
     Ok(())
+}
+
+/// Ends the jobs of a hand, in order, where all of them are performed.
+pub(crate) fn end_hand<A: App, L: Ledger>(
+    engine: &mut Engine<'_, A>,
+    hand: &mut Hand<Job<A::Val>, Done<A::Val>>,
+    steps: &mut Steps<L>,
+) -> Result<(), RunFault>
+    requires may_end { MayEnd (A.meaning engine.old.app) (IsHandOf (A.meaning engine.old.app) hand.old) engine.old.progress }
+    ensures app { engine.new.app ≡ engine.old.app }
+    ensures ended { OnOk result (HaveEnded (A.meaning engine.old.app) (IsHandOf (A.meaning engine.old.app) hand.old) engine.old.progress engine.new.progress) }
+    ensures fault { IfErr result (EndAtFault (A.meaning engine.old.app) (IsHandOf (A.meaning engine.old.app) hand.old) engine.old.progress) }
+{
+    if !hand.is_done {
+        return Err(RunFault::NoRoom);
+    }
+    end_all(engine, &mut hand.dones, steps)
 }

@@ -34,7 +34,7 @@ pub(crate) struct Hand<J, D> {
 
 impl<J: Drop, D: Drop> Hand<J, D> {
     /// A hand of this worker with nothing in it.
-    fn of(alloc: Global, worker: u32) -> Hand<J, D>
+    pub(crate) fn of(alloc: Global, worker: u32) -> Hand<J, D>
         ensures none { result.jobs.items ≡ [] }
         ensures not_done { result.is_done ≡ false }
     {
@@ -61,14 +61,13 @@ impl<J: Drop, D: Drop> Hand<J, D> {
 enum Dealing {
     /// To one hand after the other, round and round.
     InTurn,
-    /// To each hand from this one on as many as come next.
-    InOrder { first: usize },
+    /// To each hand as many as come next.
+    InOrder,
 }
 
 /// Performs the jobs of a round by a thread for each worker, as they are dealt out: in turn, but where the gate is
-/// open, and nobody sees who performs what, in order. Then kept workers get a hand at each desk, and the
-/// caller has none at first: it performs what they don't come to. The lists then have what was done; what was in
-/// the hands is dropped.
+/// open, and nobody sees who performs what, in order. The lists then have what was done; what was in the hands is
+/// dropped.
 pub(crate) fn perform_together<R: Threads + Sync, A: App + Sync, G: Gate + Sync>(
     rt: &R,
     app: &A,
@@ -82,42 +81,31 @@ pub(crate) fn perform_together<R: Threads + Sync, A: App + Sync, G: Gate + Sync>
     ensures done { OnOk result (AreDoneInSomeTurn (A.meaning app.now) lists.old.jobs.items lists.new.dones.items) }
     ensures told { lists.new.partners ≡ lists.old.partners }
 {
-    let desks = lists.partners.desks().min(lists.jobs.len());
-    let (hands, dealing) = match (gate.is_open(), desks) {
-        (false, _) => (workers as usize, Dealing::InTurn),
-        (true, 0) => (workers as usize, Dealing::InOrder { first: 0 }),
-        (true, desks) => (desks + 1, Dealing::InOrder { first: 1 }),
+    let dealing = if gate.is_open() {
+        Dealing::InOrder
+    } else {
+        Dealing::InTurn
     };
-    empty_hands(*lists.jobs.allocator(), hands, workers, &mut lists.hands)?;
+    empty_hands(*lists.jobs.allocator(), workers, &mut lists.hands)?;
     deal(dealing, &mut lists.jobs, &mut lists.hands)?;
     play_each(rt, app, gate, &mut lists.hands, &mut lists.partners);
     gather(&mut lists.hands, &mut lists.dones)
 }
 
-/// Makes the hands so many, without jobs: the first is the caller's, worker 0's, and the next ones are those of
-/// the others in turn.
+/// A hand without jobs for each worker, in the order of their numbers.
 fn empty_hands<V: Held>(
     alloc: Global,
-    count: usize,
     workers: u32,
     hands: &mut Vec<Hand<Job<V>, Done<V>>>,
 ) -> Result<(), NoRoom>
-    ensures { OnOk result (AreEmptyHands count hands.new.items) }
+    ensures { OnOk result (AreEmptyHands workers hands.new.items) }
 {
-    hands.truncate(count);
+    hands.truncate(workers as usize);
     clear_jobs(hands);
-    while hands.len() < count {
-        hands.push(Hand::of(alloc, whose(hands.len(), workers)))?;
+    while hands.len() < workers as usize {
+        hands.push(Hand::of(alloc, hands.len() as u32))?;
     }
     Ok(())
-}
-
-/// Whose the hand at a place is, where the first is worker 0's and the next ones are those of the others in turn.
-fn whose(place: usize, workers: u32) -> u32 {
-    match place {
-        0 => 0,
-        _ => 1 + ((place - 1) % (workers.max(2) as usize - 1)) as u32,
-    }
 }
 
 /// Drops the jobs of all hands.
@@ -144,7 +132,7 @@ fn deal<V: Held>(
 {
     match dealing {
         Dealing::InTurn => deal_in_turn(jobs, hands),
-        Dealing::InOrder { first } => deal_in_order(first, jobs, hands),
+        Dealing::InOrder => deal_in_order(jobs, hands),
     }
 }
 
@@ -166,10 +154,9 @@ fn deal_in_turn<V: Held>(
     Ok(())
 }
 
-/// Deals the jobs out in order among the hands from the first one to get any on, which have none: to each as
-/// many as come next. What was done is then, hand by hand, in the order of the jobs.
+/// Deals the jobs out in order among the hands, which have none: to each as many as come next. What was done is
+/// then, hand by hand, in the order of the jobs.
 fn deal_in_order<V: Held>(
-    first: usize,
     jobs: &mut VecDeque<Job<V>>,
     hands: &mut Vec<Hand<Job<V>, Done<V>>>,
 ) -> Result<(), NoRoom>
@@ -179,11 +166,10 @@ fn deal_in_order<V: Held>(
     ensures all { OnOk result (IsPermutation jobs.old.items (dealt_jobs hands.new.items)) }
 {
     let last = hands.len() - 1;
-    let first = first.min(last);
-    let each = jobs.len().div_ceil(hands.len() - first).max(1);
+    let each = jobs.len().div_ceil(hands.len()).max(1);
     let mut number = 0usize;
     while let Some(job) = jobs.pop_front() {
-        let place = first.saturating_add(number / each).min(last);
+        let place = (number / each).min(last);
         hands[place].jobs.push_back(job)?;
         number += 1;
     }

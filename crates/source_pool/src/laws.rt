@@ -2,7 +2,7 @@ ghost use Rattle.source_pool.specs.Basis.{Basis};
 ghost use Rattle.source_pool.specs.KeptLaws.{ActsAreTheRound, ActsPassWithTheRound, DrainedEntriesAreFirst, DrainedTextsAreKept, EndsAreTheRound, EndsPassWithTheRound, KeptTextsAreFronts, RenamingsKeepTexts};
 ghost use Rattle.source_pool.specs.Legs.{LegsBegin, LegsGoOn, RenamingsGoOn};
 ghost use Rattle.source_pool.specs.TellingLaws.{AllIsWritten, FrontsAreWritten, NothingIsTold, TellingsAdd, TellingsBegin};
-ghost use Rattle.source_pool.specs.Laws.{ActsBegin, ActsComeToRest, ActsGoOn, ClaimsGoOn, ClaimsLeaveFewer, DrainsKeepRest, DrawingsBegin, DrawnJobsAreTheRound, DrawnJobsDiffer, EndsComeToRest, EndsGoOn, FirstMayAct, FirstMayEnd, RestWithoutNodesIsTheEnd, RoundsAdd, RoundsAreTaken, RoundsHaveActs, RoundsHaveJobs, StartsAreAtRest, TooManyActsNeverEnd, TooManyNeverEnd, WholeIsHome};
+ghost use Rattle.source_pool.specs.Laws.{ActsBegin, ActsComeToRest, ActsGoOn, ClaimsGoInKeyOrder, ClaimsGoOn, ClaimsLeaveFewer, ClearNodesHaveClearTasks, DrainsKeepRest, DrawingsBegin, DrawnJobsAreTheRound, DrawnJobsDiffer, EndsComeToRest, EndsGoOn, FirstMayAct, FirstMayEnd, RestWithoutNodesIsTheEnd, RoundsAdd, RoundsAreTaken, RoundsHaveActs, RoundsHaveJobs, StartsAreAtRest, TooManyActsNeverEnd, TooManyNeverEnd, WholeIsHome};
 
 use app_laws::{App, execution_laws, lawful, naming_laws, orderly_laws};
 use cell_store::value_laws;
@@ -74,6 +74,8 @@ pub fn drawing_laws<A: App>()
     ensures some { (app : A) → RoundsHaveJobs (A.meaning app) }
     ensures differ { (app : A) → DrawnJobsDiffer (A.meaning app) }
     ensures fewer { (app : A) → ClaimsLeaveFewer (A.meaning app) }
+    ensures in_key_order { (app : A) → ClaimsGoInKeyOrder (A.meaning app) }
+    ensures clear { (app : A) → ClearNodesHaveClearTasks (A.meaning app) }
 {
     basis::<A>();
 }

@@ -15,6 +15,8 @@ mod partners;
 mod performing;
 mod round_lists;
 mod rounds;
+mod shares;
+mod sharing;
 mod staffing;
 mod work;
 

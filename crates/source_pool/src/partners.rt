@@ -1,24 +1,33 @@
 //! Workers that are kept over the rounds of a run.
 
-ghost use Rattle.std.specs.Prelude.{◌≡◌, false, IfOk, IfSome};
+ghost use Rattle.std.specs.Prelude.{◌≡◌, ◌≢◌, ◌+◌, ◌<◌, [], length, IfErr, IfOk, OnOk};
 ghost use Rattle.std.specs.List.{All, AllZip};
-ghost use Rattle.source_pool.specs.Performing.{IsPlayed, MayPlay};
+ghost use Rattle.cell_store.specs.Values.{values_of};
+ghost use Rattle.commuting.specs.Rounds.{after_round, clear_tasks};
+ghost use Rattle.source_pool.specs.Course.{IsAtRest, RunPoint};
+ghost use Rattle.source_pool.specs.Kept.{PassesWith};
+ghost use Rattle.source_pool.specs.Performing.{IsPlayed, IsTold, MayPlay};
+ghost use Rattle.source_pool.specs.Runs.{IsRunFault};
 
+use crate::RunFault;
 use crate::crossing::post_sends;
 use crate::hands::{Hand, play};
+use crate::shares::Share;
+use crate::sharing::share_round;
 use app_laws::App;
-use graph_update::{Done, Job};
-use kdg_text::NoRoom;
+use graph_update::{Done, Engine, Job};
+use kdg_text::{NoRoom, Steps};
 use outer_edge::Gate;
 use std::alloc::Global;
 use std::marker::Model;
 use std::snapshot::Snapshot;
+use std::sync::ledger::Ledger;
 use std::thread::{self, Threads};
-use work_desk::{Answer, Deed, Errand, Partner, Server, Servers, meet};
+use work_desk::{Deed, Errand, Partner, Server, Servers, meet};
 
-/// At how many desks the kept workers of a run serve in all, or some more, so that each has as many. The
-/// more there are, the better the last jobs of a round are shared.
-const DESKS: usize = 128;
+/// At how many desks the kept workers of a run serve in all, or some more, so that each has as many. With more
+/// the last jobs of a round are shared more evenly, with fewer there is less to give and to take back.
+const DESKS: usize = 32;
 
 /// The application whose tasks are in hand, for contracts alone.
 #[derive(Drop)]
@@ -68,18 +77,18 @@ pub(crate) struct Post<'a, A: App> {
 #[derive(Drop)]
 pub(crate) struct Partners<A: App> {
     told: Told<A>,
-    list: Vec<Option<HandPartner<A>>>,
+    list: Vec<Share<A>>,
 }
 
 impl<A: App> Model for Partners<A> {
-    ghost use Rattle.std.specs.Prelude.{◌≡◌, IfSome};
     ghost use Rattle.std.specs.List.{All};
+    ghost use Rattle.source_pool.specs.Performing.{IsTold};
 
     ghost Value = { A };
 
     ghost view = { λ p. p.told.app.value };
 
-    ghost invariant = { λ p. All (λ partner. IfSome partner (λ told. told.app.value ≡ p.told.app.value)) p.list.items };
+    ghost invariant = { λ p. All (IsTold A.meaning p.told.app.value) p.list.items };
 }
 
 impl<A: App> Partners<A> {
@@ -107,13 +116,13 @@ impl<A: App> Partners<A> {
         Servers::new(alloc, &self.told)
     }
 
-    /// One more desk, which is told of the same application, and answers who serves there.
-    fn add(&mut self, alloc: Global) -> Result<HandServer<A>, NoRoom>
+    /// One more desk of this worker, which is told of the same application, and answers who serves there.
+    fn add(&mut self, alloc: Global, worker: u32) -> Result<HandServer<A>, NoRoom>
         ensures told { self.new ≡ self.old }
         ensures server { IfOk result (λ server. server.app.value ≡ self.old) }
     {
         let (partner, server) = meet::<Order<A>, Told<A>, Playing>(alloc, &self.told)?;
-        self.list.push(Some(partner))?;
+        self.list.push(Share::new(alloc, partner, worker))?;
         Ok(server)
     }
 
@@ -136,10 +145,40 @@ impl<A: App> Partners<A> {
         play_shared(app, gate, &mut self.list, own, others);
     }
 
+    /// Plays one round of an execution in which nothing runs, but for its text, at a gate that is open: kept
+    /// workers perform at most `each` jobs at each desk, and the caller the others.
+    pub(crate) fn play_round<G: Gate, L: Ledger>(
+        &mut self,
+        engine: &mut Engine<'_, A>,
+        gate: &G,
+        each: usize,
+        own: &mut Hand<Job<A::Val>, Done<A::Val>>,
+        steps: &mut Steps<L>,
+    ) -> Result<(), RunFault>
+        ghost from: { RunPoint A.Val }
+        requires told { self.old ≡ engine.old.app }
+        requires rest { IsAtRest (A.meaning engine.old.app) from.start (values_of from.start.cells) from.state from.text engine.old.progress }
+        requires some { engine.old.progress.nodes ≢ [] }
+        ensures app { engine.new.app ≡ engine.old.app }
+        ensures told { self.new ≡ self.old }
+        ensures rest { OnOk result (IsAtRest (A.meaning engine.old.app) from.start (values_of from.start.cells) (after_round (A.meaning engine.old.app) from.state) from.text engine.new.progress) }
+        ensures ended { OnOk result (engine.old.progress.ended < engine.new.progress.ended) }
+        ensures counted { OnOk result (engine.new.progress.ended ≡ engine.old.progress.ended + length (clear_tasks (A.meaning engine.old.app) from.state)) }
+        ensures fault { IfErr result (IsRunFault (A.meaning engine.old.app) from.start) }
+        ensures passed { IfErr result (PassesWith from.start.limit (engine.old.progress.ended + length (clear_tasks (A.meaning engine.old.app) from.state)) (after_round (A.meaning engine.old.app) from.state)) }
+    {
+        share_round(engine, gate, each, &mut self.list, own, steps)
+    }
+
     /// Tells each worker that nothing more comes.
     pub(crate) fn dismiss(self) {
         let Partners { told: _, list } = self;
-        for partner in list {
+        for share in list {
+            let Share {
+                partner,
+                errand: _,
+                hand: _,
+            } = share;
             if let Some(partner) = partner {
                 partner.close();
             }
@@ -178,8 +217,10 @@ fn add_desks<A: App>(
     ensures told { partners.new ≡ partners.old }
     ensures posts { All (λ post. post.servers.app.value ≡ partners.old) posts.new.items }
 {
+    let mut worker = 0u32;
     for place in 0..posts.len() {
-        let server = partners.add(alloc)?;
+        worker = worker.saturating_add(1);
+        let server = partners.add(alloc, worker)?;
         posts[place].servers.add(server)?;
     }
     Ok(())
@@ -209,7 +250,7 @@ fn serve<A: App, G: Gate>(gate: &G, post: Post<'_, A>) {
 }
 
 /// The hand, once it is played.
-fn played<A: App, G: Gate>(app: &A, gate: &G, order: Order<A>) -> Order<A>
+pub(crate) fn played<A: App, G: Gate>(app: &A, gate: &G, order: Order<A>) -> Order<A>
     requires { MayPlay (A.meaning app.now) order.hand }
     ensures { IsPlayed (A.meaning app.now) order.hand result.hand }
 {
@@ -219,19 +260,18 @@ fn played<A: App, G: Gate>(app: &A, gate: &G, order: Order<A>) -> Order<A>
 }
 
 /// Has the hands but the caller's own played by kept workers, each at the desk in its place, as far as there
-/// are some, and plays its own meanwhile. At last it takes them back, the last one first, and plays those that
-/// no worker has come to. Each hand then has what became of its own.
+/// are some, and plays its own meanwhile. Each hand then has what became of its own.
 fn play_shared<A: App, G: Gate>(
     app: &A,
     gate: &G,
-    partners: &mut [Option<HandPartner<A>>],
+    shares: &mut [Share<A>],
     own: &mut Hand<Job<A::Val>, Done<A::Val>>,
     others: &mut [Hand<Job<A::Val>, Done<A::Val>>],
 )
-    requires told { All (λ partner. IfSome partner (λ told. told.app.value ≡ app.now)) partners.old }
+    requires told { All (IsTold A.meaning app.now) shares.old }
     requires own { MayPlay (A.meaning app.now) own.old }
     requires others { All (MayPlay (A.meaning app.now)) others.old }
-    ensures told { All (λ partner. IfSome partner (λ told. told.app.value ≡ app.now)) partners.new }
+    ensures told { All (IsTold A.meaning app.now) shares.new }
     ensures own { IsPlayed (A.meaning app.now) own.old own.new }
     ensures others { AllZip (IsPlayed (A.meaning app.now)) others.old others.new }
 {
@@ -239,45 +279,14 @@ fn play_shared<A: App, G: Gate>(
         play(app, gate, own);
         return;
     };
-    let Some((partner, more_partners)) = partners.split_first_mut() else {
-        play_shared(app, gate, partners, own, more_hands);
+    let Some((share, more_shares)) = shares.split_first_mut() else {
+        play_shared(app, gate, shares, own, more_hands);
         play(app, gate, hand);
         return;
     };
-    let Some(free) = partner.take() else {
-        play_shared(app, gate, more_partners, own, more_hands);
-        play(app, gate, hand);
-        return;
-    };
-    let errand = free.give(Order {
-        hand: hand.taken_out(),
-    });
-    play_shared(app, gate, more_partners, own, more_hands);
-    *partner = come_back(app, gate, errand, hand);
-}
-
-/// Puts a hand back that a kept worker was given, once it is played, by that one or else here.
-fn come_back<A: App, G: Gate>(
-    app: &A,
-    gate: &G,
-    errand: HandErrand<A>,
-    hand: &mut Hand<Job<A::Val>, Done<A::Val>>,
-) -> Option<HandPartner<A>>
-    requires told { errand.key.app.value ≡ app.now }
-    requires may { MayPlay (A.meaning app.now) errand.given.hand }
-    requires none { hand.old.is_done ≡ false }
-    ensures told { IfSome result (λ told. told.app.value ≡ app.now) }
-    ensures hand { IsPlayed (A.meaning app.now) errand.given.hand hand.new }
-{
-    match errand.collect() {
-        Answer::Done(free, order) => {
-            *hand = order.hand;
-            Some(free)
-        }
-        Answer::Back(free, order) => {
-            *hand = played(app, gate, order).hand;
-            Some(free)
-        }
-        Answer::Lost => None,
-    }
+    share.hand = hand.taken_out();
+    share.give(app, gate);
+    play_shared(app, gate, more_shares, own, more_hands);
+    share.collect(app, gate);
+    *hand = share.hand.taken_out();
 }

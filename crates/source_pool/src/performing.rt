@@ -1,12 +1,13 @@
 //! How the jobs of a round are performed by some workers.
 
-ghost use Rattle.std.specs.Prelude.{◌≡◌, ◌≢◌, ◌+◌, ◌-◌, ◌<◌, ◌≤◌, ◌^◌, [], min, length, sum_by, OnOk};
+ghost use Rattle.std.specs.Prelude.{◌≡◌, ◌≢◌, ◌+◌, ◌-◌, ◌<◌, ◌≤◌, ◌^◌, [], List, min, length, sum_by, OnOk};
 ghost use Rattle.std.specs.List.{AllByRecursion, AllZip};
 ghost use Rattle.cell_store.specs.Values.{values_of};
 ghost use Rattle.commuting.specs.Rounds.{after_round, clear_tasks};
 ghost use Rattle.crew.specs.Jobs.{MayRun};
+ghost use Rattle.run_laws.specs.Jobs.{Job};
 ghost use Rattle.source_pool.specs.Course.{IsAtRest, IsEnding, IsJobDone, RunPoint};
-ghost use Rattle.source_pool.specs.Performing.{AreDoneInSomeTurn};
+ghost use Rattle.source_pool.specs.Performing.{AreDone, AreDoneInSomeTurn};
 
 use crate::claiming::{Picks, draw};
 use crate::finishing::order_ends;
@@ -40,7 +41,7 @@ pub(crate) fn perform_round<R: Threads + Sync, A: App + Sync, G: Gate + Sync>(
     requires told { lists.old.partners ≡ engine.old.app }
     ensures app { engine.new.app ≡ engine.old.app }
     ensures told { lists.new.partners ≡ lists.old.partners }
-    ensures ending { OnOk result (IsEnding (A.meaning engine.old.app) from.start (values_of from.start.cells) (after_round (A.meaning engine.old.app) from.state) from.text engine.new.progress lists.new.dones.items) }
+    ensures ending { OnOk result ((turn : List (Job A.Val)) × AreDone (A.meaning engine.old.app) lists.new.dones.items turn × IsEnding (A.meaning engine.old.app) from.start (values_of from.start.cells) (after_round (A.meaning engine.old.app) from.state) from.text engine.new.progress turn) }
     ensures some { OnOk result (0 < length lists.new.dones.items) }
     ensures as_many { OnOk result (length lists.new.dones.items ≡ length (clear_tasks (A.meaning engine.old.app) from.state)) }
     ensures ended { OnOk result (engine.new.progress.ended ≡ engine.old.progress.ended) }

@@ -22,6 +22,8 @@ pub(crate) struct RoundLists<A: App> {
     pub(crate) ids: Vec<NodeId>,
     /// What each worker has in hand, where the round is performed by threads.
     pub(crate) hands: Vec<Hand<Job<A::Val>, Done<A::Val>>>,
+    /// What the caller has in hand, where kept workers perform the others.
+    pub(crate) own: Hand<Job<A::Val>, Done<A::Val>>,
     /// The workers that are kept over the rounds.
     pub(crate) partners: Partners<A>,
     /// What is known of the work in rounds, by which threads start.
@@ -39,6 +41,7 @@ impl<A: App> RoundLists<A> {
             dones: VecDeque::new(alloc),
             ids: Vec::new(alloc),
             hands: Vec::new(alloc),
+            own: Hand::of(alloc, 0),
             partners,
             work,
         }

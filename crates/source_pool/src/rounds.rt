@@ -18,7 +18,7 @@ use crate::acting::act_round;
 use crate::claiming::Picks;
 use crate::draining::tell;
 use crate::finishing::end_all;
-use crate::laws::{draining_laws, drawing_laws, kept_laws, leg_laws, rounds_laws};
+use crate::laws::{draining_laws, drawing_laws, ending_laws, kept_laws, leg_laws, rounds_laws};
 use crate::performing::perform_round;
 use crate::round_lists::RoundLists;
 use crate::staffing::staffed_rounds;
@@ -330,10 +330,70 @@ fn act_or_perform<R: Threads + Sync, A: App + Sync, G: Gate + Sync, L: Ledger>(
     ensures passed { IfErr result (PassesWith from.start.limit (engine.old.progress.ended + length (clear_tasks (A.meaning engine.old.app) from.state)) (after_round (A.meaning engine.old.app) from.state)) }
 {
     if picks.gate().is_open() && lists.work.stays_alone(workers) {
-        act_round(engine, lists, steps)?;
+        act_round(engine, lists, steps)
+    } else if picks.gate().is_open() && lists.partners.desks() > 0 {
+        play_with_partners(engine, picks.gate(), lists, steps)
     } else {
-        perform_round(rt, engine, picks, workers, lists)?;
-        end_all(engine, &mut lists.dones, steps)?;
+        perform_and_end(rt, engine, picks, workers, lists, steps)
     }
-    Ok(())
+}
+
+/// `act_or_perform`, where all jobs are drawn before one is performed, and performed before one ends.
+fn perform_and_end<R: Threads + Sync, A: App + Sync, G: Gate + Sync, L: Ledger>(
+    rt: &R,
+    engine: &mut Engine<'_, A>,
+    picks: &mut Picks<'_, G>,
+    workers: u32,
+    lists: &mut RoundLists<A>,
+    steps: &mut Steps<L>,
+) -> Result<(), RunFault>
+    ghost from: { RunPoint A.Val }
+    requires workers { 1 ≤ workers }
+    requires rest { IsAtRest (A.meaning engine.old.app) from.start (values_of from.start.cells) from.state from.text engine.old.progress }
+    requires some { engine.old.progress.nodes ≢ [] }
+    requires partners { lists.old.partners ≡ engine.old.app }
+    ensures app { engine.new.app ≡ engine.old.app }
+    ensures partners { lists.new.partners ≡ lists.old.partners }
+    ensures rest { OnOk result (IsAtRest (A.meaning engine.old.app) from.start (values_of from.start.cells) (after_round (A.meaning engine.old.app) from.state) from.text engine.new.progress) }
+    ensures ended { OnOk result (engine.old.progress.ended < engine.new.progress.ended) }
+    ensures counted { OnOk result (engine.new.progress.ended ≡ engine.old.progress.ended + length (clear_tasks (A.meaning engine.old.app) from.state)) }
+    ensures fault { IfErr result (IsRunFault (A.meaning engine.old.app) from.start) }
+    ensures passed { IfErr result (PassesWith from.start.limit (engine.old.progress.ended + length (clear_tasks (A.meaning engine.old.app) from.state)) (after_round (A.meaning engine.old.app) from.state)) }
+{
+    ending_laws::<A>();
+    perform_round(rt, engine, picks, workers, lists)?;
+    end_all(engine, &mut lists.dones, steps)
+}
+
+/// `act_or_perform` at an open gate, where workers are kept: they get as much at each desk as it takes for all clear
+/// tasks, if these are worth it.
+fn play_with_partners<A: App, G: Gate, L: Ledger>(
+    engine: &mut Engine<'_, A>,
+    gate: &G,
+    lists: &mut RoundLists<A>,
+    steps: &mut Steps<L>,
+) -> Result<(), RunFault>
+    ghost from: { RunPoint A.Val }
+    requires rest { IsAtRest (A.meaning engine.old.app) from.start (values_of from.start.cells) from.state from.text engine.old.progress }
+    requires some { engine.old.progress.nodes ≢ [] }
+    requires partners { lists.old.partners ≡ engine.old.app }
+    ensures app { engine.new.app ≡ engine.old.app }
+    ensures partners { lists.new.partners ≡ lists.old.partners }
+    ensures rest { OnOk result (IsAtRest (A.meaning engine.old.app) from.start (values_of from.start.cells) (after_round (A.meaning engine.old.app) from.state) from.text engine.new.progress) }
+    ensures ended { OnOk result (engine.old.progress.ended < engine.new.progress.ended) }
+    ensures counted { OnOk result (engine.new.progress.ended ≡ engine.old.progress.ended + length (clear_tasks (A.meaning engine.old.app) from.state)) }
+    ensures fault { IfErr result (IsRunFault (A.meaning engine.old.app) from.start) }
+    ensures passed { IfErr result (PassesWith from.start.limit (engine.old.progress.ended + length (clear_tasks (A.meaning engine.old.app) from.state)) (after_round (A.meaning engine.old.app) from.state)) }
+{
+    // A look, after which all clear tasks are known.
+    let _clear = engine.next_clear()?;
+    let known = engine.known();
+    let each = if lists.work.note_round(known, 0) {
+        known.div_ceil(lists.partners.desks().max(1))
+    } else {
+        0
+    };
+    lists
+        .partners
+        .play_round(engine, gate, each, &mut lists.own, steps)
 }

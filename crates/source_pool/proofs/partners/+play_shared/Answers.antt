@@ -1,30 +1,19 @@
-use Rattle.std.proofs.Common.{◌≡◌, List, Option, sym, subst}
-use Rattle.std.specs.Prelude.{IfSome}
-use Rattle.std.specs.List.{All}
-use Rattle.std.proofs.lemmas.List.Elements.{All-head, All-tail}
+use Rattle.std.proofs.Common.{List, ◌∷◌, sym, subst}
+use Rattle.std.specs.List.{All, AllZip}
+use Rattle.std.proofs.lemmas.List.Elements.{All-cons, All-head, All-tail}
 use Rattle.app_laws.specs.Applications.{Application}
 use Rattle.source_pool.specs.declared.hands.Hand.{Hand}
-use Rattle.source_pool.specs.declared.partners.Told.{Told}
+use Rattle.source_pool.specs.declared.shares.Share.{Share}
 use Rattle.run_laws.specs.Jobs.{Done, Job}
-use Rattle.source_pool.specs.Performing.{MayPlay}
+use Rattle.source_pool.specs.Performing.{IsPlayed, IsTold, MayPlay}
 use Rattle.source_pool.proofs.partners.+play_shared.Goals as goal
 
-pub give-errand-requires : goal.give-errand-requires
-give-errand-requires g t c =
+pub give-requires-clause-may : goal.give-requires-clause-may
+give-requires-clause-may g t c κs within =
     let app : Application g.row.A-Val.Denot = g.A.App.meaning c.args.app.now in
     let hands = subst (λ (hands : List (Hand (Job g.row.A-Val.Denot) (Done g.row.A-Val.Denot))). All (MayPlay app) hands) c.in-Some.ensures.cases.0 c.requires.others in
     let may = All-head (MayPlay app) c.in-Some.hand.now c.in-Some.more_hands.now hands in
-    let knows : Option (Told g.row.A.Denot) → Type 0 = λ partner. IfSome partner (λ told. told.app.value ≡ c.args.app.now) in
-    let partners = subst (λ (partners : List (Option (Told g.row.A.Denot))). All knows partners) c.in-Some-split_first_mut.ensures.cases.0 c.requires.told in
-    let told = All-head knows c.in-Some-split_first_mut.partner.now c.in-Some-split_first_mut.more_partners.now partners in
-    let same : c.in-Some-take.free.app.value ≡ c.args.app.now = subst knows (sym c.in-Some-take.ensures.value) told in
-    rw (same, c.taken_out.ensures.hand) may
-
-pub play_shared-requires-2-clause-told : goal.play_shared-requires-2-clause-told
-play_shared-requires-2-clause-told g t c κs within =
-    let knows : Option (Told g.row.A.Denot) → Type 0 = λ partner. IfSome partner (λ told. told.app.value ≡ c.args.app.now) in
-    let partners = subst (λ (partners : List (Option (Told g.row.A.Denot))). All knows partners) c.in-Some-split_first_mut.ensures.cases.0 c.requires.told in
-    All-tail knows c.in-Some-split_first_mut.partner.now c.in-Some-split_first_mut.more_partners.now partners
+    rw (c.taken_out.ensures.hand) may
 
 pub play_shared-requires-2-clause-others : goal.play_shared-requires-2-clause-others
 play_shared-requires-2-clause-others g t c κs within =
@@ -32,16 +21,20 @@ play_shared-requires-2-clause-others g t c κs within =
     let hands = subst (λ (hands : List (Hand (Job g.row.A-Val.Denot) (Done g.row.A-Val.Denot))). All (MayPlay app) hands) c.in-Some.ensures.cases.0 c.requires.others in
     All-tail (MayPlay app) c.in-Some.hand.now c.in-Some.more_hands.now hands
 
-pub come_back-requires-clause-told : goal.come_back-requires-clause-told
-come_back-requires-clause-told g t c κs within =
-    let knows : Option (Told g.row.A.Denot) → Type 0 = λ partner. IfSome partner (λ told. told.app.value ≡ c.args.app.now) in
-    let partners = subst (λ (partners : List (Option (Told g.row.A.Denot))). All knows partners) c.in-Some-split_first_mut.ensures.cases.0 c.requires.told in
-    let told = All-head knows c.in-Some-split_first_mut.partner.now c.in-Some-split_first_mut.more_partners.now partners in
-    rw (c.give-errand.ensures) (subst knows (sym c.in-Some-take.ensures.value) told)
+pub returns-clause-told : goal.returns-clause-told
+returns-clause-told g t c =
+    let Knows : Share g.row.A.Denot g.row.A-Val.Denot g.row.A-Horizon.Denot → Type 0 = IsTold g.A.App.meaning c.args.app.now in
+    let now : Share g.row.A.Denot g.row.A-Val.Denot g.row.A-Horizon.Denot = record { partner = c.collect.new.self.partner; errand = c.collect.new.self.errand; hand = c.taken_out-2.new.self } in
+    All-cons Knows now c.play_shared-2.new.shares (record { partner = c.collect.ensures.told.partner; errand = c.collect.ensures.told.errand }) c.play_shared-2.ensures.told
 
-pub come_back-requires-clause-may : goal.come_back-requires-clause-may
-come_back-requires-clause-may g t c κs within =
+pub returns-clause-others : goal.returns-clause-others
+returns-clause-others g t c =
     let app : Application g.row.A-Val.Denot = g.A.App.meaning c.args.app.now in
-    let hands = subst (λ (hands : List (Hand (Job g.row.A-Val.Denot) (Done g.row.A-Val.Denot))). All (MayPlay app) hands) c.in-Some.ensures.cases.0 c.requires.others in
-    let may = All-head (MayPlay app) c.in-Some.hand.now c.in-Some.more_hands.now hands in
-    rw (c.give-errand.ensures, c.taken_out.ensures.hand) may
+    let given : Hand (Job g.row.A-Val.Denot) (Done g.row.A-Val.Denot) = c.taken_out.result in
+    let back : Hand (Job g.row.A-Val.Denot) (Done g.row.A-Val.Denot) = c.collect.new.self.hand in
+    let share = c.collect.ensures.same given.jobs.items c.give.ensures.share in
+    let played : IsPlayed app given back = share.back c.collect.ensures.back in
+    let of_old = subst (λ (hand : Hand (Job g.row.A-Val.Denot) (Done g.row.A-Val.Denot)). IsPlayed app hand back) c.taken_out.ensures.hand played in
+    let of_new = subst (λ (hand : Hand (Job g.row.A-Val.Denot) (Done g.row.A-Val.Denot)). IsPlayed app c.in-Some.hand.now hand) (sym c.taken_out-2.ensures.hand) of_old in
+    subst (λ (hands : List (Hand (Job g.row.A-Val.Denot) (Done g.row.A-Val.Denot))). AllZip (IsPlayed app) hands (c.taken_out-2.result ∷ c.play_shared-2.new.others)) (sym c.in-Some.ensures.cases.0)
+    (of_new, c.play_shared-2.ensures.others)

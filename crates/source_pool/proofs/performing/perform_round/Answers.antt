@@ -34,8 +34,8 @@ returns-clause-ending g c =
     let dones = c.perform_drawn.new.lists.dones.items in
     let performed = subst (λ (other : g.row.A.Denot). AreDoneInSomeTurn (g.A.App.meaning other) jobs dones) (c.app.ensures ∙ c.draw.ensures.app) c.in_ok-perform_drawn.ensures.done in
     ends_in_key_order app g.from.start (values_of g.from.start.cells) g.from.state g.from.text c.draw.new.engine.progress jobs dones c.order_ends.new.dones.items
-    (c.drawing_laws.ensures.round c.args.engine.now.app) (c.drawing_laws.ensures.differ c.args.engine.now.app) c.ascending_laws.ensures.any_order c.earlier_laws.ensures.connected
-    c.in_ok-draw.ensures.drawing c.in_ok-draw.ensures.none_clear performed c.order_ends.ensures.all c.order_ends.ensures.in_order
+    (c.drawing_laws.ensures.differ c.args.engine.now.app) c.ascending_laws.ensures.any_order c.earlier_laws.ensures.connected
+    c.in_ok-draw.ensures.drawing c.in_ok-draw.ensures.none_clear performed c.order_ends.ensures.all c.order_ends.ensures.in_order (c.drawing_laws.ensures.round c.args.engine.now.app)
 
 pub returns-clause-some : goal.returns-clause-some
 returns-clause-some g c =
@@ -45,8 +45,9 @@ returns-clause-some g c =
     let dones = c.perform_drawn.new.lists.dones.items in
     let performed = subst (λ (other : g.row.A.Denot). AreDoneInSomeTurn (g.A.App.meaning other) jobs dones) (c.app.ensures ∙ c.draw.ensures.app) c.in_ok-perform_drawn.ensures.done in
     some_end app g.from.start (values_of g.from.start.cells) g.from.state g.from.text c.draw.new.engine.progress jobs dones c.order_ends.new.dones.items
+    (c.drawing_laws.ensures.differ c.args.engine.now.app) c.ascending_laws.ensures.any_order c.earlier_laws.ensures.connected
+    c.in_ok-draw.ensures.drawing c.in_ok-draw.ensures.none_clear performed c.order_ends.ensures.all c.order_ends.ensures.in_order
     (c.drawing_laws.ensures.some c.args.engine.now.app) c.args.engine.now.progress at_rest.0 at_rest.1.0
-    c.in_ok-draw.ensures.drawing c.in_ok-draw.ensures.none_clear performed c.order_ends.ensures.all
 
 pub returns-clause-as_many : goal.returns-clause-as_many
 returns-clause-as_many g c =
@@ -55,5 +56,5 @@ returns-clause-as_many g c =
     let dones = c.perform_drawn.new.lists.dones.items in
     let performed = subst (λ (other : g.row.A.Denot). AreDoneInSomeTurn (g.A.App.meaning other) jobs dones) (c.app.ensures ∙ c.draw.ensures.app) c.in_ok-perform_drawn.ensures.done in
     as_many_end app g.from.start (values_of g.from.start.cells) g.from.state g.from.text c.draw.new.engine.progress jobs dones c.order_ends.new.dones.items
-    (c.kept_laws.ensures.ends c.args.engine.now.app) (c.drawing_laws.ensures.differ c.args.engine.now.app) c.ascending_laws.ensures.any_order c.earlier_laws.ensures.connected
-    c.in_ok-draw.ensures.drawing c.in_ok-draw.ensures.none_clear performed c.order_ends.ensures.all c.order_ends.ensures.in_order
+    (c.drawing_laws.ensures.differ c.args.engine.now.app) c.ascending_laws.ensures.any_order c.earlier_laws.ensures.connected
+    c.in_ok-draw.ensures.drawing c.in_ok-draw.ensures.none_clear performed c.order_ends.ensures.all c.order_ends.ensures.in_order (c.kept_laws.ensures.ends c.args.engine.now.app)

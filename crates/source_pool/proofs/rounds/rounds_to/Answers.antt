@@ -1,4 +1,4 @@
-use Rattle.std.proofs.Common.{◌≡◌, ◌<◌, ◌^◌, List, [], ℕ, refl, subst, rules, arith}
+use Rattle.std.proofs.Common.{◌≡◌, List, [], ℕ, subst, arith}
 use Rattle.cell_store.specs.Values.{values_of}
 use Rattle.source_pool.proofs.Flows.{stream_end, stream_front, stream_over}
 use Rattle.outer_edge.specs.Transfers.{transfer_of}
