@@ -4,8 +4,9 @@ use std::hint::spin_loop;
 use std::sync::Wait;
 use std::sync::atomic::{AtomicU64, Ordering};
 
-/// How often a worker that waits looks before it sleeps.
-const LOOKS: u32 = 200;
+/// How often all workers together look at a time before they sleep, for some 100 microseconds of a processor: to
+/// wake a worker takes longer than a short task.
+const LOOKS: u32 = 2_000;
 
 /// The bits of a count that a sleep compares.
 const LOW: u64 = 0xffff_ffff;
@@ -17,14 +18,17 @@ pub(crate) struct Bell {
     rung: AtomicU64,
     /// How many workers sleep, or are about to.
     sleepers: AtomicU64,
+    /// How often a worker that waits looks before it sleeps.
+    looks: u32,
 }
 
 impl Bell {
-    /// A bell that wasn't rung.
-    pub(crate) fn new() -> Bell {
+    /// A bell that wasn't rung, for this number of workers.
+    pub(crate) fn new(workers: u32) -> Bell {
         Bell {
             rung: AtomicU64::new(0),
             sleepers: AtomicU64::new(0),
+            looks: LOOKS / workers.max(1),
         }
     }
 
@@ -44,7 +48,7 @@ impl Bell {
 
     /// Waits until it is rung once more than so often. It may come back earlier.
     pub(crate) fn wait<R: Wait>(&self, rt: &R, rung: u64) {
-        for _ in 0..LOOKS {
+        for _ in 0..self.looks {
             if self.rung() != rung {
                 return;
             }

@@ -75,7 +75,7 @@ pub(crate) fn work_together<
         workers,
     } = staff;
     let hall = post.hall;
-    let bell = Bell::new();
+    let bell = Bell::new(workers);
     let plan = Plan::new(seed, workers, gate.is_open(), post.app.task_nanos());
     let (posts, post) = match posts_of(alloc, workers, post) {
         Ok(posts) => posts,
