@@ -27,13 +27,13 @@ use Rattle.own_operator.specs.Mixing.{IsMixer, end_of, first_at, group_sets, gro
 
 pub multiplied_none : (value : ℕ) → value < 2 ^ 64 → value ≡ multiplied value 0
 multiplied_none value below =
-    let alone : value * 6364136223846793005 ^ 0 ≡ value = omega arith in
+    let alone : value * 13 ^ 0 ≡ value = omega arith in
     sym (ap (λ (product : ℕ). product % 2 ^ 64) alone ∙ mod-eq_of_lt below)
 
 -- one factor more
-pub multiplied_more : (value times : ℕ) → (multiplied value times * 6364136223846793005) % 2 ^ 64 ≡ multiplied value (times + 1)
+pub multiplied_more : (value times : ℕ) → (multiplied value times * 13) % 2 ^ 64 ≡ multiplied value (times + 1)
 multiplied_more value times =
-    let factor : ℕ = 6364136223846793005 in
+    let factor : ℕ = 13 in
     mul-mod_first (value * factor ^ times) factor (2 ^ 64)
     ∙ ap (λ (product : ℕ). product % 2 ^ 64) (mul_assoc value (factor ^ times) factor ∙ ap (λ (power : ℕ). value * power) (sym (pow-suc factor times)))
     ∙ ap (multiplied value) (sym (add-one times))

@@ -33,7 +33,7 @@ end_of mixer = mixer.lookahead * (mixer.tasks / mixer.groups)
 
 -- a value after `times` multiplications, without what goes beyond 2^64
 abbrev pub multiplied : ℕ → ℕ → ℕ
-multiplied value times = (value * 6364136223846793005 ^ times) % 2 ^ 64
+multiplied value times = (value * 13 ^ times) % 2 ^ 64
 
 -- the next task of a group comes the lookahead later, if that is before the end
 abbrev pub next_starts : Mixer → ℕ → Body → List Start

@@ -22,8 +22,10 @@ use std::sync::Wait;
 use std::thread::Threads;
 use task_order::{Body, Start, StartList, Task};
 
-/// A number of the form 4k + 1, so that products go through many values before one comes again.
-const FACTOR: u64 = 6_364_136_223_846_793_005;
+/// A number of the form 8k + 5, so that products go through many values before one comes again. It is small, and so
+/// is the code that multiplies by it or by its eighth power: a loop that lies across two lines of a processor's
+/// cache of code would take longer where two threads share the processor's core.
+const FACTOR: u64 = 13;
 
 /// Does what a task does. Where memory runs out, the bundle comes back as it was.
 fn mix(

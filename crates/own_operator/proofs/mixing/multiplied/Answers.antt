@@ -8,5 +8,5 @@ loop-factor-init c = multiplied_none c.args.value c.ranges.value.fits
 
 pub loop-factor-preserved : goal.loop-factor-preserved
 loop-factor-preserved c =
-    ap (λ (product : ℕ). (product * 6364136223846793005) % 2 ^ 64) c.loop-factor.invariant
+    ap (λ (product : ℕ). (product * 13) % 2 ^ 64) c.loop-factor.invariant
     ∙ multiplied_more c.args.value c.loop-factor._factor
