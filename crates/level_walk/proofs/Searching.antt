@@ -4,25 +4,20 @@ use Rattle.std.specs.List.{AllByRecursion}
 use Rattle.std.proofs.Common.{arith, ap, sym, subst, ◌∙◌, inl, inr, ◌⊎◌, length-set, length-append}
 use Rattle.std.proofs.lemmas.Bool.{cases_eq, cond-true, cond_both}
 use Rattle.std.proofs.lemmas.Bool.Decides.{nat_tests}
-use Rattle.std.proofs.lemmas.List.FromFn.{get_or-map-range_with_len}
 use Rattle.std.proofs.lemmas.Option.{same_Some, slice_get_within}
 use Rattle.task_order.specs.declared.start.Start.{Start}
 use Rattle.task_order.specs.declared.task.Task.{Task}
 use Rattle.task_order.specs.TaskList.{put_all}
-use Rattle.rw_sets.specs.declared.access.Access.TheVariants.{Write}
-use Rattle.rw_sets.specs.Accesses.{Accesses}
 use Rattle.app_laws.specs.Execution.{Execution, Outcome, acts, after_steps, children_from}
 use Rattle.mtx_reader.specs.declared.pattern.Pattern.{Pattern}
 use Rattle.mtx_reader.specs.Ascending.{IsIn, all_in, from_filter, from_map, in_filter, in_map}
 use Rattle.mtx_reader.specs.Patterns.{IsPattern}
 use Rattle.mtx_reader.specs.Places.{Place, IsWithin}
-use Rattle.hook_app.specs.Hooked.{acted, set_at, start_of_task}
-use Rattle.hook_app.specs.OneLocation.{own_set}
-use Rattle.hook_app.specs.Values.{put_values}
-use Rattle.hook_app.specs.ValueLaws.{found, get-set_other, get-set_same, values_first}
+use Rattle.hook_app.specs.ValueLaws.{found, get-set_other, get-set_same}
 use Rattle.level_walk.specs.declared.level.Level.{Level}
 use Rattle.level_walk.specs.declared.level.Level.TheVariants.{Unset, At}
-use Rattle.level_walk.specs.Levels.{IsVisit, levelling, most_level, next_visits, vertex_sets, visit_deed, visit_of, visited, walking}
+use Rattle.level_walk.specs.Levels.{IsVisit, levelling, most_level, next_visits, visit_of}
+use Rattle.level_walk.specs.VisitLaws.{act_is, set_again, visit_at}
 use Rattle.level_walk.specs.Walks.{HasEdge, HasWalk, IsWalk, edges_from, vertex_count}
 use Rattle.level_walk.proofs.Pending.{IsByPriority, all_children, all_put_all, child_there, comes_there, put_all_by_priority, stays_there, weaker_all}
 
@@ -55,11 +50,6 @@ not_all_set [] loc unset = absurd cc
 not_all_set (Unset ∷ cells) loc unset = omega (arith, set_within cells)
 not_all_set (At level ∷ cells) zero unset = absurd cc
 not_all_set (At level ∷ cells) (suc loc) unset = omega (arith, not_all_set cells loc unset)
-
-set_again : (cells : List Level) (loc : ℕ) (level : Level) → slice_get cells loc ≡ Some level → slice_set cells loc level ≡ cells
-set_again [] loc level is = refl
-set_again (first ∷ cells) zero level is = ap (λ (l : Level). l ∷ cells) (sym (same_Some first level is))
-set_again (first ∷ cells) (suc loc) level is = ap (λ (ls : List Level). first ∷ ls) (set_again cells loc level is)
 
 pub none_set : (count loc level : ℕ) → slice_get (replicate count Unset) loc ≡ Some (At level) → ⊥
 none_set zero loc level is = cc
@@ -135,19 +125,6 @@ pub record IsSearched (pattern : Pattern) (from : ℕ) (cells : List Level) (pen
   pub first : (loc : ℕ) → suc loc ≡ from → loc < vertex_count pattern → IsComing cells pending loc 0
 
 module _ (pattern : Pattern) (is-pattern : IsPattern pattern) (from : ℕ) where
-  -- what a visit to a vertex of this level makes of the cells
-  abbrev visit_at : Task → Level → List Level → Outcome Level
-  visit_at task level cells = let outcome = visited pattern (suc task.body.at) task.key.prio level in
-      record { cells = put_values (own_set task.body.at) outcome.cells cells; children = outcome.children; text = outcome.text }
-
-  act_is : (task : Task) (cells : List Level) (level : Level) → IsVisit (vertex_count pattern) task.key.prio task.body → slice_get cells task.body.at ≡ Some level
-      → (levelling pattern).act task cells ≡ visit_at task level cells
-  act_is task cells level visit is =
-      let at = task.body.at in
-      let own : set_at (vertex_sets (vertex_count pattern)) at ≡ own_set at = get_or-map-range_with_len own_set 0 (vertex_count pattern) at at [] visit.vertex (omega arith) in
-      let made : List Level → Outcome Level = λ values. let outcome = visit_deed pattern (start_of_task task) values in record { cells = put_values (own_set at) outcome.cells cells; children = outcome.children; text = outcome.text } in
-      ap (λ (set : Accesses). acted (walking pattern) set (start_of_task task) cells) own ∙ ap made (values_first (at, Write) [] cells level is)
-
   -- the visit to a vertex that has a level
   passes : (task : Task) (others : List Task) (cells : List Level) (level : ℕ) → slice_get cells task.body.at ≡ Some (At level) → IsSearched pattern from cells (task ∷ others) → IsSearched pattern from cells others
   passes task others cells level set at = record {
@@ -300,7 +277,7 @@ module _ (pattern : Pattern) (is-pattern : IsPattern pattern) (from : ℕ) where
 
   -- whatever the level of its vertex, a visit leaves a search
   visit_kept : (task : Task) (others : List Task) (cells : List Level) (level : Level) → slice_get cells task.body.at ≡ Some level → IsSearched pattern from cells (task ∷ others)
-      → IsSearched pattern from (visit_at task level cells).cells (put_all (children_from task.key 0 (visit_at task level cells).children) others)
+      → IsSearched pattern from (visit_at pattern task level cells).cells (put_all (children_from task.key 0 (visit_at pattern task level cells).children) others)
   visit_kept task others cells Unset is at = sets_level task others cells is at
   visit_kept task others cells (At level) is at =
       subst (λ (ls : List Level). IsSearched pattern from ls others) (sym (set_again cells task.body.at (At level) is)) (passes task others cells level is at)
@@ -311,7 +288,7 @@ module _ (pattern : Pattern) (is-pattern : IsPattern pattern) (from : ℕ) where
   act_kept e (task ∷ others) at is =
       let here = found e.cells task.body.at (omega (arith, at.count, at.due.0.visit.vertex)) in
       subst (λ (outcome : Outcome Level). IsSearched pattern from outcome.cells (put_all (children_from task.key 0 outcome.children) others))
-      (sym (act_is task e.cells here.0 at.due.0.visit here.1)) (visit_kept task others e.cells here.0 here.1 at)
+      (sym (act_is pattern task e.cells here.0 at.due.0.visit here.1)) (visit_kept task others e.cells here.0 here.1 at)
 
   pub steps_kept : (steps : ℕ) (e : Execution Level) → IsSearched pattern from e.cells e.pending → IsSearched pattern from (after_steps (levelling pattern).act steps e).cells (after_steps (levelling pattern).act steps e).pending
   unfolding after_steps

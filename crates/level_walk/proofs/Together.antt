@@ -20,6 +20,7 @@ use Rattle.hook_app.specs.Values.{KeepsRead}
 use Rattle.level_walk.specs.declared.level.Level.{Level}
 use Rattle.level_walk.specs.declared.level.Level.TheVariants.{Unset, At}
 use Rattle.level_walk.specs.Levels.{IsVisit, first_visits, levelling, most_level, start_levels, vertex_sets, visit_of, visited, walking}
+use Rattle.level_walk.specs.VisitLaws.{own_at}
 use Rattle.level_walk.specs.Walks.{edges_from, vertex_count}
 use Rattle.level_walk.proofs.Between.{few_places, length-filter_le}
 use Rattle.level_walk.proofs.Searching.{edge_within, length_unset}
@@ -28,9 +29,6 @@ use Rattle.level_walk.proofs.Searching.{edge_within, length_unset}
 each_mapped : {X : Type 0} (P : X → Type 0) (f : ℕ → X) (first count : ℕ) → ((n : ℕ) → n < first + count → P (f n)) → AllByRecursion P (map f (range_with_len first count))
 each_mapped P f first zero each = tt
 each_mapped P f first (suc count) each = (each first (omega arith), each_mapped P f (first + 1) count (λ n below. each n (omega arith)))
-
-pub own_at : (vertices at : ℕ) → at < vertices → set_at (vertex_sets vertices) at ≡ own_set at
-own_at vertices at below = get_or-map-range_with_len own_set 0 vertices at at [] below (omega arith)
 
 ends_with_line_feed : (text : List ℕ) → IsWholeLines (text ++ 10 ∷ [])
 ends_with_line_feed [] = refl

@@ -21,8 +21,8 @@ use Rattle.hook_app.specs.OneLocation.{found_is, one_value, own_set, put_is}
 use Rattle.level_walk.specs.declared.level.Level.{Level}
 use Rattle.level_walk.specs.declared.level.Level.TheVariants.{Unset, At}
 use Rattle.level_walk.specs.Levels.{child_at, level_text, level_texts, most_level, next_children, next_visits, vertex_sets, visit_of, visit_text, walking}
+use Rattle.level_walk.specs.VisitLaws.{own_at}
 use Rattle.level_walk.specs.Walks.{edges_from, vertex_count}
-use Rattle.level_walk.proofs.Together.{own_at}
 
 handed_edges : (vertices level : ℕ) (edges : List Place) → AllByRecursion (IsWithin vertices vertices) edges
     → map (λ (next : Start). record { prio = next.prio; body = next.body; set = set_at (vertex_sets vertices) next.body.at }) (map (λ (edge : Place). visit_of level edge.1) edges) ≡ map (λ (edge : Place). child_at level edge.1) edges

@@ -9,5 +9,5 @@ mod walk;
 
 pub use laws::levels_are_shortest;
 pub use level::Level;
-pub use visits::visit;
+pub use visits::{MOST_LEVEL, push_visit, visit};
 pub use walk::Walk;

@@ -1,4 +1,4 @@
-ghost use Rattle.std.specs.Prelude.{◌≡◌, ◌≤◌, IfOk};
+ghost use Rattle.std.specs.Prelude.{◌≡◌, ◌≤◌, ◌++◌, IfOk, OnOk};
 ghost use Rattle.cell_store.specs.declared.cell.Cell.TheVariants.{Home};
 ghost use Rattle.cell_store.specs.Cells.{cell_in};
 ghost use Rattle.hook_app.specs.Kept.{IsAnswered, IsAsked};
@@ -15,7 +15,7 @@ use std::alloc::Global;
 use task_order::{Start, Task};
 
 /// The greatest level: no task goes beyond it.
-const MOST_LEVEL: u32 = 4096;
+pub const MOST_LEVEL: u32 = 4096;
 
 /// Does what a task does: visits its vertex. Where memory runs out, the bundle comes back as it was.
 pub fn visit(
@@ -96,10 +96,17 @@ fn visit_text(alloc: Global, vertex: u32, level: u32) -> Result<Text, NoRoom>
     ensures { IfOk result (λ text. text ≡ visit_text vertex level) }
 {
     let mut text = Text::new(alloc);
-    text.push_all(b"visit ")?;
-    push_u64(&mut text, u64::from(vertex))?;
-    text.push_byte(b' ')?;
-    push_u64(&mut text, u64::from(level))?;
-    text.push_byte(b'\n')?;
+    push_visit(&mut text, vertex, level)?;
     Ok(text)
+}
+
+/// Appends the line of a vertex that gets its level. After `NoRoom` a part of it may stand there.
+pub fn push_visit(text: &mut Text, vertex: u32, level: u32) -> Result<(), NoRoom>
+    ensures { OnOk result (text.new ≡ text.old ++ visit_text vertex level) }
+{
+    text.push_all(b"visit ")?;
+    push_u64(text, u64::from(vertex))?;
+    text.push_byte(b' ')?;
+    push_u64(text, u64::from(level))?;
+    text.push_byte(b'\n')
 }

@@ -78,10 +78,19 @@ impl Walk {
         })
     }
 
-    /// How many vertices there are, each with a cell and a set, which belong together with what tasks
+    /// The vertex from which it is searched.
+    pub fn from(&self) -> u32
+        ensures from { result ≡ self.now.from }
+        ensures some { 1 ≤ self.now.from }
+    {
+        self.from
+    }
+
+    /// How many vertices the graph has, each with a cell and a set, which belong together with what tasks
     /// do and with a lookahead of 1. Takes no memory.
     pub fn count(&self) -> u32
         ensures count { result ≡ vertex_count self.now.pattern }
+        ensures sound { IsPattern self.now.pattern }
         ensures together { FitTogether (walking self.now.pattern) (vertex_count self.now.pattern) (vertex_sets (vertex_count self.now.pattern)) 1 }
     {
         count_of(&self.pattern)
@@ -139,7 +148,7 @@ impl Walk {
     }
 
     /// The edges that begin at a vertex, by the vertices to which they lead.
-    pub(crate) fn edges_from(&self, vertex: u32) -> &[(u32, u32)]
+    pub fn edges_from(&self, vertex: u32) -> &[(u32, u32)]
         requires some { 1 ≤ vertex }
         requires vertex { vertex ≤ vertex_count self.now.pattern }
         ensures edges { result.now ≡ edges_from self.now.pattern vertex }

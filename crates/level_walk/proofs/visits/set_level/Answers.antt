@@ -2,9 +2,10 @@ use Rattle.std.proofs.Common.{arith, ap, subst, suc, ◌+◌, ◌≡◌, ◌∙�
 use Rattle.mtx_reader.specs.Patterns.{IsPattern}
 use Rattle.hook_app.specs.OneLocation.{asked_written}
 use Rattle.level_walk.specs.Levels.{next_children, vertex_sets, visit_text, walking}
+use Rattle.level_walk.specs.VisitLaws.{own_at}
 use Rattle.level_walk.specs.Walks.{Search, vertex_count}
 use Rattle.level_walk.proofs.Searching.{few_vertices}
-use Rattle.level_walk.proofs.Together.{edges_within, own_at}
+use Rattle.level_walk.proofs.Together.{edges_within}
 use Rattle.level_walk.proofs.Visiting.{set_effect}
 use Rattle.level_walk.proofs.visits.set_level.Goals as goal
 

@@ -1,7 +1,7 @@
 use Rattle.hook_app.specs.OneLocation.{asked_named}
 use Rattle.level_walk.specs.Levels.{vertex_sets, walking}
+use Rattle.level_walk.specs.VisitLaws.{own_at}
 use Rattle.level_walk.specs.Walks.{vertex_count}
-use Rattle.level_walk.proofs.Together.{own_at}
 use Rattle.level_walk.proofs.Visiting.{passed_effect}
 use Rattle.level_walk.proofs.visits.visit.Goals as goal
 
