@@ -1,0 +1,15 @@
+pub mod Acting
+pub mod Clear
+pub mod Counts
+pub mod Course
+pub mod Ends
+pub mod Finding
+pub mod FirstRound
+pub mod Firsts
+pub mod Fit
+pub mod InRounds
+pub mod InTurn
+pub mod OneVisit
+pub mod OtherRounds
+pub mod Places
+pub mod Times
