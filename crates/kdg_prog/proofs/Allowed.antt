@@ -1,13 +1,10 @@
 use Rattle.std.proofs.Common.{ℕ, ◌≤◌, ◌&&◌, List, Bool, true, false, cond, Option, Some, None, unwrap_or, option_and_then, arith, inl, inr}
 use Rattle.std.proofs.lemmas.Bool.{cases_Bool, and_parts, leb-true}
-use Rattle.std.specs.Prelude.{◌≢◌, nat_le, IfOk}
+use Rattle.std.specs.Prelude.{nat_le, IfOk}
 use Rattle.std.specs.Result.{result_ok}
 use Rattle.std.specs.List.{slice_get}
-use Rattle.std.specs.Str.{bytes_eq}
-use Rattle.std.specs.Prelude.{codes}
 use Rattle.kdg_text.specs.Numbers.{u64_of}
 use Rattle.kdg_prog.specs.Words.{Word, IsAllowed, number_within, given_value, options_given, options_unless, options_of, first_bad, settings_of, command_in, big_of, is_big, number_of, most_for}
-use Rattle.kdg_prog.specs.declared.words.Mode.TheVariants.{Serial, Rounds, Free}
 use Rattle.kdg_prog.specs.declared.words.OptionName.TheVariants as name
 use Rattle.kdg_prog.specs.declared.words.Options.{Options}
 

@@ -6,7 +6,6 @@ use Rattle.std.proofs.Math.Seq.{take-append-add}
 use Rattle.std.proofs.lemmas.List.{drop-replicate}
 use Rattle.outer_edge.specs.Transfers.{Transfer, HasFailed}
 use Rattle.outer_edge.specs.Writing.{AppendsFront}
-use Rattle.kdg_prog.specs.Status.{fault_text}
 use Rattle.kdg_prog.specs.Telling.{IsTold, fault_line}
 use Rattle.kdg_prog.specs.declared.status.Status.{Status}
 

@@ -1,5 +1,6 @@
 -- What an input is answered: a function of the options and of the input's bytes.
-use Rattle.std.specs.Prelude.{ℕ, List, replicate}
+use Rattle.std.specs.Prelude.{ℕ, List, replicate, Result}
+use Rattle.kdg_text.specs.declared.fault.Fault.{Fault}
 use Rattle.bench_reader.specs.declared.deck.Deck.{Deck}
 use Rattle.logic_sim.specs.Circuit.{start_cells, start_tasks, finals_of}
 use Rattle.logic_sim.specs.Event.{Simulation}
@@ -86,32 +87,41 @@ graph_problem options pattern = search_problem (record { pattern = pattern; from
 
 -- ---- every command
 
--- what an input of a command is answered
+-- what is said of an input: its answer, how many tasks have been created when first there are more than the budget, the texts of the
+-- first tasks of its sequential execution, as many as the budget, and what is kept of them in rounds after the last one within the
+-- budget; where it has a fault there are no texts
+pub record Said : Type 1 where
+  pub answer : Answer
+  pub First : ℕ → Type 0
+  pub log : List ℕ
+  pub Keeps : List ℕ → Type 0
+
+abbrev pub said_of : {D V : Type 0} → (D → Problem V) → Options → Result D Fault → Said
+said_of problem options found = record {
+  answer = answer_read problem options found;
+  First = FirstPassesRead problem options found;
+  log = log_read problem options found;
+  Keeps = KeepsRead problem options found;
+}
+
+-- by the problem that a command makes of what its reader finds
+abbrev pub said_for : Command → Options → List ℕ → Said
+said_for Rank options input = said_of pattern_problem options (pattern_for options.big input)
+said_for Mesh options input = said_of mesh_problem options (mesh_for options.big input)
+said_for Levels options input = said_of (graph_problem options) options (pattern_for options.big input)
+said_for Sim options input = said_of (deck_problem options) options (deck_for options.big input)
+
 abbrev pub answer_for : Command → Options → List ℕ → Answer
-answer_for Rank options input = answer_read pattern_problem options (pattern_for options.big input)
-answer_for Mesh options input = answer_read mesh_problem options (mesh_for options.big input)
-answer_for Levels options input = answer_read (graph_problem options) options (pattern_for options.big input)
-answer_for Sim options input = answer_read (deck_problem options) options (deck_for options.big input)
+answer_for command options input = (said_for command options input).answer
 
 abbrev pub FirstPassesFor : Command → Options → List ℕ → ℕ → Type 0
-FirstPassesFor Rank options input = FirstPassesRead pattern_problem options (pattern_for options.big input)
-FirstPassesFor Mesh options input = FirstPassesRead mesh_problem options (mesh_for options.big input)
-FirstPassesFor Levels options input = FirstPassesRead (graph_problem options) options (pattern_for options.big input)
-FirstPassesFor Sim options input = FirstPassesRead (deck_problem options) options (deck_for options.big input)
+FirstPassesFor command options input = (said_for command options input).First
 
--- the texts of the first tasks of its sequential execution, as many as the budget; none where it has a fault
 abbrev pub log_for : Command → Options → List ℕ → List ℕ
-log_for Rank options input = log_read pattern_problem options (pattern_for options.big input)
-log_for Mesh options input = log_read mesh_problem options (mesh_for options.big input)
-log_for Levels options input = log_read (graph_problem options) options (pattern_for options.big input)
-log_for Sim options input = log_read (deck_problem options) options (deck_for options.big input)
+log_for command options input = (said_for command options input).log
 
--- what is kept of them in rounds after the last one within the budget
 abbrev pub KeepsFor : Command → Options → List ℕ → List ℕ → Type 0
-KeepsFor Rank options input = KeepsRead pattern_problem options (pattern_for options.big input)
-KeepsFor Mesh options input = KeepsRead mesh_problem options (mesh_for options.big input)
-KeepsFor Levels options input = KeepsRead (graph_problem options) options (pattern_for options.big input)
-KeepsFor Sim options input = KeepsRead (deck_problem options) options (deck_for options.big input)
+KeepsFor command options input = (said_for command options input).Keeps
 
 -- what an input is answered
 abbrev pub answer_of : Options → List ℕ → Answer

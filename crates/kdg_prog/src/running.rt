@@ -294,7 +294,7 @@ fn marks_print<A: Runnable, G: Gate>(
     let tasks = app.start_tasks()?;
     let budget = options.budget;
     let (finals, rounds) = run_marks(alloc, app, cells, tasks, budget, gate, options.workers)?;
-    Ok(listed_print(alloc, options, app, finals, rounds)?)
+    Ok(ended_print(alloc, options, app, finals, rounds)?)
 }
 
 /// The print of a run in rounds whose pending tasks rest, which needs neither a graph nor a board.
@@ -318,18 +318,17 @@ pub(crate) fn resting_print<A: Runnable + Resting, G: Gate>(
     let tasks = app.start_tasks()?;
     let budget = options.budget;
     let (finals, rounds) = run_resting(alloc, app, cells, tasks, budget, gate, options.workers)?;
-    Ok(listed_print(alloc, options, app, finals, rounds)?)
+    Ok(ended_print(alloc, options, app, finals, rounds)?)
 }
 
-/// The print of a run in rounds over a list of its pending tasks, which has ended after that many.
-fn listed_print<A: Runnable>(
+/// The print of a run that has ended, whose tasks act in that many rounds.
+pub(crate) fn ended_print<A: Runnable>(
     alloc: Global,
     options: &Options,
     app: &A,
     finals: Finals<A::Val>,
     rounds: u64,
 ) -> Result<Text, NoRoom>
-    requires mode { is_in_rounds options.now.mode ≡ true }
     requires fit_cells { (A.meaning app.now).is_fit_cells (A.setting app.now).cells }
     requires fit_tasks { AreFitStarts (A.meaning app.now) (A.setting app.now).tasks }
     requires end { IsRoundsEnd (A.meaning app.now) (start_state (A.setting app.now).cells (A.setting app.now).tasks) options.now.budget finals rounds }

@@ -1,22 +1,24 @@
 //! The command that tells the levels of a graph.
 
-ghost use Rattle.std.specs.Prelude.{◌≡◌, ◌≢◌, IfOk, IfErr};
+ghost use Rattle.std.specs.Prelude.{◌≡◌, ◌≢◌, IfOk, IfErr, IfSome};
 ghost use Rattle.outer_edge.specs.Transfers.{transfer_of};
 ghost use Rattle.hook_app.specs.Kept.{DoesDeeds, IsAnswered, IsAsked};
 ghost use Rattle.level_walk.specs.Levels.{vertex_sets, walking};
 ghost use Rattle.level_walk.specs.Walks.{vertex_count};
 ghost use Rattle.kdg_prog.specs.Answer.{search_problem};
+ghost use Rattle.kdg_prog.specs.Problem.{answer_by, whole_print};
 ghost use Rattle.kdg_prog.specs.Searches.{AnswersLevels};
 ghost use Rattle.kdg_prog.specs.Serving.{IsRunServed, IsServedFor, MayLeaveLog};
 ghost use Rattle.kdg_prog.specs.Words.{IsAllowed};
 
 use crate::described::walk_for;
-use crate::running::{serve_free_run, serve_run};
+use crate::running::{ended_print, serve_free_run, serve_run, write_print};
 use crate::{Command, Mode, Options, Status};
 use app_laws::Effect;
 use cell_store::Bundle;
 use hook_app::{Hook, HookApp};
-use kdg_text::Text;
+use kdg_text::{NoRoom, Text};
+use level_search::search;
 use level_walk::{Level, Walk, levels_are_shortest, visit};
 use outer_edge::{Gate, Sink};
 use std::alloc::Global;
@@ -69,7 +71,10 @@ fn serve_levels_by<R: Threads + Sync, H: Hook<Level> + Sync, K: Sink, G: Gate + 
     ensures same_room { K.room sink.new ≡ K.room sink.old }
 {
     let app = HookApp::new(walk, walk.count(), walk.sets()?, 1, hook);
-    serve_run(rt, alloc, options, &app, sink, gate)
+    match searched_print(alloc, options, &app, gate)? {
+        Some(print) => write_print(sink, Ok(print)),
+        None => serve_run(rt, alloc, options, &app, sink, gate),
+    }
 }
 
 /// `serve_levels` in mode free.
@@ -117,5 +122,34 @@ fn serve_free_levels_by<R: Threads + Wait + Sync, H: Hook<Level> + Sync, K: Sink
     ensures same_room { K.room sink.new ≡ K.room sink.old }
 {
     let app = HookApp::new(walk, walk.count(), walk.sets()?, 1, hook);
-    serve_free_run(rt, alloc, options, &app, sink, gate)
+    match searched_print(alloc, options, &app, gate)? {
+        Some(print) => write_print(sink, Ok(print)),
+        None => serve_free_run(rt, alloc, options, &app, sink, gate),
+    }
+}
+
+/// The print of a search without tasks. There is none where the gate is to let tasks pass, or where they would
+/// be more than the budget.
+fn searched_print<H: Hook<Level> + Sync, G: Gate>(
+    alloc: Global,
+    options: &Options,
+    app: &HookApp<'_, Walk, H>,
+    gate: &G,
+) -> Result<Option<Text>, NoRoom>
+    requires allowed { IsAllowed options.now }
+    requires cells { app.now.cells ≡ vertex_count app.now.deed.pattern }
+    requires sets { app.now.sets ≡ vertex_sets (vertex_count app.now.deed.pattern) }
+    requires ahead { app.now.ahead ≡ 1 }
+    ensures { IfOk result (λ print. IfSome print (λ bytes. answer_by options.now (search_problem app.now.deed) ≡ whole_print bytes)) }
+{
+    if !gate.is_open() {
+        return Ok(None);
+    }
+    match search(alloc, app.deed(), options.budget)? {
+        Some((finals, rounds)) => {
+            let print = ended_print(alloc, options, app, finals, rounds)?;
+            Ok(Some(print))
+        }
+        None => Ok(None),
+    }
 }

@@ -1,4 +1,3 @@
-use Rattle.std.proofs.Common.{◌∙◌, arith}
 use Rattle.outer_edge.specs.Transfers.{transfer_of}
 use Rattle.kdg_prog.specs.Status.{fault_text}
 use Rattle.kdg_prog.proofs.LineFeeds.{fed, told_by}

@@ -3,7 +3,7 @@ use Rattle.std.proofs.lemmas.Result.{IfOk-weaker}
 use Rattle.kdg_prog.specs.Problem.{answer_by, print_of_finals, problem_of, rounds_shown, whole_print}
 use Rattle.kdg_prog.proofs.AtEnd.{rounds_to_end}
 use Rattle.kdg_prog.proofs.Refusing.{print_from_run, run_is_home}
-use Rattle.kdg_prog.proofs.running.listed_print.Goals as goal
+use Rattle.kdg_prog.proofs.running.ended_print.Goals as goal
 
 pub finals_print-requires-clause-home : goal.finals_print-requires-clause-home
 finals_print-requires-clause-home g c κs within = run_is_home (g.A.App.meaning c.args.app.now).act c.args.options.now.budget _ c.args.finals c.value_laws.ensures.values c.requires.end.run
