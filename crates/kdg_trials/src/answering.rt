@@ -93,7 +93,22 @@ pub fn is_answered<R: Threads + Wait + Sync>(
 ) -> Result<bool, NoRoom>
     requires { 1 ≤ step }
 {
-    let (answered, sink) = answer(rt, alloc, words, input, step)?;
+    is_answered_at(rt, alloc, &Seeded, words, input, step, wanted)
+}
+
+/// Whether an input is answered so at a gate.
+pub fn is_answered_at<R: Threads + Wait + Sync, G: Gate + Sync>(
+    rt: &R,
+    alloc: Global,
+    gate: &G,
+    words: &str,
+    input: &str,
+    step: usize,
+    wanted: (Status, &[u8]),
+) -> Result<bool, NoRoom>
+    requires { 1 ≤ step }
+{
+    let (answered, sink) = answer_at(rt, alloc, gate, words, input, step)?;
     Ok(answered == wanted.0 && sink.held() == wanted.1)
 }
 

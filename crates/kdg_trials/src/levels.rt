@@ -1,10 +1,30 @@
 //! What is answered and printed for graphs.
 
 use crate::answering::{
-    Answer, Print, answer, expect_answers, expect_prints, is_answered, tells_more_than,
+    Answer, MODES, Print, answer, answer_at, expect, expect_answers, expect_prints, is_answered_at,
+    prints_in, tells_more_than,
 };
 use kdg_prog::Status;
+use kdg_text::NoRoom;
+use outer_edge::Gate;
+use std::alloc::Global;
+use std::sync::Wait;
 use std::test::Fail;
+use std::thread::Threads;
+use task_order::Key;
+
+/// The gate that takes the second clear task wherever there are two. It isn't open, so that levels are found by
+/// tasks.
+#[derive(Clone, Copy)]
+struct Shut;
+
+impl Gate for Shut {
+    fn choose(&self, _seed: u64, _worker: u32, _turn: u64) -> u64 {
+        1
+    }
+
+    fn pass(&self, _worker: u32, _key: &Key) {}
+}
 
 /// A way to vertex 4 over each of the two vertices next to the first, and one back.
 const DIAMOND: &str =
@@ -40,17 +60,58 @@ const LEVELS: &[Print] = &[
     ),
 ];
 
+/// At the open gate by a search.
 #[test]
 fn levels_are_found(rt: HostRuntime) -> Result<(), Fail> {
     expect_prints(&rt, rt.alloc(), LEVELS)
 }
 
 #[test]
-fn levels_take_a_round_each_and_more(rt: HostRuntime) -> Result<(), Fail> {
-    let print = format!(in rt.alloc(); "{DIAMOND_PRINT}rounds 5\n")?;
-    let wanted = (Status::Ok, print.as_bytes());
-    assert!(rt; is_answered(&rt, rt.alloc(), "levels --stats on", DIAMOND, 4096, wanted)?);
+fn levels_are_found_by_tasks(rt: HostRuntime) -> Result<(), Fail> {
+    for &(words, input, print) in LEVELS {
+        for mode in MODES {
+            let is_wanted = is_found_by_tasks(&rt, rt.alloc(), mode, words, input, print)?;
+            expect(&rt, is_wanted, words, mode);
+        }
+    }
     Ok(())
+}
+
+/// Whether tasks in a mode come to this print.
+fn is_found_by_tasks<R: Threads + Wait + Sync>(
+    rt: &R,
+    alloc: Global,
+    mode: &str,
+    words: &str,
+    input: &str,
+    print: &str,
+) -> Result<bool, NoRoom> {
+    let words = format!(in alloc; "{words} --mode {mode}")?;
+    let wanted = (Status::Ok, print.as_bytes());
+    is_answered_at(rt, alloc, &Shut, &words, input, 4096, wanted)
+}
+
+#[test]
+fn levels_take_a_round_each_and_more(rt: HostRuntime) -> Result<(), Fail> {
+    for mode in ["rounds", "marks"] {
+        let is_wanted = takes_five_rounds(&rt, rt.alloc(), mode)?;
+        expect(&rt, is_wanted, mode, "the number of rounds");
+    }
+    Ok(())
+}
+
+/// Whether a search and tasks, each in a mode, tell that the diamond takes five rounds.
+fn takes_five_rounds<R: Threads + Wait + Sync>(
+    rt: &R,
+    alloc: Global,
+    mode: &str,
+) -> Result<bool, NoRoom> {
+    let words = "levels --stats on";
+    let print = format!(in alloc; "{DIAMOND_PRINT}rounds 5\n")?;
+    let searched = prints_in(rt, alloc, mode, words, DIAMOND, print.as_bytes());
+    let run = is_found_by_tasks(rt, alloc, mode, words, DIAMOND, &print);
+    drop(print);
+    Ok(searched? && run?)
 }
 
 const REFUSED: &[Answer] = &[
@@ -70,7 +131,10 @@ fn searches_are_refused(rt: HostRuntime) -> Result<(), Fail> {
 
 #[test]
 fn a_diamond_makes_more_than_five_tasks(rt: HostRuntime) -> Result<(), Fail> {
-    let (answered, _) = answer(&rt, rt.alloc(), "levels --budget 5", DIAMOND, 4096)?;
+    let words = "levels --budget 5";
+    let (answered, _) = answer(&rt, rt.alloc(), words, DIAMOND, 4096)?;
+    assert!(rt; tells_more_than(&answered, 5));
+    let (answered, _) = answer_at(&rt, rt.alloc(), &Shut, words, DIAMOND, 4096)?;
     assert!(rt; tells_more_than(&answered, 5));
     Ok(())
 }
