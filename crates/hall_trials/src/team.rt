@@ -1,6 +1,6 @@
 //! Teams of workers, each of which begins a hall and closes it again.
 
-ghost use Rattle.std.specs.Prelude.{◌≡◌, ◌+◌, ◌<◌, ◌≤◌, suc, [], None, IfOk, OnOk, length};
+ghost use Rattle.std.specs.Prelude.{◌≡◌, ◌+◌, ◌<◌, ◌≤◌, ◌++◌, ◌∷◌, suc, [], None, IfOk, OnOk, length};
 ghost use Rattle.std.specs.List.{All};
 ghost use Rattle.run_laws.specs.Rest.{NoneRuns};
 ghost use Rattle.hall_trials.specs.Ends.{HasGoneOn};
@@ -140,12 +140,21 @@ fn add_post<'h, 'a, A: App>(
     ensures { OnOk result (ArePosts hall.now (λ post. post.hall.now) (λ post. post.app.now) (λ post. post.seat) (worker + 1) seat.new posts.new.items) }
 {
     let own = hall.split(seat);
-    posts.push(Post {
+    let post = Post {
         app,
         hall,
         seat: own,
         worker,
-    })?;
+    };
+    add_one(posts, post)?;
+    Ok(())
+}
+
+/// Adds a value at the end of a list.
+fn add_one<T: Drop>(list: &mut Vec<T>, value: T) -> Result<(), NoRoom>
+    ensures { OnOk result (list.new.items ≡ list.old.items ++ value ∷ []) }
+{
+    list.push(value)?;
     Ok(())
 }
 

@@ -12,6 +12,7 @@ ghost use Rattle.hall_trials.specs.Seated.{IsLeftBy, IsOnlyJob, IsSeated, jobs_c
 
 use app_laws::App;
 use graph_update::{Claim, Done, Engine};
+use kdg_text::NoRoom;
 use std::marker::Brand;
 use std::sync::Wait;
 use worker_gate::{Did, Hall, Seat, Turn, leaving_laws, turn_laws};
@@ -26,8 +27,8 @@ pub fn claim_in_turn<'h, 'a, R: Wait, A: App>(
     ensures left { IsLeftBy hall.now seat.entry (jobs_claimed result.1 seat.entry.view.jobs) result.0 }
     ensures may_run { IfSome result.1 (IsToRun (A.meaning hall.now.origin.app)) }
 {
-    leaving_laws::<A>();
     let mut turn = hall.enter(rt, seat);
+    leaving_laws::<A>();
     let claim = claim_one(turn.engine());
     (leave_after_claim::<A, Brand>(turn, &claim), claim)
 }
@@ -44,9 +45,9 @@ pub fn end_in_turn<'h, 'a, R: Wait, A: App>(
     requires done { IsOnlyJob (A.meaning hall.now.origin.app) seat.view.jobs done }
     ensures { IsLeftBy hall.now seat.entry (jobs_left result.1 seat.entry.view.jobs) result.0 }
 {
+    let mut turn = hall.enter(rt, seat);
     leaving_laws::<A>();
     turn_laws::<A>();
-    let mut turn = hall.enter(rt, seat);
     let ended = end_one(turn.engine(), done);
     (leave_after_end::<A, Brand>(turn, ended), ended)
 }
@@ -60,8 +61,8 @@ pub fn give_up_in_turn<'h, 'a, R: Wait, A: App>(
     requires { IsSeated hall.now seat }
     ensures { IsLeftBy hall.now seat.entry seat.entry.view.jobs result }
 {
-    leaving_laws::<A>();
     let mut turn = hall.enter(rt, seat);
+    leaving_laws::<A>();
     turn.engine().give_up();
     turn.leave::<Brand>()
 }
@@ -73,7 +74,10 @@ fn claim_one<A: App>(engine: &mut Engine<'_, A>) -> Option<Claim<A::Val>>
     ensures may_run { IfSome result (IsToRun (A.meaning engine.old.app)) }
     ensures unchanged { IfNone result (engine.new ≡ engine.old) }
 {
-    engine.claim(0).ok()
+    match engine.claim(0) {
+        Ok(claim) => Some(claim),
+        Err(NoRoom) => None,
+    }
 }
 
 /// Ends a task, and tells whether that wasn't refused.

@@ -14,4 +14,4 @@ split-own-requires-clause-few g c κs within = let splits = c.requires.posts.spl
 pub returns : goal.returns
 returns g c =
     one_more c.args.hall.now (λ post. post.hall.now) (λ post. post.app.now) (λ post. post.seat) c.requires.posts c.split-own.ensures.left
-    (record { app = c.args.app; hall = c.args.hall; seat = c.split-own.result; worker = c.args.worker }) refl c.requires.app c.split-own.ensures.right c.in_ok-push.ensures.items
+    (record { app = c.args.app; hall = c.args.hall; seat = c.split-own.result; worker = c.args.worker }) refl c.requires.app c.split-own.ensures.right c.in_ok-add_one.ensures
