@@ -9,21 +9,34 @@ use kdg_text::NoRoom;
 use outer_edge::Gate;
 use std::alloc::Global;
 use std::sync::Wait;
+use std::sync::atomic::AtomicU64;
+use std::sync::atomic::Ordering::SeqCst;
 use std::test::Fail;
 use std::thread::Threads;
 use task_order::Key;
 
-/// The gate that takes the second clear task wherever there are two. It isn't open, so that levels are found by
-/// tasks.
-#[derive(Clone, Copy)]
-struct Shut;
+/// The gate that takes the second clear task wherever there are two, and counts the tasks that pass. It isn't open,
+/// so that levels are found by tasks.
+#[derive(Drop)]
+struct Shut {
+    passed: AtomicU64,
+}
 
 impl Gate for Shut {
     fn choose(&self, _seed: u64, _worker: u32, _turn: u64) -> u64 {
         1
     }
 
-    fn pass(&self, _worker: u32, _key: &Key) {}
+    fn pass(&self, _worker: u32, _key: &Key) {
+        self.passed.fetch_add(1, SeqCst);
+    }
+}
+
+/// Such a gate that no task has passed.
+fn closed_gate() -> Shut {
+    Shut {
+        passed: AtomicU64::new(0),
+    }
 }
 
 /// A way to vertex 4 over each of the two vertices next to the first, and one back.
@@ -70,7 +83,15 @@ fn levels_are_found(rt: HostRuntime) -> Result<(), Fail> {
 fn levels_are_found_by_tasks(rt: HostRuntime) -> Result<(), Fail> {
     for &(words, input, print) in LEVELS {
         for mode in MODES {
-            let is_wanted = is_found_by_tasks(&rt, rt.alloc(), mode, words, input, print)?;
+            let is_wanted = is_found_by_tasks(
+                &rt,
+                rt.alloc(),
+                &closed_gate(),
+                mode,
+                words,
+                input,
+                print,
+            )?;
             expect(&rt, is_wanted, words, mode);
         }
     }
@@ -81,6 +102,7 @@ fn levels_are_found_by_tasks(rt: HostRuntime) -> Result<(), Fail> {
 fn is_found_by_tasks<R: Threads + Wait + Sync>(
     rt: &R,
     alloc: Global,
+    gate: &Shut,
     mode: &str,
     words: &str,
     input: &str,
@@ -88,7 +110,7 @@ fn is_found_by_tasks<R: Threads + Wait + Sync>(
 ) -> Result<bool, NoRoom> {
     let words = format!(in alloc; "{words} --mode {mode}")?;
     let wanted = (Status::Ok, print.as_bytes());
-    is_answered_at(rt, alloc, &Shut, &words, input, 4096, wanted)
+    is_answered_at(rt, alloc, gate, &words, input, 4096, wanted)
 }
 
 #[test]
@@ -100,7 +122,7 @@ fn levels_take_a_round_each_and_more(rt: HostRuntime) -> Result<(), Fail> {
     Ok(())
 }
 
-/// Whether a search and tasks, each in a mode, tell that the diamond takes five rounds.
+/// Whether a search and tasks, each in a mode, tell that the diamond takes five rounds. There are six tasks.
 fn takes_five_rounds<R: Threads + Wait + Sync>(
     rt: &R,
     alloc: Global,
@@ -109,9 +131,11 @@ fn takes_five_rounds<R: Threads + Wait + Sync>(
     let words = "levels --stats on";
     let print = format!(in alloc; "{DIAMOND_PRINT}rounds 5\n")?;
     let searched = prints_in(rt, alloc, mode, words, DIAMOND, print.as_bytes());
-    let run = is_found_by_tasks(rt, alloc, mode, words, DIAMOND, &print);
+    let gate = closed_gate();
+    let run = is_found_by_tasks(rt, alloc, &gate, mode, words, DIAMOND, &print);
+    let passed = gate.passed.load(SeqCst);
     drop(print);
-    Ok(searched? && run?)
+    Ok(searched? && run? && passed == 6)
 }
 
 const REFUSED: &[Answer] = &[
@@ -134,7 +158,7 @@ fn a_diamond_makes_more_than_five_tasks(rt: HostRuntime) -> Result<(), Fail> {
     let words = "levels --budget 5";
     let (answered, _) = answer(&rt, rt.alloc(), words, DIAMOND, 4096)?;
     assert!(rt; tells_more_than(&answered, 5));
-    let (answered, _) = answer_at(&rt, rt.alloc(), &Shut, words, DIAMOND, 4096)?;
+    let (answered, _) = answer_at(&rt, rt.alloc(), &closed_gate(), words, DIAMOND, 4096)?;
     assert!(rt; tells_more_than(&answered, 5));
     Ok(())
 }
