@@ -5,7 +5,7 @@ ghost use Rattle.std.specs.Prelude.{◌≤◌};
 use super::decks::C17;
 use super::driving::Answer;
 use super::rounds::{start_ends_in_rounds, start_is_over_in_rounds};
-use super::trials::{answer_after, begin_fault, counts_after, is_over_at_first_end};
+use super::trials::{answer_after, begin_fault, counts_after, is_over_at_first_end, performed_in_turn};
 use bench_reader::read_deck;
 use graph_update::{BeginFault, Counts, OverCause};
 use kdg_text::NoRoom;
@@ -77,6 +77,20 @@ fn children_follow_the_tasks_that_ended(rt: HostRuntime) -> Result<(), Fail> {
         running: 1,
     };
     assert!(rt; c17_counts(rt.alloc(), IN_TURN, &path)? == Some(wanted));
+    Ok(())
+}
+
+/// How many first tasks are performed in turn, where one is claimed.
+fn c17_in_turn(alloc: Global) -> Result<usize, Fail> {
+    let c17 = c17(alloc)?;
+    let performed = performed_in_turn(alloc, &c17);
+    drop(c17);
+    Ok(performed?)
+}
+
+#[test]
+fn a_claimed_job_is_performed_in_turn(rt: HostRuntime) -> Result<(), Fail> {
+    assert!(rt; c17_in_turn(rt.alloc())? == 1);
     Ok(())
 }
 

@@ -10,9 +10,12 @@ use super::driving::{
 use super::starts::Startable;
 use app_laws::App;
 use cell_store::Held;
-use graph_update::{BeginFault, Counts, Done, Engine, FinishFault, OverCause};
+use graph_update::{BeginFault, Claim, Counts, Done, Engine, FinishFault, OverCause};
 use kdg_text::NoRoom;
+use outer_edge::Seeded;
+use source_pool::perform_in_turn;
 use std::alloc::Global;
+use std::collections::VecDeque;
 use task_order::Path;
 
 /// An engine at an application's start, with no job in hand.
@@ -103,6 +106,24 @@ fn gives_after<A: App>(
         Ok(()) => gives(engine, &mut jobs, 0, path),
         Err(_) => Ok(false),
     }
+}
+
+/// How many of its first tasks, if one is claimed, two workers perform in turn.
+pub fn performed_in_turn<A: Startable>(alloc: Global, app: &A) -> Result<usize, BeginFault> {
+    let mut engine = start(alloc, app, 1000)?;
+    let performed = first_in_turn(alloc, &mut engine);
+    drop(engine);
+    Ok(performed?)
+}
+
+fn first_in_turn<A: App>(alloc: Global, engine: &mut Engine<'_, A>) -> Result<usize, NoRoom> {
+    let Claim::Job(job) = engine.claim(0)? else {
+        return Ok(0);
+    };
+    let (mut jobs, mut dones) = (VecDeque::new(alloc), VecDeque::new(alloc));
+    jobs.push_back(job)?;
+    perform_in_turn(engine.app(), &Seeded, 0..2, &mut jobs, &mut dones)?;
+    Ok(dones.len())
 }
 
 /// Whether the first task comes back, that of the path, since its only child is one task more than

@@ -10,7 +10,6 @@ pub mod Leading
 pub mod LeadInTurn
 pub mod Moves
 pub mod Numbers
-pub mod PerformedInOrder
 pub mod Seats
 pub mod Streaming
 pub mod Told

@@ -6,7 +6,7 @@ ghost use Rattle.free_pool.specs.Streams.{IsFrontTold, IsTellable, IsToldTo, tex
 ghost use Rattle.free_pool.specs.Team.{HasWorked, MayWork};
 
 use crate::bell::Bell;
-use crate::hand::{Hand, perform_all};
+use crate::hand::Hand;
 use crate::lead_turn::{LeadTurned, Wish, take_lead_turn};
 use crate::pick::Pick;
 use crate::plan::Plan;
@@ -16,6 +16,7 @@ use kdg_text::{NoRoom, Steps, Text};
 use outer_edge::{Gate, Sink};
 use output_log::part_laws;
 use source_pool::laws::telling_laws;
+use source_pool::perform_in_turn;
 use std::alloc::Global;
 use std::marker::Brand;
 use std::sync::Wait;
@@ -165,7 +166,8 @@ fn work_counted<'h, 'a, R: Wait, A: App, G: Gate, K: Sink, L: Ledger>(
         match turned.next {
             Next::Perform => {
                 let jobs = &mut hand.jobs;
-                let Ok(()) = perform_all(app, gate, worker, jobs, &mut hand.dones) else {
+                let workers = worker..worker.saturating_add(1);
+                let Ok(()) = perform_in_turn(app, gate, workers, jobs, &mut hand.dones) else {
                     return (give_up(rt, hall, seat, bell), Err(NoRoom));
                 };
             }

@@ -5,12 +5,13 @@ ghost use Rattle.free_pool.specs.Team.{HasWorked, MayWork};
 ghost use Rattle.free_pool.specs.Turns.{IsSeated};
 
 use crate::bell::Bell;
-use crate::hand::{Hand, perform_all};
+use crate::hand::Hand;
 use crate::plan::Plan;
 use crate::turns::{Next, give_up, take_turn};
 use app_laws::App;
 use kdg_text::Steps;
 use outer_edge::Gate;
+use source_pool::perform_in_turn;
 use std::alloc::Global;
 use std::marker::Brand;
 use std::sync::Wait;
@@ -79,7 +80,8 @@ fn work_counted<'h, 'a, R: Wait, A: App, G: Gate, L: Ledger>(
         match turned.next {
             Next::Perform => {
                 let jobs = &mut hand.jobs;
-                let Ok(()) = perform_all(app, gate, worker, jobs, &mut hand.dones) else {
+                let workers = worker..worker.saturating_add(1);
+                let Ok(()) = perform_in_turn(app, gate, workers, jobs, &mut hand.dones) else {
                     return give_up(rt, hall, seat, bell);
                 };
             }

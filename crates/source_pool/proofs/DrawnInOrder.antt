@@ -10,10 +10,10 @@ use Rattle.run_laws.specs.Events.{IsClaimed, clear_nodes}
 use Rattle.run_laws.specs.Jobs.{Claim, Job}
 use Rattle.run_laws.specs.Progress.{Progress}
 use Rattle.crew.specs.declared.answers.Claim.TheVariants as claim
-use Rattle.source_pool.specs.Course.{job_tasks}
+use Rattle.source_pool.specs.Course.{AreDrawn, job_tasks}
 use Rattle.source_pool.specs.Laws.{ClaimsGoInKeyOrder, ClaimsGoOn}
 use Rattle.source_pool.specs.declared.shares.Share.{Share}
-use Rattle.source_pool.specs.Performing.{AreDrawn, AreOfShares, HasDrawn, IsShareOf}
+use Rattle.source_pool.specs.Performing.{AreOfShares, HasDrawn, IsShareOf}
 
 joined_tasks : {V : Type 0} (own more : List (Job V)) (left : List Task) → job_tasks own ++ (job_tasks more ++ left) ≡ job_tasks (own ++ more) ++ left
 joined_tasks [] more left = refl

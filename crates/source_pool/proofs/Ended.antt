@@ -9,10 +9,10 @@ use Rattle.run_laws.specs.Events.{IsFinished, IsOverLimit}
 use Rattle.run_laws.specs.Jobs.{Done, FinishFault, Job}
 use Rattle.run_laws.specs.Laws.{IsDone}
 use Rattle.run_laws.specs.Progress.{Progress}
-use Rattle.source_pool.specs.Course.{IsJobDone, RunPoint}
+use Rattle.source_pool.specs.Course.{AreToEnd, IsJobDone, RunPoint}
 use Rattle.source_pool.specs.KeptLaws.{EndsPassWithTheRound}
 use Rattle.source_pool.specs.Laws.{EndsGoOn, FirstMayEnd, TooManyNeverEnd}
-use Rattle.source_pool.specs.Performing.{AreDone, AreToEnd, EndAtFault, HaveEnded}
+use Rattle.source_pool.specs.Performing.{AreDone, EndAtFault, HaveEnded}
 use Rattle.source_pool.proofs.Faults.{ends_pass, passes_at, refused}
 
 module _ {V : Type 0} (app : Application V) where

@@ -5,8 +5,9 @@ use Rattle.app_laws.specs.Applications.{Application}
 use Rattle.crew.specs.declared.answers.OverCause.{OverCause}
 use Rattle.run_laws.specs.Jobs.{Job}
 use Rattle.run_laws.specs.Progress.{Progress}
-use Rattle.source_pool.specs.Course.{RunPoint}
-use Rattle.source_pool.specs.Performing.{AreToEnd, EndAtFault, HaveEnded, IsEndFault, MayEnd}
+use Rattle.source_pool.specs.Course.{AreToEnd, RunPoint}
+use Rattle.source_pool.specs.Performing.{EndAtFault, HaveEnded, MayEnd}
+use Rattle.source_pool.specs.Round.{IsEndFault}
 
 -- some jobs are such a first part and such a second one
 pub record Parts {V : Type 0} (AreFirst AreMore : List (Job V) → Type 0) (jobs : List (Job V)) : Type 0 where

@@ -3,6 +3,7 @@ use Rattle.std.specs.Prelude.{◌≡◌, ◌≢◌, ℕ, zero, suc, List, [], ma
 use Rattle.std.specs.List.{AllByRecursion}
 use Rattle.task_order.specs.declared.task.Task.{Task}
 use Rattle.task_order.specs.TaskList.{IsAscending}
+use Rattle.cell_store.specs.Values.{values_of}
 use Rattle.output_log.specs.Entries.{Entry, joined_texts}
 use Rattle.kdg_graph.specs.declared.node_id.NodeId.{NodeId}
 use Rattle.kdg_graph.specs.Node.{Node}
@@ -80,3 +81,15 @@ module _ {V : Type 0} (app : Application V) where
       pub course : IsOnCourse text now jobs values
       pub in_order : IsAscending (job_tasks jobs)
       pub leads : after_tasks app.act (job_tasks jobs) (whole_state now values) ≡ target
+
+  -- at this point of a run nothing is running
+  abbrev pub RestsAt : RunPoint V → Progress V → Type 0
+  RestsAt point now = IsAtRest point.start (values_of point.start.cells) point.state point.text now
+
+  -- these jobs are drawn of the round that began at the point
+  abbrev pub AreDrawn : RunPoint V → Progress V → List (Job V) → Type 0
+  AreDrawn point now jobs = IsDrawing point.start (values_of point.start.cells) point.state point.text now jobs
+
+  -- these jobs are left to end, and the run comes to the point then
+  abbrev pub AreToEnd : RunPoint V → Progress V → List (Job V) → Type 0
+  AreToEnd point now jobs = IsEnding point.start (values_of point.start.cells) point.state point.text now jobs

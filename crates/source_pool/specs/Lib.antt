@@ -5,6 +5,7 @@ pub mod KeptLaws
 pub mod Laws
 pub mod Legs
 pub mod Performing
+pub mod Round
 pub mod Runs
 pub mod Staffing
 pub mod Streams

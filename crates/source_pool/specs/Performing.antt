@@ -2,7 +2,6 @@
 use Rattle.std.specs.Prelude.{◌≡◌, ◌+◌, ◌%◌, ◌==◌, ◌++◌, if◌then◌else◌, ℕ, true, List, [], ◌∷◌, length, slice_get, Option, Some, None, IfSome, IsPermutation}
 use Rattle.std.specs.List.{All, AllByRecursion, AllZip, flat_map}
 use Rattle.std.specs.Option.{option_map}
-use Rattle.cell_store.specs.Values.{values_of}
 use Rattle.kdg_graph.specs.Nodes.{tasks_of}
 use Rattle.app_laws.specs.Applications.{Application}
 use Rattle.crew.specs.declared.answers.OverCause.{OverCause}
@@ -12,9 +11,8 @@ use Rattle.run_laws.specs.Jobs.{Done, Job}
 use Rattle.run_laws.specs.Progress.{Progress}
 use Rattle.source_pool.specs.declared.hands.Hand.{Hand}
 use Rattle.source_pool.specs.declared.shares.Share.{Share}
-use Rattle.source_pool.specs.Course.{IsDrawing, IsEnding, IsJobDone, RunPoint, job_tasks}
-use Rattle.source_pool.specs.Kept.{PassesWith}
-use Rattle.source_pool.specs.Runs.{IsRunFault}
+use Rattle.source_pool.specs.Course.{AreDrawn, AreToEnd, IsJobDone, RunPoint, job_tasks}
+use Rattle.source_pool.specs.Round.{IsEndFault}
 
 -- of items numbered from a first number on, those whose number leaves the worker's when it is divided by the count of workers
 abbrev pub share : {X : Type 0} → ℕ → ℕ → ℕ → List X → List X
@@ -68,15 +66,9 @@ gathered (hand ∷ hands) = if hand.is_done then option_map (λ rest. hand.dones
 -- ---- jobs in hand, while others are drawn and the first ones end
 
 module _ {V : Type 0} (app : Application V) where
-  abbrev pub AreDrawn : RunPoint V → Progress V → List (Job V) → Type 0
-  AreDrawn point now jobs = IsDrawing app point.start (values_of point.start.cells) point.state point.text now jobs
-
-  abbrev pub AreToEnd : RunPoint V → Progress V → List (Job V) → Type 0
-  AreToEnd point now jobs = IsEnding app point.start (values_of point.start.cells) point.state point.text now jobs
-
   -- wherever the run began, and whatever was drawn before, such jobs are drawn now too: those of the first clear nodes
   abbrev pub HasDrawn : (List (Job V) → Type 0) → Progress V → Progress V → Type 0
-  HasDrawn AreSuch old now = (from : RunPoint V) (before : List (Job V)) → AreDrawn from old before → (jobs : List (Job V)) × AreSuch jobs × AreDrawn from now (before ++ jobs)
+  HasDrawn AreSuch old now = (from : RunPoint V) (before : List (Job V)) → AreDrawn app from old before → (jobs : List (Job V)) × AreSuch jobs × AreDrawn app from now (before ++ jobs)
       × (tasks_of (clear_nodes app old.nodes) ≡ job_tasks jobs ++ tasks_of (clear_nodes app now.nodes))
 
   -- such jobs are the next to end
@@ -85,20 +77,15 @@ module _ {V : Type 0} (app : Application V) where
     pub jobs : List (Job V)
     pub others : List (Job V)
     pub such : AreSuch jobs
-    pub ending : AreToEnd to now (jobs ++ others)
+    pub ending : AreToEnd app to now (jobs ++ others)
 
   -- whatever such jobs were the next to end, and whatever others after them, these others are left
   abbrev pub HaveEnded : (List (Job V) → Type 0) → Progress V → Progress V → Type 0
-  HaveEnded AreSuch old now = (to : RunPoint V) (jobs others : List (Job V)) → AreSuch jobs → AreToEnd to old (jobs ++ others) → AreToEnd to now others × (now.ended ≡ old.ended + length jobs)
-
-  -- the run is at fault, and where it passed the limit, it does with this many ended tasks
-  pub record IsEndFault (to : RunPoint V) (many : ℕ) (why : OverCause) : Type 0 where
-    pub fault : IsRunFault app to.start why
-    pub passes : PassesWith to.start.limit many to.state why
+  HaveEnded AreSuch old now = (to : RunPoint V) (jobs others : List (Job V)) → AreSuch jobs → AreToEnd app to old (jobs ++ others) → AreToEnd app to now others × (now.ended ≡ old.ended + length jobs)
 
   -- whatever such jobs were the next to end, and whatever others after them, the run is at fault, with all of them
   abbrev pub EndAtFault : (List (Job V) → Type 0) → Progress V → OverCause → Type 0
-  EndAtFault AreSuch old why = (to : RunPoint V) (jobs others : List (Job V)) → AreSuch jobs → AreToEnd to old (jobs ++ others) → IsEndFault to (old.ended + length (jobs ++ others)) why
+  EndAtFault AreSuch old why = (to : RunPoint V) (jobs others : List (Job V)) → AreSuch jobs → AreToEnd app to old (jobs ++ others) → IsEndFault app to (old.ended + length (jobs ++ others)) why
 
 -- ---- jobs that kept workers are given
 

@@ -1,12 +1,10 @@
 //! How the clear tasks of a round act one after the other.
 
-ghost use Rattle.std.specs.Prelude.{◌≡◌, ◌≢◌, ◌+◌, ◌<◌, [], length, IfErr, OnOk};
+ghost use Rattle.std.specs.Prelude.{◌≡◌, ◌+◌, length, IfErr, OnOk};
 ghost use Rattle.cell_store.specs.Values.{values_of};
-ghost use Rattle.commuting.specs.Rounds.{after_round, clear_tasks};
 ghost use Rattle.kdg_graph.specs.Nodes.{HasNode};
-ghost use Rattle.source_pool.specs.Course.{IsActing, IsAtRest, RunPoint};
-ghost use Rattle.source_pool.specs.Kept.{PassesWith};
-ghost use Rattle.source_pool.specs.Runs.{IsRunFault};
+ghost use Rattle.source_pool.specs.Course.{IsActing, RestsAt, RunPoint};
+ghost use Rattle.source_pool.specs.Round.{BeginsRound, IsEndFault, IsRoundFault, IsRoundPlayed};
 
 use crate::RunFault;
 use crate::laws::{acting_laws, kept_laws};
@@ -25,15 +23,11 @@ pub(crate) fn act_round<A: App, L: Ledger>(
     steps: &mut Steps<L>,
 ) -> Result<(), RunFault>
     ghost from: { RunPoint A.Val }
-    requires rest { IsAtRest (A.meaning engine.old.app) from.start (values_of from.start.cells) from.state from.text engine.old.progress }
-    requires some { engine.old.progress.nodes ≢ [] }
+    requires begins { BeginsRound (A.meaning engine.old.app) from engine.old.progress }
     ensures app { engine.new.app ≡ engine.old.app }
     ensures told { lists.new.partners ≡ lists.old.partners }
-    ensures rest { OnOk result (IsAtRest (A.meaning engine.old.app) from.start (values_of from.start.cells) (after_round (A.meaning engine.old.app) from.state) from.text engine.new.progress) }
-    ensures ended { OnOk result (engine.old.progress.ended < engine.new.progress.ended) }
-    ensures counted { OnOk result (engine.new.progress.ended ≡ engine.old.progress.ended + length (clear_tasks (A.meaning engine.old.app) from.state)) }
-    ensures fault { IfErr result (IsRunFault (A.meaning engine.old.app) from.start) }
-    ensures passed { IfErr result (PassesWith from.start.limit (engine.old.progress.ended + length (clear_tasks (A.meaning engine.old.app) from.state)) (after_round (A.meaning engine.old.app) from.state)) }
+    ensures played { OnOk result (IsRoundPlayed (A.meaning engine.old.app) from from.text engine.old.progress engine.new.progress) }
+    ensures fault { IfErr result (IsRoundFault (A.meaning engine.old.app) from engine.old.progress) }
 {
     acting_laws::<A>();
     kept_laws::<A>();
@@ -54,10 +48,9 @@ fn act_in_turn<A: App, L: Ledger>(
     ghost to: { RunPoint A.Val }
     requires acting { IsActing (A.meaning engine.old.app) to.start (values_of to.start.cells) to.state to.text engine.old.progress ids.now }
     ensures app { engine.new.app ≡ engine.old.app }
-    ensures rest { OnOk result (IsAtRest (A.meaning engine.old.app) to.start (values_of to.start.cells) to.state to.text engine.new.progress) }
+    ensures rest { OnOk result (RestsAt (A.meaning engine.old.app) to engine.new.progress) }
     ensures ended { OnOk result (engine.new.progress.ended ≡ engine.old.progress.ended + length ids.now) }
-    ensures fault { IfErr result (IsRunFault (A.meaning engine.old.app) to.start) }
-    ensures passed { IfErr result (PassesWith to.start.limit (engine.old.progress.ended + length ids.now) to.state) }
+    ensures fault { IfErr result (IsEndFault (A.meaning engine.old.app) to (engine.old.progress.ended + length ids.now)) }
 {
     acting_laws::<A>();
     kept_laws::<A>();

@@ -2,10 +2,9 @@
 
 ghost use Rattle.std.specs.Prelude.{◌≡◌, [], None, OnOk};
 ghost use Rattle.std.specs.List.{AllByRecursion};
-ghost use Rattle.cell_store.specs.Values.{values_of};
 ghost use Rattle.crew.specs.Jobs.{MayRun};
 ghost use Rattle.run_laws.specs.Events.{clear_nodes};
-ghost use Rattle.source_pool.specs.Course.{IsAtRest, RunPoint, IsDrawing};
+ghost use Rattle.source_pool.specs.Course.{AreDrawn, RestsAt, RunPoint};
 ghost use Rattle.source_pool.specs.Performing.{HasDrawn};
 
 use crate::laws::drawing_laws;
@@ -81,9 +80,9 @@ pub(crate) fn draw<A: App, G: Gate>(
     jobs: &mut VecDeque<Job<A::Val>>,
 ) -> Result<(), NoRoom>
     ghost from: { RunPoint A.Val }
-    requires rest { IsAtRest (A.meaning engine.old.app) from.start (values_of from.start.cells) from.state from.text engine.old.progress }
+    requires rest { RestsAt (A.meaning engine.old.app) from engine.old.progress }
     ensures app { engine.new.app ≡ engine.old.app }
-    ensures drawing { OnOk result (IsDrawing (A.meaning engine.old.app) from.start (values_of from.start.cells) from.state from.text engine.new.progress jobs.new.items) }
+    ensures drawing { OnOk result (AreDrawn (A.meaning engine.old.app) from engine.new.progress jobs.new.items) }
     ensures none_clear { OnOk result (clear_nodes (A.meaning engine.old.app) engine.new.progress.nodes ≡ []) }
     ensures may_run { OnOk result (AllByRecursion (MayRun (A.meaning engine.old.app)) jobs.new.items) }
     ensures ended { OnOk result (engine.new.progress.ended ≡ engine.old.progress.ended) }

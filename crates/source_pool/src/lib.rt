@@ -22,4 +22,5 @@ mod work;
 
 pub use flow::Flow;
 pub use graph_update::OverCause as RunFault;
+pub use performing::perform_in_turn;
 pub use rounds::{rounds_to, run_rounds};

@@ -1,13 +1,10 @@
 //! Workers that are kept over the rounds of a run.
 
-ghost use Rattle.std.specs.Prelude.{◌≡◌, ◌≢◌, ◌+◌, ◌<◌, [], length, IfErr, IfOk, OnOk};
+ghost use Rattle.std.specs.Prelude.{◌≡◌, IfErr, IfOk, OnOk};
 ghost use Rattle.std.specs.List.{All, AllZip};
-ghost use Rattle.cell_store.specs.Values.{values_of};
-ghost use Rattle.commuting.specs.Rounds.{after_round, clear_tasks};
-ghost use Rattle.source_pool.specs.Course.{IsAtRest, RunPoint};
-ghost use Rattle.source_pool.specs.Kept.{PassesWith};
+ghost use Rattle.source_pool.specs.Course.{RunPoint};
 ghost use Rattle.source_pool.specs.Performing.{IsPlayed, IsTold, MayPlay};
-ghost use Rattle.source_pool.specs.Runs.{IsRunFault};
+ghost use Rattle.source_pool.specs.Round.{BeginsRound, IsRoundFault, IsRoundPlayed};
 
 use crate::RunFault;
 use crate::crossing::post_sends;
@@ -157,15 +154,11 @@ impl<A: App> Partners<A> {
     ) -> Result<(), RunFault>
         ghost from: { RunPoint A.Val }
         requires told { self.old ≡ engine.old.app }
-        requires rest { IsAtRest (A.meaning engine.old.app) from.start (values_of from.start.cells) from.state from.text engine.old.progress }
-        requires some { engine.old.progress.nodes ≢ [] }
+        requires begins { BeginsRound (A.meaning engine.old.app) from engine.old.progress }
         ensures app { engine.new.app ≡ engine.old.app }
         ensures told { self.new ≡ self.old }
-        ensures rest { OnOk result (IsAtRest (A.meaning engine.old.app) from.start (values_of from.start.cells) (after_round (A.meaning engine.old.app) from.state) from.text engine.new.progress) }
-        ensures ended { OnOk result (engine.old.progress.ended < engine.new.progress.ended) }
-        ensures counted { OnOk result (engine.new.progress.ended ≡ engine.old.progress.ended + length (clear_tasks (A.meaning engine.old.app) from.state)) }
-        ensures fault { IfErr result (IsRunFault (A.meaning engine.old.app) from.start) }
-        ensures passed { IfErr result (PassesWith from.start.limit (engine.old.progress.ended + length (clear_tasks (A.meaning engine.old.app) from.state)) (after_round (A.meaning engine.old.app) from.state)) }
+        ensures played { OnOk result (IsRoundPlayed (A.meaning engine.old.app) from from.text engine.old.progress engine.new.progress) }
+        ensures fault { IfErr result (IsRoundFault (A.meaning engine.old.app) from engine.old.progress) }
     {
         share_round(engine, gate, each, &mut self.list, own, steps)
     }

@@ -1,13 +1,11 @@
 //! How the jobs of a round are performed by some workers.
 
-ghost use Rattle.std.specs.Prelude.{◌≡◌, ◌≢◌, ◌+◌, ◌-◌, ◌<◌, ◌≤◌, ◌^◌, [], List, min, length, sum_by, OnOk};
+ghost use Rattle.std.specs.Prelude.{◌≡◌, ◌+◌, ◌-◌, ◌<◌, ◌≤◌, ◌^◌, List, min, length, sum_by, OnOk};
 ghost use Rattle.std.specs.List.{AllByRecursion, AllZip};
-ghost use Rattle.cell_store.specs.Values.{values_of};
-ghost use Rattle.commuting.specs.Rounds.{after_round, clear_tasks};
 ghost use Rattle.crew.specs.Jobs.{MayRun};
-ghost use Rattle.run_laws.specs.Jobs.{Job};
-ghost use Rattle.source_pool.specs.Course.{IsAtRest, IsEnding, IsJobDone, RunPoint};
+ghost use Rattle.source_pool.specs.Course.{IsJobDone, RunPoint};
 ghost use Rattle.source_pool.specs.Performing.{AreDone, AreDoneInSomeTurn};
+ghost use Rattle.source_pool.specs.Round.{BeginsRound, IsRoundDrawn};
 
 use crate::claiming::{Picks, draw};
 use crate::finishing::order_ends;
@@ -36,15 +34,11 @@ pub(crate) fn perform_round<R: Threads + Sync, A: App + Sync, G: Gate + Sync>(
 ) -> Result<(), NoRoom>
     ghost from: { RunPoint A.Val }
     requires workers { 1 ≤ workers }
-    requires rest { IsAtRest (A.meaning engine.old.app) from.start (values_of from.start.cells) from.state from.text engine.old.progress }
-    requires some { engine.old.progress.nodes ≢ [] }
+    requires begins { BeginsRound (A.meaning engine.old.app) from engine.old.progress }
     requires told { lists.old.partners ≡ engine.old.app }
     ensures app { engine.new.app ≡ engine.old.app }
     ensures told { lists.new.partners ≡ lists.old.partners }
-    ensures ending { OnOk result ((turn : List (Job A.Val)) × AreDone (A.meaning engine.old.app) lists.new.dones.items turn × IsEnding (A.meaning engine.old.app) from.start (values_of from.start.cells) (after_round (A.meaning engine.old.app) from.state) from.text engine.new.progress turn) }
-    ensures some { OnOk result (0 < length lists.new.dones.items) }
-    ensures as_many { OnOk result (length lists.new.dones.items ≡ length (clear_tasks (A.meaning engine.old.app) from.state)) }
-    ensures ended { OnOk result (engine.new.progress.ended ≡ engine.old.progress.ended) }
+    ensures drawn { OnOk result (IsRoundDrawn (A.meaning engine.old.app) from (AreDone (A.meaning engine.old.app) lists.new.dones.items) engine.old.progress engine.new.progress) }
 {
     drawing_laws::<A>();
     kept_laws::<A>();
@@ -91,11 +85,13 @@ fn cells_in<V: Held>(jobs: &VecDeque<Job<V>>) -> usize
     cells
 }
 
-/// Performs the jobs in order, as these workers in turn, each job once the gate lets its worker pass. The
-/// list then has what was done, in that order; what was in it is dropped. Room for all of it is made first, and
-/// a job isn't handed to `perform`: what holds either a done task or a job that comes back would be moved twice.
+/// Performs the jobs in order, as these workers in turn, each job once the gate lets its worker pass: the first
+/// job as the first of `workers`, and the one behind the last worker's as the first again. `dones` then has what
+/// was done, in that order; what was in it is dropped. For want of memory the jobs that are left stay.
+// Room for all of it is made first, and a job isn't handed to `crew::perform`: what holds either a done task or
+// a job that comes back would be moved twice.
 #[inline(always)]
-pub(crate) fn perform_in_turn<A: App, G: Gate>(
+pub fn perform_in_turn<A: App, G: Gate>(
     app: &A,
     gate: &G,
     workers: Range<u32>,

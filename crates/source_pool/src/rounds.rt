@@ -1,15 +1,14 @@
-ghost use Rattle.std.specs.Prelude.{◌≡◌, ◌≢◌, ◌+◌, ◌<◌, ◌≤◌, ◌^◌, [], None, true, false, ℕ, List, length, IsTrue, IfOk, IfErr, OnErr, OnOk};
+ghost use Rattle.std.specs.Prelude.{◌≡◌, ◌≢◌, ◌+◌, ◌<◌, ◌≤◌, ◌^◌, [], None, true, false, ℕ, List, IsTrue, IfOk, IfErr, OnErr, OnOk};
 ghost use Rattle.cell_store.specs.Values.{values_of};
 ghost use Rattle.app_laws.specs.Applications.{PathsAreIgnored};
-ghost use Rattle.commuting.specs.Rounds.{after_round, clear_tasks};
 ghost use Rattle.run_laws.specs.Events.{drainable};
 ghost use Rattle.run_laws.specs.Progress.{Progress};
 ghost use Rattle.run_laws.specs.Rest.{NoneRuns};
 ghost use Rattle.outer_edge.specs.Transfers.{transfer_of};
 ghost use Rattle.output_log.specs.Entries.{with_texts};
-ghost use Rattle.source_pool.specs.Course.{IsAtRest, LeadsByRounds, RunPoint};
-ghost use Rattle.source_pool.specs.Kept.{PassesWith};
+ghost use Rattle.source_pool.specs.Course.{RunPoint};
 ghost use Rattle.source_pool.specs.Legs.{BeginsAtRest};
+ghost use Rattle.source_pool.specs.Round.{BeginsRound, IsRoundFault, IsRoundPlayed};
 ghost use Rattle.source_pool.specs.Runs.{IsRoundsEnd, IsRunFault};
 ghost use Rattle.source_pool.specs.Streams.{IsCutShort, IsFitFlow, IsFlow, IsOnLeg, IsToldEnd};
 ghost use Rattle.text_outlet.specs.Sending.{TellsMore, TellsOn};
@@ -280,22 +279,18 @@ fn play_round<R: Threads + Sync, A: App + Sync, G: Gate + Sync, K: Sink, L: Ledg
 ) -> Result<(), RunFault>
     ghost from: { RunPoint A.Val }
     requires workers { 1 ≤ workers }
-    requires rest { IsAtRest (A.meaning engine.old.app) from.start (values_of from.start.cells) from.state from.text engine.old.progress }
-    requires some { engine.old.progress.nodes ≢ [] }
+    requires begins { BeginsRound (A.meaning engine.old.app) from engine.old.progress }
     requires text { outlet.old.told ≡ from.text }
     requires partners { lists.old.partners ≡ engine.old.app }
     ensures app { engine.new.app ≡ engine.old.app }
     ensures partners { lists.new.partners ≡ lists.old.partners }
-    ensures rest { OnOk result (IsAtRest (A.meaning engine.old.app) from.start (values_of from.start.cells) (after_round (A.meaning engine.old.app) from.state) outlet.new.told engine.new.progress) }
-    ensures ended { OnOk result (engine.old.progress.ended < engine.new.progress.ended) }
-    ensures counted { OnOk result (engine.new.progress.ended ≡ engine.old.progress.ended + length (clear_tasks (A.meaning engine.old.app) from.state)) }
+    ensures played { OnOk result (IsRoundPlayed (A.meaning engine.old.app) from outlet.new.told engine.old.progress engine.new.progress) }
+    ensures fault { IfErr result (IsRoundFault (A.meaning engine.old.app) from engine.old.progress) }
     ensures drained { OnOk result (outlet.old.has_failed ≡ false → drainable (A.meaning engine.old.app) engine.new.progress.nodes engine.new.progress.log ≡ []) }
     ensures same { outlet.old.has_failed ≡ true → outlet.new.told ≡ outlet.old.told }
     ensures told { OnOk result (TellsOn K.contents K.faults outlet.old out.old outlet.new out.new) }
     ensures nothing_told { OnErr result ((outlet.new ≡ outlet.old) × (out.new ≡ out.old)) }
     ensures stays { outlet.old.has_failed ≡ true → outlet.new.has_failed ≡ true }
-    ensures fault { IfErr result (IsRunFault (A.meaning engine.old.app) from.start) }
-    ensures passed { IfErr result (PassesWith from.start.limit (engine.old.progress.ended + length (clear_tasks (A.meaning engine.old.app) from.state)) (after_round (A.meaning engine.old.app) from.state)) }
     ensures same_room { K.room out.new ≡ K.room out.old }
 {
     draining_laws::<A>();
@@ -318,16 +313,12 @@ fn act_or_perform<R: Threads + Sync, A: App + Sync, G: Gate + Sync, L: Ledger>(
 ) -> Result<(), RunFault>
     ghost from: { RunPoint A.Val }
     requires workers { 1 ≤ workers }
-    requires rest { IsAtRest (A.meaning engine.old.app) from.start (values_of from.start.cells) from.state from.text engine.old.progress }
-    requires some { engine.old.progress.nodes ≢ [] }
+    requires begins { BeginsRound (A.meaning engine.old.app) from engine.old.progress }
     requires partners { lists.old.partners ≡ engine.old.app }
     ensures app { engine.new.app ≡ engine.old.app }
     ensures partners { lists.new.partners ≡ lists.old.partners }
-    ensures rest { OnOk result (IsAtRest (A.meaning engine.old.app) from.start (values_of from.start.cells) (after_round (A.meaning engine.old.app) from.state) from.text engine.new.progress) }
-    ensures ended { OnOk result (engine.old.progress.ended < engine.new.progress.ended) }
-    ensures counted { OnOk result (engine.new.progress.ended ≡ engine.old.progress.ended + length (clear_tasks (A.meaning engine.old.app) from.state)) }
-    ensures fault { IfErr result (IsRunFault (A.meaning engine.old.app) from.start) }
-    ensures passed { IfErr result (PassesWith from.start.limit (engine.old.progress.ended + length (clear_tasks (A.meaning engine.old.app) from.state)) (after_round (A.meaning engine.old.app) from.state)) }
+    ensures played { OnOk result (IsRoundPlayed (A.meaning engine.old.app) from from.text engine.old.progress engine.new.progress) }
+    ensures fault { IfErr result (IsRoundFault (A.meaning engine.old.app) from engine.old.progress) }
 {
     if picks.gate().is_open() && lists.work.stays_alone(workers) {
         act_round(engine, lists, steps)
@@ -349,16 +340,12 @@ fn perform_and_end<R: Threads + Sync, A: App + Sync, G: Gate + Sync, L: Ledger>(
 ) -> Result<(), RunFault>
     ghost from: { RunPoint A.Val }
     requires workers { 1 ≤ workers }
-    requires rest { IsAtRest (A.meaning engine.old.app) from.start (values_of from.start.cells) from.state from.text engine.old.progress }
-    requires some { engine.old.progress.nodes ≢ [] }
+    requires begins { BeginsRound (A.meaning engine.old.app) from engine.old.progress }
     requires partners { lists.old.partners ≡ engine.old.app }
     ensures app { engine.new.app ≡ engine.old.app }
     ensures partners { lists.new.partners ≡ lists.old.partners }
-    ensures rest { OnOk result (IsAtRest (A.meaning engine.old.app) from.start (values_of from.start.cells) (after_round (A.meaning engine.old.app) from.state) from.text engine.new.progress) }
-    ensures ended { OnOk result (engine.old.progress.ended < engine.new.progress.ended) }
-    ensures counted { OnOk result (engine.new.progress.ended ≡ engine.old.progress.ended + length (clear_tasks (A.meaning engine.old.app) from.state)) }
-    ensures fault { IfErr result (IsRunFault (A.meaning engine.old.app) from.start) }
-    ensures passed { IfErr result (PassesWith from.start.limit (engine.old.progress.ended + length (clear_tasks (A.meaning engine.old.app) from.state)) (after_round (A.meaning engine.old.app) from.state)) }
+    ensures played { OnOk result (IsRoundPlayed (A.meaning engine.old.app) from from.text engine.old.progress engine.new.progress) }
+    ensures fault { IfErr result (IsRoundFault (A.meaning engine.old.app) from engine.old.progress) }
 {
     ending_laws::<A>();
     perform_round(rt, engine, picks, workers, lists)?;
@@ -374,16 +361,12 @@ fn play_with_partners<A: App, G: Gate, L: Ledger>(
     steps: &mut Steps<L>,
 ) -> Result<(), RunFault>
     ghost from: { RunPoint A.Val }
-    requires rest { IsAtRest (A.meaning engine.old.app) from.start (values_of from.start.cells) from.state from.text engine.old.progress }
-    requires some { engine.old.progress.nodes ≢ [] }
+    requires begins { BeginsRound (A.meaning engine.old.app) from engine.old.progress }
     requires partners { lists.old.partners ≡ engine.old.app }
     ensures app { engine.new.app ≡ engine.old.app }
     ensures partners { lists.new.partners ≡ lists.old.partners }
-    ensures rest { OnOk result (IsAtRest (A.meaning engine.old.app) from.start (values_of from.start.cells) (after_round (A.meaning engine.old.app) from.state) from.text engine.new.progress) }
-    ensures ended { OnOk result (engine.old.progress.ended < engine.new.progress.ended) }
-    ensures counted { OnOk result (engine.new.progress.ended ≡ engine.old.progress.ended + length (clear_tasks (A.meaning engine.old.app) from.state)) }
-    ensures fault { IfErr result (IsRunFault (A.meaning engine.old.app) from.start) }
-    ensures passed { IfErr result (PassesWith from.start.limit (engine.old.progress.ended + length (clear_tasks (A.meaning engine.old.app) from.state)) (after_round (A.meaning engine.old.app) from.state)) }
+    ensures played { OnOk result (IsRoundPlayed (A.meaning engine.old.app) from from.text engine.old.progress engine.new.progress) }
+    ensures fault { IfErr result (IsRoundFault (A.meaning engine.old.app) from engine.old.progress) }
 {
     // A look, after which all clear tasks are known.
     let _clear = engine.next_clear()?;

@@ -1,15 +1,12 @@
 //! A round whose jobs kept workers perform while others are drawn, and while the first ones end.
 
-ghost use Rattle.std.specs.Prelude.{◌≡◌, ◌≢◌, ◌+◌, ◌<◌, [], List, None, length, IfErr, OnOk};
+ghost use Rattle.std.specs.Prelude.{◌≡◌, [], List, None, IfErr, OnOk};
 ghost use Rattle.std.specs.List.{All};
-ghost use Rattle.cell_store.specs.Values.{values_of};
-ghost use Rattle.commuting.specs.Rounds.{after_round, clear_tasks};
 ghost use Rattle.run_laws.specs.Events.{clear_nodes};
 ghost use Rattle.run_laws.specs.Jobs.{Job};
-ghost use Rattle.source_pool.specs.Course.{IsAtRest, RunPoint};
-ghost use Rattle.source_pool.specs.Kept.{PassesWith};
+ghost use Rattle.source_pool.specs.Course.{RestsAt, RunPoint};
 ghost use Rattle.source_pool.specs.Performing.{AreOfShares, AreShared, EndAtFault, HasDrawn, HaveEnded, IsTold, MayEnd};
-ghost use Rattle.source_pool.specs.Runs.{IsRunFault};
+ghost use Rattle.source_pool.specs.Round.{BeginsRound, IsRoundFault, IsRoundPlayed};
 
 use crate::RunFault;
 use crate::claiming::{draw_rest, draw_some};
@@ -36,16 +33,13 @@ pub(crate) fn share_round<A: App, G: Gate, L: Ledger>(
     steps: &mut Steps<L>,
 ) -> Result<(), RunFault>
     ghost from: { RunPoint A.Val }
-    requires rest { IsAtRest (A.meaning engine.old.app) from.start (values_of from.start.cells) from.state from.text engine.old.progress }
-    requires some { engine.old.progress.nodes ≢ [] }
+    requires begins { BeginsRound (A.meaning engine.old.app) from engine.old.progress }
     requires told { All (IsTold A.meaning engine.old.app) shares.old }
     ensures app { engine.new.app ≡ engine.old.app }
     ensures told { All (IsTold A.meaning engine.old.app) shares.new }
-    ensures rest { OnOk result (IsAtRest (A.meaning engine.old.app) from.start (values_of from.start.cells) (after_round (A.meaning engine.old.app) from.state) from.text engine.new.progress) }
-    ensures ended { OnOk result (engine.old.progress.ended < engine.new.progress.ended) }
-    ensures counted { OnOk result (engine.new.progress.ended ≡ engine.old.progress.ended + length (clear_tasks (A.meaning engine.old.app) from.state)) }
-    ensures fault { IfErr result (IsRunFault (A.meaning engine.old.app) from.start) }
-    ensures passed { IfErr result (PassesWith from.start.limit (engine.old.progress.ended + length (clear_tasks (A.meaning engine.old.app) from.state)) (after_round (A.meaning engine.old.app) from.state)) }
+    ensures back { All (λ share. share.errand ≡ None) shares.new }
+    ensures played { OnOk result (IsRoundPlayed (A.meaning engine.old.app) from from.text engine.old.progress engine.new.progress) }
+    ensures fault { IfErr result (IsRoundFault (A.meaning engine.old.app) from engine.old.progress) }
 {
     let played = give_and_end(engine, gate, each, shares, own, steps);
     collect_all(engine.app(), gate, shares);
@@ -62,16 +56,12 @@ fn give_and_end<A: App, G: Gate, L: Ledger>(
     steps: &mut Steps<L>,
 ) -> Result<(), RunFault>
     ghost from: { RunPoint A.Val }
-    requires rest { IsAtRest (A.meaning engine.old.app) from.start (values_of from.start.cells) from.state from.text engine.old.progress }
-    requires some { engine.old.progress.nodes ≢ [] }
+    requires begins { BeginsRound (A.meaning engine.old.app) from engine.old.progress }
     requires told { All (IsTold A.meaning engine.old.app) shares.old }
     ensures app { engine.new.app ≡ engine.old.app }
     ensures told { All (IsTold A.meaning engine.old.app) shares.new }
-    ensures rest { OnOk result (IsAtRest (A.meaning engine.old.app) from.start (values_of from.start.cells) (after_round (A.meaning engine.old.app) from.state) from.text engine.new.progress) }
-    ensures ended { OnOk result (engine.old.progress.ended < engine.new.progress.ended) }
-    ensures counted { OnOk result (engine.new.progress.ended ≡ engine.old.progress.ended + length (clear_tasks (A.meaning engine.old.app) from.state)) }
-    ensures fault { IfErr result (IsRunFault (A.meaning engine.old.app) from.start) }
-    ensures passed { IfErr result (PassesWith from.start.limit (engine.old.progress.ended + length (clear_tasks (A.meaning engine.old.app) from.state)) (after_round (A.meaning engine.old.app) from.state)) }
+    ensures played { OnOk result (IsRoundPlayed (A.meaning engine.old.app) from from.text engine.old.progress engine.new.progress) }
+    ensures fault { IfErr result (IsRoundFault (A.meaning engine.old.app) from engine.old.progress) }
 {
     drawing_laws::<A>();
     ending_laws::<A>();
@@ -89,7 +79,7 @@ fn give_all<A: App, G: Gate>(
     own: &mut Hand<Job<A::Val>, Done<A::Val>>,
 ) -> Result<(), NoRoom>
     ghost from: { RunPoint A.Val }
-    requires rest { IsAtRest (A.meaning engine.old.app) from.start (values_of from.start.cells) from.state from.text engine.old.progress }
+    requires rest { RestsAt (A.meaning engine.old.app) from engine.old.progress }
     requires told { All (IsTold A.meaning engine.old.app) shares.old }
     ensures app { engine.new.app ≡ engine.old.app }
     ensures told { All (IsTold A.meaning engine.old.app) shares.new }
@@ -182,7 +172,8 @@ fn end_shares<A: App, G: Gate, L: Ledger>(
 /// Has all hands back.
 fn collect_all<A: App, G: Gate>(app: &A, gate: &G, shares: &mut [Share<A>])
     requires { All (IsTold A.meaning app.now) shares.old }
-    ensures { All (IsTold A.meaning app.now) shares.new }
+    ensures told { All (IsTold A.meaning app.now) shares.new }
+    ensures back { All (λ share. share.errand ≡ None) shares.new }
 {
     if let Some((share, more)) = shares.split_first_mut() {
         share.collect(app, gate);

@@ -16,8 +16,8 @@ loop-init g c = record {
 pub tell_more-requires : goal.tell_more-requires
 tell_more-requires g c = where_some c.take_lead_turn-back.result.1.more c.wish-wish.ensures c.take_lead_turn-back.ensures.due
 
-pub loop-preserved-in-Ok-perform_all : goal.loop-preserved-in-Ok-perform_all
-loop-preserved-in-Ok-perform_all g c =
+pub loop-preserved-in-Ok-perform_in_turn : goal.loop-preserved-in-Ok-perform_in_turn
+loop-preserved-in-Ok-perform_in_turn g c =
     let hall = c.args.post.hall.now in
     let old = c.args.post.seat in
     let now = c.take_lead_turn-back.result.0 in
@@ -29,9 +29,9 @@ loop-preserved-in-Ok-perform_all g c =
     let turned = c.take_lead_turn-back.result.1.turned in
     let hand = c.take_lead_turn-back.new.hand in
     let on = subst GoesOn (sym c.in-Perform.is) tt in
-    let did = c.perform_all.new.dones.items in
+    let did = c.perform_in_turn.new.dones.items in
     let working = performs g.A.App.meaning hall old c.loop.seat now c.loop.hand.dones.items leading.working tells.seated tells.number tells.unjoined
-    turned.ended hand.jobs.items (tells.jobs on) (tells.all on) c.args.post.app.now did c.requires.may.app_is c.in-Ok-perform_all.ensures in
+    turned.ended hand.jobs.items (tells.jobs on) (tells.all on) c.args.post.app.now did c.requires.may.app_is c.in-Ok-perform_in_turn.ensures in
     record {
       leading = leads_on g.A.App.meaning g.K.Sink.contents g.K.Sink.faults hall c.telling_laws.ensures.add old c.loop.seat now c.args.outlet.now c.loop.outlet next c.args.out.now c.loop.out c.tell_more.new.out
           c.loop.hand.dones.items did leading told c.tell_more.ensures.tells working;
@@ -95,8 +95,8 @@ returns-in_default-clause-tells g c =
     tells_on_both g.K.Sink.contents g.K.Sink.faults c.telling_laws.ensures.add c.args.outlet.now c.loop.outlet c.tell_more.new.outlet c.args.out.now c.loop.out c.tell_more.new.out
     c.loop.invariant.leading.tells c.tell_more.ensures.tells
 
-pub returns-in_default-perform_all-clause-front : goal.returns-in_default-perform_all-clause-front
-returns-in_default-perform_all-clause-front g c =
+pub returns-in_default-perform_in_turn-clause-front : goal.returns-in_default-perform_in_turn-clause-front
+returns-in_default-perform_in_turn-clause-front g c =
     let hall = c.args.post.hall.now in
     let old = c.args.post.seat in
     let now = c.take_lead_turn-back.result.0 in
@@ -107,8 +107,8 @@ returns-in_default-perform_all-clause-front g c =
     c.in-Ok.ensures.drained tells.told c.in-Ok.ensures.told leading.told in
     front_told hall.origin.progress c.part_laws.ensures.texts now.view.drained next.told told
 
-pub returns-in_default-perform_all-clause-tells : goal.returns-in_default-perform_all-clause-tells
-returns-in_default-perform_all-clause-tells g c =
+pub returns-in_default-perform_in_turn-clause-tells : goal.returns-in_default-perform_in_turn-clause-tells
+returns-in_default-perform_in_turn-clause-tells g c =
     tells_on_both g.K.Sink.contents g.K.Sink.faults c.telling_laws.ensures.add c.args.outlet.now c.loop.outlet c.tell_more.new.outlet c.args.out.now c.loop.out c.tell_more.new.out
     c.loop.invariant.leading.tells c.tell_more.ensures.tells
 

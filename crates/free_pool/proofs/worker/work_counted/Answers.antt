@@ -14,7 +14,7 @@ loop-preserved-in-Ok-1 g c =
     let tells = c.take_turn-back.ensures in
     let on = subst GoesOn (sym c.in-Perform.is) tt in
     performs g.A.App.meaning c.args.post.hall.now c.args.post.seat c.loop.seat now c.loop.hand.dones.items c.loop.invariant tells.seated tells.number tells.unjoined
-    turned.ended c.take_turn-back.new.hand.jobs.items (tells.jobs on) (tells.all on) c.args.post.app.now c.perform_all.new.dones.items c.requires.app c.in-Ok.ensures
+    turned.ended c.take_turn-back.new.hand.jobs.items (tells.jobs on) (tells.all on) c.args.post.app.now c.perform_in_turn.new.dones.items c.requires.app c.in-Ok.ensures
 
 pub loop-preserved : goal.loop-preserved
 loop-preserved g c =

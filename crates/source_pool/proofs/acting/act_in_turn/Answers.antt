@@ -44,23 +44,13 @@ returns-in_err-act-clause-fault g c =
     let acting = subst (IsActing app g.to.start (values_of g.to.start.cells) g.to.state g.to.text at.engine.progress) left at.invariant.acting in
     let fault = subst (λ (app : g.row.A.Denot). IsActFault (g.A.App.meaning app) at.engine.progress id c.act.new.self.progress c.in_err-act.field-0.0) at.invariant.app c.in_err-act.ensures.fault in
     let e = err_from_is_err_and c.from_residual.result c.from_residual.ensures.1 in
-    rw (e.1, e.2)
-    (not_acted app (c.acting_laws.ensures.too_many c.args.engine.now.app) g.to.start at.engine.progress c.act.new.self.progress g.to.state g.to.text id rest acting c.in_err-act.field-0.0 fault)
-
-pub returns-in_err-act-clause-passed : goal.returns-in_err-act-clause-passed
-returns-in_err-act-clause-passed g c =
-    let app = g.A.App.meaning c.args.engine.now.app in
-    let at = c.loop-id in
-    let id = slice_index_or c.args.ids.now at.id-index (record { at = 0 }) in
-    let rest = drop (at.id-index + 1) c.args.ids.now in
-    let left : drop at.id-index c.args.ids.now ≡ id ∷ rest = drop_more c.args.ids.now at.id-index (record { at = 0 }) c.loop-id-test.true in
-    let acting = subst (IsActing app g.to.start (values_of g.to.start.cells) g.to.state g.to.text at.engine.progress) left at.invariant.acting in
-    let fault = subst (λ (app : g.row.A.Denot). IsActFault (g.A.App.meaning app) at.engine.progress id c.act.new.self.progress c.in_err-act.field-0.0) at.invariant.app c.in_err-act.ensures.fault in
-    let e = err_from_is_err_and c.from_residual.result c.from_residual.ensures.1 in
     let same : at.engine.progress.ended + length (id ∷ rest) ≡ c.args.engine.now.progress.ended + length c.args.ids.now = omega (arith, at.invariant.ended, ap length left) in
-    rw (e.1, e.2)
-    (passes_at g.to.start.limit (at.engine.progress.ended + length (id ∷ rest)) (c.args.engine.now.progress.ended + length c.args.ids.now) g.to.state c.in_err-act.field-0.0 same
-    (acts_pass app (c.kept_laws.ensures.acts_pass c.args.engine.now.app) g.to.start at.engine.progress c.act.new.self.progress g.to.state g.to.text id rest acting c.in_err-act.field-0.0 fault))
+    rw (e.1, e.2) (record {
+      fault = not_acted app (c.acting_laws.ensures.too_many c.args.engine.now.app) g.to.start at.engine.progress c.act.new.self.progress g.to.state g.to.text id rest acting c.in_err-act.field-0.0 fault;
+      passes =
+          passes_at g.to.start.limit (at.engine.progress.ended + length (id ∷ rest)) (c.args.engine.now.progress.ended + length c.args.ids.now) g.to.state c.in_err-act.field-0.0 same
+          (acts_pass app (c.kept_laws.ensures.acts_pass c.args.engine.now.app) g.to.start at.engine.progress c.act.new.self.progress g.to.state g.to.text id rest acting c.in_err-act.field-0.0 fault);
+    })
 
 pub loop-id-preserved : goal.loop-id-preserved
 loop-id-preserved g c =

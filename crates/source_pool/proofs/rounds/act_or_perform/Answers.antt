@@ -5,8 +5,7 @@ pub act_round-requires : goal.act_round-requires
 act_round-requires g c κs within =
     let asked = c.requires.1.1.1.1.1.1 in
     let sent = asked.0 in
-    let horizon = asked.1.0 in
-    let others = asked.1.1 in (
+    let horizon = asked.1.0 in (
       within.0,
       (
         within.1.0,
@@ -16,7 +15,7 @@ act_round-requires g c κs within =
             within.1.1.1,
             (
               record { owned = sent.owned; leaving = λ k. sent.leaving (λ _. k (of_param 2)) },
-              (record { owned = horizon.owned; leaving = λ k. horizon.leaving (λ _. k (of_param 3)) }, (others.1.1.1.1.0, others.1.1.1.1.1.0)),
+              (record { owned = horizon.owned; leaving = λ k. horizon.leaving (λ _. k (of_param 3)) }, asked.1.1.1.1.1.1.0),
             ),
           ),
         ),
@@ -27,8 +26,7 @@ pub play_with_partners-requires : goal.play_with_partners-requires
 play_with_partners-requires g c κs within =
     let asked = c.requires.1.1.1.1.1.1 in
     let sent = asked.0 in
-    let horizon = asked.1.0 in
-    let others = asked.1.1.1.1.1.1 in (
+    let horizon = asked.1.0 in (
       within.0,
       (
         within.1.0,
@@ -40,7 +38,7 @@ play_with_partners-requires g c κs within =
               within.1.1.1.1,
               (
                 record { owned = sent.owned; leaving = λ k. sent.leaving (λ _. k (of_param 3)) },
-                (record { owned = horizon.owned; leaving = λ k. horizon.leaving (λ _. k (of_param 4)) }, others),
+                (record { owned = horizon.owned; leaving = λ k. horizon.leaving (λ _. k (of_param 4)) }, asked.1.1.1.1.1.1),
               ),
             ),
           ),

@@ -87,7 +87,7 @@ play_round-requires g c κs within =
             within.1.1.1.0,
             (
               within.1.1.1.1.0,
-              (within.1.1.1.1.1.0, (within.1.1.1.1.1.1, (bounds.0, (bounds.1.0, (others.0, (others.1.0, (others.1.1.0, (workers, (rest, (some, (refl, partners))))))))))),
+              (within.1.1.1.1.1.0, (within.1.1.1.1.1.1, (bounds.0, (bounds.1.0, (others.0, (others.1.0, (others.1.1.0, (workers, (record { rest = rest; some = some }, (refl, partners)))))))))),
             ),
           ),
         ),
@@ -97,8 +97,8 @@ play_round-requires g c κs within =
 pub overflow_add-rounds : goal.overflow_add-rounds
 overflow_add-rounds g c =
     let limited = c.requires.1.1.1.1.1.1.1.1.1.1.1.1.1.1.1.0 in
-    let come = c.in_ok-play_round.ensures.rest.course.come in
-    omega (arith, c.loop-engine.invariant.few, c.in_ok-play_round.ensures.ended, come.sound.keys_and_counts.created, come.sound.keys_and_counts.within, come.limit, limited)
+    let come = c.in_ok-play_round.ensures.played.rest.course.come in
+    omega (arith, c.loop-engine.invariant.few, c.in_ok-play_round.ensures.played.some, come.sound.keys_and_counts.created, come.sound.keys_and_counts.within, come.limit, limited)
 
 pub returns-then-needs_new_paths-clause-leg : goal.returns-then-needs_new_paths-clause-leg
 returns-then-needs_new_paths-clause-leg g c =
@@ -110,8 +110,8 @@ returns-then-needs_new_paths-clause-leg g c =
     let old = at.engine.progress in
     let now = c.play_round.new.engine.progress in
     let same = at.invariant.app in
-    let next = subst (λ (app : g.row.A.Denot). IsAtRest (g.A.App.meaning app) g.start (values_of g.start.cells) (after_round (g.A.App.meaning app) (state_at_rest old)) c.play_round.new.outlet.told now) same c.in_ok-play_round.ensures.rest in
-    let counted = subst (λ (app : g.row.A.Denot). now.ended ≡ old.ended + length (clear_tasks (g.A.App.meaning app) (state_at_rest old))) same c.in_ok-play_round.ensures.counted in
+    let next = subst (λ (app : g.row.A.Denot). IsAtRest (g.A.App.meaning app) g.start (values_of g.start.cells) (after_round (g.A.App.meaning app) (state_at_rest old)) c.play_round.new.outlet.told now) same c.in_ok-play_round.ensures.played.rest in
+    let counted = subst (λ (app : g.row.A.Denot). now.ended ≡ old.ended + length (clear_tasks (g.A.App.meaning app) (state_at_rest old))) same c.in_ok-play_round.ensures.played.counted in
     let drained = subst (λ (app : g.row.A.Denot). at.outlet.has_failed ≡ false → drainable (g.A.App.meaning app) now.nodes now.log ≡ []) same c.in_ok-play_round.ensures.drained in
     let some = some_node old.nodes c.least.result (c.least.ensures.least ∙ ap least_of c.graph.ensures.nodes) (sym c.is_some.ensures ∙ c.loop-engine-test.true) in
     round_told (c.kept_laws.ensures.drained own) g.start rest (laws.home own) (laws.add own) old now at.rounds at.outlet.told c.play_round.new.outlet.told at.outlet.has_failed c.play_round.new.outlet.has_failed
@@ -134,8 +134,8 @@ loop-engine-preserved g c =
     let now = c.play_round.new.engine.progress in
     let same = at.invariant.app in
     let on = c.in_ok-play_round.ensures.told in
-    let next = subst (λ (app : g.row.A.Denot). IsAtRest (g.A.App.meaning app) g.start (values_of g.start.cells) (after_round (g.A.App.meaning app) (state_at_rest old)) c.play_round.new.outlet.told now) same c.in_ok-play_round.ensures.rest in
-    let counted = subst (λ (app : g.row.A.Denot). now.ended ≡ old.ended + length (clear_tasks (g.A.App.meaning app) (state_at_rest old))) same c.in_ok-play_round.ensures.counted in
+    let next = subst (λ (app : g.row.A.Denot). IsAtRest (g.A.App.meaning app) g.start (values_of g.start.cells) (after_round (g.A.App.meaning app) (state_at_rest old)) c.play_round.new.outlet.told now) same c.in_ok-play_round.ensures.played.rest in
+    let counted = subst (λ (app : g.row.A.Denot). now.ended ≡ old.ended + length (clear_tasks (g.A.App.meaning app) (state_at_rest old))) same c.in_ok-play_round.ensures.played.counted in
     let drained = subst (λ (app : g.row.A.Denot). at.outlet.has_failed ≡ false → drainable (g.A.App.meaning app) now.nodes now.log ≡ []) same c.in_ok-play_round.ensures.drained in
     let some = some_node old.nodes c.least.result (c.least.ensures.least ∙ ap least_of c.graph.ensures.nodes) (sym c.is_some.ensures ∙ c.loop-engine-test.true) in
     record {
@@ -143,7 +143,7 @@ loop-engine-preserved g c =
       leg =
           round_told (c.kept_laws.ensures.drained own) g.start rest (laws.home own) (laws.add own) old now at.rounds at.outlet.told c.play_round.new.outlet.told at.outlet.has_failed c.play_round.new.outlet.has_failed
           at.invariant.leg some next counted drained c.play_round.ensures.same c.play_round.ensures.stays;
-      few = omega (arith, at.invariant.few, c.in_ok-play_round.ensures.ended);
+      few = omega (arith, at.invariant.few, c.in_ok-play_round.ensures.played.some);
       tells = tells_on g.K.Sink.contents g.K.Sink.faults c.args.outlet.now at.outlet c.play_round.new.outlet c.args.out.now at.out c.play_round.new.out at.outlet.told on.0 c.play_round.new.outlet.told at.invariant.tells on.2 on.1;
       room = c.play_round.ensures.same_room ∙ at.invariant.room;
       partners = c.play_round.ensures.partners ∙ at.invariant.partners;
@@ -159,7 +159,7 @@ returns-in_err-play_round-clause-cut g c =
     let new = c.play_round.new.outlet in
     let why = c.in_err-play_round.field-0.0 in
     let some = some_node old.nodes c.least.result (c.least.ensures.least ∙ ap least_of c.graph.ensures.nodes) (sym c.is_some.ensures ∙ c.loop-engine-test.true) in
-    let passes = subst (λ (app : g.row.A.Denot). PassesWith g.start.limit (old.ended + length (clear_tasks (g.A.App.meaning app) (state_at_rest old))) (after_round (g.A.App.meaning app) (state_at_rest old)) why) at.invariant.app c.in_err-play_round.ensures.passed in
+    let passes = subst (λ (app : g.row.A.Denot). PassesWith g.start.limit (old.ended + length (clear_tasks (g.A.App.meaning app) (state_at_rest old))) (after_round (g.A.App.meaning app) (state_at_rest old)) why) at.invariant.app c.in_err-play_round.ensures.fault.passes in
     let told = ap (λ (o : Outlet). o.told) c.in_err-play_round.ensures.nothing_told.0 in
     let e = err_from_is_err_and c.from_residual-in_err-play_round.result c.from_residual-in_err-play_round.ensures.1 in
     rw (e.1, e.2) (cut_by_round (c.kept_laws.ensures.drained own) g.start rest old at.rounds at.outlet.told new.told at.outlet.has_failed new.has_failed why at.invariant.leg some told c.play_round.ensures.stays passes)

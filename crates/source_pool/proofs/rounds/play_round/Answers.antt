@@ -30,7 +30,7 @@ act_or_perform-requires g c κs within =
                   record { owned = sent.owned; leaving = λ k. sent.leaving (λ _. k (of_param 4)) },
                   (
                     record { owned = horizon.owned; leaving = λ k. horizon.leaving (λ _. k (of_param 5)) },
-                    (others.0, (others.1.0, (others.1.1.0, (others.1.1.1.0, (others.1.1.1.1.0, (others.1.1.1.1.1.0, others.1.1.1.1.1.1.1)))))),
+                    (others.0, (others.1.0, (others.1.1.0, (others.1.1.1.0, (others.1.1.1.1.0, others.1.1.1.1.1.1))))),
                   ),
                 ),
               ),
@@ -40,8 +40,8 @@ act_or_perform-requires g c κs within =
       ),
     )
 
-pub returns-clause-rest : goal.returns-clause-rest
-returns-clause-rest g c =
+pub returns-clause-played : goal.returns-clause-played
+returns-clause-played g c =
     let app = g.A.App.meaning c.args.engine.now.app in
     let start = g.from.start in
     let cells = values_of start.cells in
@@ -49,26 +49,16 @@ returns-clause-rest g c =
     let had = c.args.outlet.now.has_failed in
     let middle = c.act_or_perform.new.engine.progress in
     let now = c.tell.new.engine.progress in
-    let text = c.requires.1.1.1.1.1.1.1.1.1.1.1.1.1.1.1.0 in
+    let played = c.in_ok-act_or_perform.ensures.played in
     let drain = subst (λ (other : g.row.A.Denot). had ≡ false → now ≡ drained (g.A.App.meaning other) middle) c.act_or_perform.ensures.app c.in_ok-tell.ensures.drains in
     let told = subst (λ (other : g.row.A.Denot). c.tell.new.outlet.told ≡ c.args.outlet.now.told ++ told_by (g.A.App.meaning other) had middle) c.act_or_perform.ensures.app c.in_ok-tell.ensures.told in
-    let rest = rest_told (c.draining_laws.ensures c.args.engine.now.app) start middle now cells next g.from.text had c.in_ok-act_or_perform.ensures.rest drain c.tell.ensures.stands in
-    subst (λ (t : List ℕ). IsAtRest app start cells next t now) (ap (λ (front : List ℕ). front ++ told_by app had middle) (sym text) ∙ sym told) rest
-
-pub returns-clause-ended : goal.returns-clause-ended
-returns-clause-ended g c =
-    let app = g.A.App.meaning c.act_or_perform.new.engine.app in
-    omega (
-      arith,
-      ended_same app c.act_or_perform.new.engine.progress c.tell.new.engine.progress c.args.outlet.now.has_failed c.in_ok-tell.ensures.drains c.tell.ensures.stands,
-      c.in_ok-act_or_perform.ensures.ended,
-    )
-
-pub returns-clause-counted : goal.returns-clause-counted
-returns-clause-counted g c =
-    let app = g.A.App.meaning c.act_or_perform.new.engine.app in
-    ended_same app c.act_or_perform.new.engine.progress c.tell.new.engine.progress c.args.outlet.now.has_failed c.in_ok-tell.ensures.drains c.tell.ensures.stands
-    ∙ c.in_ok-act_or_perform.ensures.counted
+    let rest = rest_told (c.draining_laws.ensures c.args.engine.now.app) start middle now cells next g.from.text had played.rest drain c.tell.ensures.stands in
+    let ended = ended_same app middle now had drain c.tell.ensures.stands in
+    record {
+      rest = subst (λ (t : List ℕ). IsAtRest app start cells next t now) (ap (λ (front : List ℕ). front ++ told_by app had middle) (sym c.requires.1.1.1.1.1.1.1.1.1.1.1.1.1.1.0) ∙ sym told) rest;
+      some = omega (arith, ended, played.some);
+      counted = ended ∙ played.counted;
+    }
 
 pub returns-clause-drained : goal.returns-clause-drained
 returns-clause-drained g c =

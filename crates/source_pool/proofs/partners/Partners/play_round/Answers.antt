@@ -26,7 +26,7 @@ share_round-requires g c κs within =
               within.1.1.1.1,
               (
                 record { owned = sent.owned; leaving = λ k. sent.leaving (λ _. k (of_param 3)) },
-                (record { owned = horizon.owned; leaving = λ k. horizon.leaving (λ _. k (of_param 4)) }, (asked.1.1.1.0, (asked.1.1.1.1, shares))),
+                (record { owned = horizon.owned; leaving = λ k. horizon.leaving (λ _. k (of_param 4)) }, (asked.1.1.1, shares)),
               ),
             ),
           ),
