@@ -1,7 +1,9 @@
 -- Where the parts of a run have come, when a task acts, a log is drained, and nothing is left.
-use Rattle.std.proofs.Common.{◌≡◌, false, ℕ, suc, ◌+◌, ◌-◌, ◌<◌, ◌≤◌, List, [], ◌∷◌, ◌++◌, length, Option, Some, None, refl, sym, ap, ◌∙◌, subst, arith, append-nil, append_assoc}
+use Rattle.std.proofs.Common.{◌≡◌, false, ℕ, ◌+◌, ◌-◌, ◌<◌, ◌≤◌, List, [], ◌∷◌, ◌++◌, length, Option, Some, None, refl, sym, ap, ◌∙◌, subst, arith, append-nil, append_assoc}
 use Rattle.std.specs.Prelude.{Contains, IsSomeAnd}
 use Rattle.std.specs.List.{AllByRecursion}
+use Rattle.plain_laws.proofs.Lists.{All-behind}
+use Rattle.plain_laws.proofs.Members.{all_at}
 use Rattle.task_order.specs.declared.key.Key.{Key}
 use Rattle.task_order.specs.declared.start.Start.{Start}
 use Rattle.task_order.specs.declared.task.Task.{Task}
@@ -10,16 +12,19 @@ use Rattle.task_order.specs.TaskList.{IsAscending, put_all}
 use Rattle.cell_store.specs.declared.cell.Cell.{Cell}
 use Rattle.cell_store.specs.Values.{homes, values_of}
 use Rattle.output_log.specs.Entries.{Entry, IsInKeyOrder, IsNewEntry, entries_before, joined_texts, with_entry}
+use Rattle.output_log.proofs.LogEntries.{IsInKeyOrder-last}
 use Rattle.app_laws.specs.declared.serial_run.Finals.{Finals}
 use Rattle.app_laws.specs.Applications.{Application, AreFitStarts}
 use Rattle.app_laws.specs.Execution.{Execution, first_from}
 use Rattle.app_laws.specs.Order.{is_prefix}
 use Rattle.app_laws.specs.Serial.{IsRun}
+use Rattle.app_laws.proofs.Apart.{length-first_from}
 use Rattle.commuting.specs.Clear.{IsClear}
 use Rattle.commuting.specs.Commuting.{BothEnd}
 use Rattle.commuting.specs.Rounds.{TakesRounds}
 use Rattle.commuting.specs.Standing.{ComeBefore, IsEndWith, StandsFor}
 use Rattle.commuting.specs.States.{State, after_task, execution_from, run_from, state_of}
+use Rattle.commuting.proofs.Logs.{new_where_unlogged}
 use Rattle.crew.specs.declared.answers.OverCause.{OverCause}
 use Rattle.crew.specs.declared.answers.OverCause.TheVariants as cause
 use Rattle.list_rounds.specs.declared.parts.RunParts.{RunParts}
@@ -29,11 +34,7 @@ use Rattle.list_rounds.specs.Course.{GoesOnFrom, HasCome, IsDrained, IsEndBehind
 use Rattle.list_rounds.specs.Rounds.{IsOverLimit, IsRunFault, most_tasks, start_state}
 use Rattle.list_rounds.proofs.Beside.{end_beside, given_up}
 use Rattle.list_rounds.proofs.Family.{all_after}
-use Rattle.list_rounds.proofs.Lists.{AreEarlier, all_at, back-append, before_is_earlier, before_later, both_before, earlier_than_later, new_where_unlogged, none_before, order_of_back, put_behind}
-
-pub length-first : (number : ℕ) (starts : List Start) → length (first_from number starts) ≡ length starts
-length-first number [] = refl
-length-first number (start ∷ starts) = ap suc (length-first (suc number) starts)
+use Rattle.list_rounds.proofs.Lists.{AreEarlier, before_is_earlier, before_later, both_before, earlier_than_later, none_before, put_behind}
 
 module _ {V : Type 0} {app : Application V} (basis : Basis app) where
   -- ---- the start
@@ -79,7 +80,7 @@ module _ {V : Type 0} {app : Application V} (basis : Basis app) where
             let all : more ≡ 0 + more = omega arith in
             subst (λ n. TakesRounds app n start) all (subst (TakesRounds app more) is takes);
         some_each = omega arith;
-        within = let all = basis.put_all_adds (first_from 0 first) [] in let each = length-first 0 first in omega (arith, ended, within, ap length puts, all, each);
+        within = let all = basis.put_all_adds (first_from 0 first) [] in let each = length-first_from 0 first in omega (arith, ended, within, ap length puts, all, each);
         limited = limited;
       }
 
@@ -88,7 +89,7 @@ module _ {V : Type 0} {app : Application V} (basis : Basis app) where
   too_many_at_start cells first limit created fit fit_first many above =
       let start = start_state cells first in
       let all = basis.put_all_adds (first_from 0 first) [] in
-      let each = length-first 0 first in
+      let each = length-first_from 0 first in
       record {
         too_long = basis.too_many start start [] (starts_stand cells first fit fit_first) limit (omega arith) (omega (arith, all, each, many, above));
         limit_is = refl;
@@ -108,7 +109,7 @@ module _ {V : Type 0} {app : Application V} (basis : Basis app) where
     pub new_entry : (task : Task) → Contains old.pending task → IsNewEntry task.key old.log.entries
     new_entry task there =
         new_where_unlogged task.key old.log.entries
-        (back-append (λ (entry : Entry). is_prefix task.key.path entry.0.path ≡ false) course.drained old.log.entries
+        (All-behind (λ (entry : Entry). is_prefix task.key.path entry.0.path ≡ false) course.drained old.log.entries
         (all_at (λ (other : Task). AllByRecursion (λ (entry : Entry). is_prefix other.key.path entry.0.path ≡ false) (course.drained ++ old.log.entries)) old.pending task course.stands.unlogged there))
 
     -- ---- a clear task acts
@@ -192,7 +193,7 @@ module _ {V : Type 0} {app : Application V} (basis : Basis app) where
           let more = drainable old.pending old.log.entries in
           let rest = undrainable old.pending old.log.entries in
           let whole : course.drained ++ old.log.entries ≡ (course.drained ++ more) ++ now.log.entries =
-          ap (λ log. course.drained ++ log) (drained_parts old.pending old.log.entries (order_of_back course.drained old.log.entries course.stands.ordered))
+          ap (λ log. course.drained ++ log) (drained_parts old.pending old.log.entries (IsInKeyOrder-last course.drained old.log.entries course.stands.ordered))
           ∙ sym (append_assoc course.drained more rest) ∙ ap (λ log. (course.drained ++ more) ++ log) (sym drain.log) in
           record {
             origin = course.origin;

@@ -4,22 +4,22 @@ use Rattle.std.specs.Prelude.{Contains}
 use Rattle.std.specs.List.{AllByRecursion}
 use Rattle.std.proofs.lemmas.List.{length-map}
 use Rattle.std.proofs.lemmas.List.Sorted.{IsPermutation-sym}
+use Rattle.plain_laws.proofs.Lists.{All-filter}
+use Rattle.plain_laws.proofs.Members.{all_at}
 use Rattle.task_order.specs.declared.key.Key.{Key}
 use Rattle.task_order.specs.declared.start.Start.{Start}
 use Rattle.task_order.specs.declared.task.Task.{Task}
 use Rattle.task_order.specs.Key.{child_key}
 use Rattle.task_order.specs.TaskList.{HasDistinctKeys, IsNewKey, put_all, without}
+use Rattle.task_order.proofs.TaskLists.{AllByRecursion-put_all}
 use Rattle.app_laws.specs.declared.child.Child.{Child}
 use Rattle.app_laws.specs.Applications.{Application, AreFitStarts, IsFitTask, handed, starts_of}
 use Rattle.app_laws.specs.Execution.{children_from}
+use Rattle.app_laws.proofs.Apart.{length-children_from}
 use Rattle.commuting.specs.Clear.{IsReady}
 use Rattle.commuting.specs.States.{State, after_task}
 use Rattle.list_rounds.specs.Basis.{Basis}
-use Rattle.list_rounds.proofs.Lists.{all_at, all-filter, all-put_all, new_in_front}
-
-length-children : (parent : Key) (number : ℕ) (starts : List Start) → length (children_from parent number starts) ≡ length starts
-length-children parent number [] = refl
-length-children parent number (start ∷ starts) = ap suc (length-children parent (suc number) starts)
+use Rattle.list_rounds.proofs.Lists.{new_in_front}
 
 all_children : (P : Key → Type 0) (parent : Key) → ((number prio : ℕ) → parent.prio ≤ prio → P (child_key parent number prio)) → (number : ℕ) (starts : List Start)
     → AllByRecursion (λ (start : Start). parent.prio ≤ start.prio) starts → AllByRecursion (λ (task : Task). P task.key) (children_from parent number starts)
@@ -44,7 +44,7 @@ module _ {V : Type 0} (app : Application V) (cells : List V) where
 pub put_length : {V : Type 0} {app : Application V} → Basis app → (parent : Key) (children : List Child) (rest : List Task) → length (put_all (children_from parent 0 (starts_of children)) rest) ≡ length rest + length children
 put_length basis parent children rest =
     let put = basis.put_all_adds (children_from parent 0 (starts_of children)) rest in
-    let made = length-children parent 0 (starts_of children) in
+    let made = length-children_from parent 0 (starts_of children) in
     let each = length-map children (λ (child : Child). let start : Start = record { prio = child.prio; body = child.body } in start) in
     omega (arith, put, made, each)
 
@@ -58,9 +58,9 @@ module _ {V : Type 0} {app : Application V} (basis : Basis app) {state : State V
   all_after P each all =
       let Own = λ (other : Task). P other.key in
       let own = all_at Own state.pending task all there in
-      all-put_all Own (children_from task.key 0 (app.act task state.cells).children) (without task.key state.pending)
+      AllByRecursion-put_all Own (children_from task.key 0 (app.act task state.cells).children) (without task.key state.pending)
       (all_children P task.key (λ number prio later. each task.key number prio later own) 0 (app.act task state.cells).children (basis.lawful.children_come_no_earlier task state.cells ready.cells fit))
-      (all-filter Own _ state.pending all)
+      (All-filter Own _ state.pending all)
 
   -- the children as they are handed over
   module _ (children : List Child) (are : children ≡ map (handed app (app.act task state.cells).cells) (app.act task state.cells).children) where
@@ -96,5 +96,5 @@ module _ {V : Type 0} {app : Application V} (basis : Basis app) {state : State V
     pending_after =
         let starts = (app.act task state.cells).children in
         let put = basis.put_all_adds (children_from task.key 0 starts) (without task.key state.pending) in
-        let made = length-children task.key 0 starts in
+        let made = length-children_from task.key 0 starts in
         omega (arith, put, made, as_many)

@@ -1,24 +1,26 @@
 -- A run goes on where its pending tasks get other paths.
-use Rattle.std.proofs.Common.{◌≡◌, ◌≢◌, false, ℕ, suc, ◌+◌, List, [], ◌∷◌, ◌++◌, length, map, Some, refl, sym, ap, ◌∙◌, subst, arith, append-nil, append_assoc}
-use Rattle.std.specs.Prelude.{Contains, IfSome}
+use Rattle.std.proofs.Common.{◌≡◌, ◌≢◌, false, ℕ, ◌+◌, List, [], ◌∷◌, ◌++◌, length, map, Some, refl, sym, ap, ◌∙◌, subst, arith, append-nil, append_assoc}
+use Rattle.std.specs.Prelude.{IfSome}
 use Rattle.std.specs.List.{AllByRecursion, flat_map}
 use Rattle.std.specs.declared.cmp.Ordering.TheVariants.{Less}
 use Rattle.std.proofs.lemmas.List.{length-map}
-use Rattle.std.proofs.lemmas.List.Elements.{All-from_recursion, recursion_from_All}
 use Rattle.std.proofs.lemmas.List.Folds.{flat_map-map}
-use Rattle.std.proofs.lemmas.List.Sorted.{All-permutation}
+use Rattle.plain_laws.proofs.Lists.{All-behind, All-shuffled}
+use Rattle.plain_laws.proofs.Members.{all_at, all_from}
 use Rattle.task_order.specs.declared.start.Start.{Start}
 use Rattle.task_order.specs.declared.task.Task.{Task}
 use Rattle.task_order.specs.Key.{end, key_cmp}
 use Rattle.task_order.specs.TaskList.{put_all}
 use Rattle.cell_store.specs.Values.{homes, values_of}
 use Rattle.output_log.specs.Entries.{Entry, IsInKeyOrder, IsNewEntry, ShareNoKey, joined_by_key, joined_texts, with_entry, with_texts}
+use Rattle.output_log.proofs.LogEntries.{IsInKeyOrder-last}
 use Rattle.app_laws.specs.Applications.{Application, AreFitStarts, AreFitTasks, IgnoresNames, IsFitTask, PathsAreIgnored}
 use Rattle.app_laws.specs.Execution.{Execution, first_from}
 use Rattle.app_laws.specs.Names.{AreListed, start_of_task}
 use Rattle.app_laws.specs.Order.{is_prefix}
 use Rattle.app_laws.specs.RenamingLaws.{as_many_listed}
 use Rattle.app_laws.specs.Renumbering.{AreRenumbered}
+use Rattle.app_laws.proofs.Apart.{length-first_from}
 use Rattle.commuting.specs.Clear.{IsReady}
 use Rattle.commuting.specs.Commuting.{BothEnd}
 use Rattle.commuting.specs.Renaming.{ComesToSame, HasSameTexts}
@@ -29,17 +31,9 @@ use Rattle.list_rounds.specs.Basis.{Basis}
 use Rattle.list_rounds.specs.Course.{GoesOnFrom, HasCome, IsEndBehind, IsOnCourse, state_in}
 use Rattle.list_rounds.specs.Renaming.{IsRenumbered}
 use Rattle.list_rounds.proofs.Beside.{both_through}
-use Rattle.list_rounds.proofs.Course.{length-first}
-use Rattle.list_rounds.proofs.Lists.{all_at, back-append, none_before, order_of_back, put_behind}
+use Rattle.list_rounds.proofs.Lists.{none_before, put_behind}
 
 -- ---- texts where later entries come behind, among some without a text
-
-behind : {X : Type 0} (x y : X) (xs : List X) → Contains xs y → Contains (x ∷ xs) y
-behind x y xs (k, inside, is) = (suc k, omega (arith, inside), is)
-
-all_from : {X : Type 0} (P : X → Type 0) (xs : List X) → ((x : X) → Contains xs x → P x) → AllByRecursion P xs
-all_from P [] each = tt
-all_from P (x ∷ xs) each = (each x (0, omega arith, refl), all_from P xs (λ y has. each y (behind x y xs has)))
 
 share_turned : (entries others : List Entry) → ShareNoKey entries others → ShareNoKey others entries
 share_turned entries others new =
@@ -62,7 +56,7 @@ module _ {V : Type 0} {app : Application V} (basis : Basis app) where
       → joined_texts (joined_by_key rest (drained ++ silent)) ≡ joined_texts drained ++ joined_texts rest
   texts_behind drained silent rest ordered none logs new unheard =
       let turned = share_turned silent rest unheard in
-      let back = order_of_back drained silent ordered in
+      let back = IsInKeyOrder-last drained silent ordered in
       ap joined_texts (sym (basis.joins_commute (drained ++ silent) rest ordered logs.ordered new) ∙ joined_behind drained silent rest logs.later)
       ∙ basis.texts_follow drained (joined_by_key silent rest)
       ∙ ap (λ texts. joined_texts drained ++ texts) (ap joined_texts (basis.joins_commute silent rest back logs.ordered unheard) ∙ basis.silent_joins rest silent logs.ordered back turned none)
@@ -75,8 +69,7 @@ module _ {V : Type 0} {app : Application V} (basis : Basis app) where
 
   listed_fit : (pending : List Task) (first : List Start) → AreListed pending first → AreFitTasks app pending → AreFitStarts app first
   listed_fit pending first listed fit =
-      let all = All-permutation (IsFitTask app) pending listed.tasks listed.same (All-from_recursion (IsFitTask app) pending fit) in
-      subst (AreFitStarts app) (sym listed.starts) (starts_fit listed.tasks (recursion_from_All (IsFitTask app) listed.tasks all))
+      subst (AreFitStarts app) (sym listed.starts) (starts_fit listed.tasks (All-shuffled (IsFitTask app) pending listed.tasks listed.same fit))
 
   -- ---- the run from the new tasks
 
@@ -116,7 +109,7 @@ module _ {V : Type 0} {app : Application V} (basis : Basis app) where
         silent_unlogged : (tasks : List Task) → AllByRecursion (λ (task : Task). AllByRecursion (λ (entry : Entry). is_prefix task.key.path entry.0.path ≡ false) entries) tasks
             → AllByRecursion (λ (task : Task). AllByRecursion (λ (entry : Entry). is_prefix task.key.path entry.0.path ≡ false) old.log.entries) tasks
         silent_unlogged [] all = tt
-        silent_unlogged (task ∷ tasks) all = (back-append (λ (entry : Entry). is_prefix task.key.path entry.0.path ≡ false) course.drained old.log.entries all.0, silent_unlogged tasks all.1)
+        silent_unlogged (task ∷ tasks) all = (All-behind (λ (entry : Entry). is_prefix task.key.path entry.0.path ≡ false) course.drained old.log.entries all.0, silent_unlogged tasks all.1)
 
     to_here : (limit : ℕ) → BothEnd (IsEndBehind old.ended old.text) (run_from app.act (old.ended + limit) end start) (run_from app.act limit end (state_in old))
     to_here limit =
@@ -157,7 +150,7 @@ module _ {V : Type 0} {app : Application V} (basis : Basis app) where
     as_many : length now.pending ≡ length old.pending
     as_many =
         let adds = basis.put_all_adds (first_from 0 names.first) [] in
-        omega (arith, ap length names.pending, adds, length-first 0 names.first, as_many_listed old.pending names.first names.listed)
+        omega (arith, ap length names.pending, adds, length-first_from 0 names.first, as_many_listed old.pending names.first names.listed)
 
     pub names_keep_come : (limit rounds : ℕ) → HasCome app start limit rounds old → HasCome app start limit rounds now
     names_keep_come limit rounds come = record {

@@ -1,11 +1,11 @@
 use Rattle.std.proofs.Common.{◌≡◌, ◌≢◌, ◌+◌, List, [], ◌∷◌, length, drop, sym, ap, ◌∙◌, subst, arith}
 use Rattle.std.proofs.lemmas.Result.{err_from_is_err_and}
+use Rattle.plain_laws.proofs.Lists.{nothing_left}
 use Rattle.task_order.specs.declared.task.Task.{Task}
 use Rattle.commuting.specs.Rounds.{after_round, clear_tasks}
 use Rattle.list_rounds.specs.Course.{IsActing, state_in}
 use Rattle.list_rounds.specs.Rounds.{IsRunFault, PassesLimit, RoundsState}
 use Rattle.list_rounds.proofs.Course.{never_ends, new_entry}
-use Rattle.list_rounds.proofs.Lists.{nothing_left}
 use Rattle.list_rounds.proofs.Steps.{acting_begins, acting_goes_on, passes_here, passes_later, rested, round_comes_to_rest, round_has_tasks}
 use Rattle.list_rounds.proofs.rounds.ListRounds.act_round.Goals as goal
 
