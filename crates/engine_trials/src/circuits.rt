@@ -5,7 +5,9 @@ ghost use Rattle.std.specs.Prelude.{◌≤◌};
 use super::decks::C17;
 use super::driving::Answer;
 use super::rounds::{start_ends_in_rounds, start_is_over_in_rounds};
-use super::trials::{answer_after, begin_fault, counts_after, is_over_at_first_end, performed_in_turn};
+use super::trials::{
+    answer_after, begin_fault, counts_after, is_over_at_first_end, performed_in_turn,
+};
 use bench_reader::read_deck;
 use graph_update::{BeginFault, Counts, OverCause};
 use kdg_text::NoRoom;

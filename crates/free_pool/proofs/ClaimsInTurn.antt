@@ -1,6 +1,7 @@
 -- The claims of a worker, one after the other in a turn.
-use Rattle.std.proofs.Common.{◌≡◌, ◌≢◌, ◌==◌, Bool, true, false, ℕ, suc, List, [], ◌∷◌, length, refl, sym, ap, subst, ◌∙◌, eqb-true, true≢false, arith}
+use Rattle.std.proofs.Common.{◌≡◌, ◌≢◌, ◌==◌, Bool, true, false, ℕ, suc, List, [], ◌∷◌, length, refl, sym, ap, subst, ◌∙◌, eqb-true, true≢false}
 use Rattle.std.specs.List.{AllByRecursion}
+use Rattle.plain_laws.proofs.Lists.{empty_from_length}
 use Rattle.app_laws.specs.Applications.{Application}
 use Rattle.crew.specs.Jobs.{MayRun}
 use Rattle.run_laws.specs.Jobs.{Job}
@@ -11,16 +12,12 @@ use Rattle.free_pool.specs.declared.turns.Next.{Next}
 use Rattle.free_pool.specs.declared.turns.Next.TheVariants as next
 use Rattle.free_pool.specs.Turns.{AreClaimed, AreToPerform}
 
-no_items : {X : Type 0} (xs : List X) → length xs ≡ 0 → xs ≡ []
-no_items [] none = refl
-no_items (x ∷ xs) none = absurd (omega (arith, none))
-
 no_cons : {X : Type 0} {x : X} {xs : List X} → [] ≡ x ∷ xs → ⊥
 no_cons same = cc
 
 -- by the test of a list's length
 pub none_there : {X : Type 0} (xs : List X) (len : ℕ) (empty : Bool) → len ≡ length xs → empty ≡ (len == 0) → empty ≡ true → xs ≡ []
-none_there xs len empty long is same = no_items xs (sym long ∙ eqb-true len 0 (sym is ∙ same))
+none_there xs len empty long is same = empty_from_length xs (sym long ∙ eqb-true len 0 (sym is ∙ same))
 
 pub some_there : {X : Type 0} (xs : List X) (len : ℕ) (empty : Bool) → len ≡ length xs → empty ≡ (len == 0) → empty ≡ false → xs ≢ []
 some_there xs len empty long is same none =

@@ -1,7 +1,8 @@
 -- The seats of a team, from the first split to the last join.
-use Rattle.std.proofs.Common.{get_or, Option, Some, None, true≢false, ◌≡◌, ◌==◌, not, ℕ, suc, ◌<◌, List, [], ◌∷◌, ◌++◌, map, length, refl, sym, ap, subst, ◌∙◌, arith}
-use Rattle.std.specs.Prelude.{Contains, IsSome, filter}
+use Rattle.std.proofs.Common.{get_or, ◌≡◌, ◌==◌, not, ℕ, suc, ◌<◌, List, [], ◌∷◌, ◌++◌, map, length, refl, sym, ap, subst, ◌∙◌, arith}
+use Rattle.std.specs.Prelude.{Contains, filter}
 use Rattle.std.specs.List.{AllByRecursion, AllZip}
+use Rattle.plain_laws.proofs.Lists.{All-push, All-pushed}
 use Rattle.graph_update.specs.Engine.{EngineState}
 use Rattle.worker_gate.specs.Steps.{both_views, first_half, second_half}
 use Rattle.worker_gate.specs.Turns.{HallState, SeatState}
@@ -12,14 +13,6 @@ use Rattle.free_pool.proofs.Numbers.{last_number, no_number, without_first}
 map_snoc : {X Y : Type 0} (f : X → Y) (xs : List X) (x : X) → map f (xs ++ x ∷ []) ≡ map f xs ++ f x ∷ []
 map_snoc f [] x = refl
 map_snoc f (y ∷ xs) x = ap (λ (rest : List _). f y ∷ rest) (map_snoc f xs x)
-
-all_before : {X : Type 0} (P : X → Type 0) (xs : List X) (x : X) → AllByRecursion P (xs ++ x ∷ []) → AllByRecursion P xs × P x
-all_before P [] x all = (tt, all.0)
-all_before P (y ∷ xs) x all = let rest = all_before P xs x all.1 in ((all.0, rest.0), rest.1)
-
-pub all_with : {X : Type 0} (P : X → Type 0) (xs : List X) (x : X) → AllByRecursion P xs → P x → AllByRecursion P (xs ++ x ∷ [])
-all_with P [] x all one = (one, tt)
-all_with P (y ∷ xs) x all one = (all.0, all_with P xs x all.1 one)
 
 abbrev pub number_of : {S V : Type 0} → SeatState S V → ℕ
 number_of seat = seat.view.number
@@ -33,7 +26,7 @@ module _ {A V : Type 0} where
         → (m : ℕ) × (n ≡ suc m) × (map number_of rest ≡ up_to m) × (last.view.number ≡ suc m) × AllByRecursion (IsSeated hall) rest × IsSeated hall last
     last_of_others n seats rest last is numbers members =
         let at = last_number n (map number_of rest) (number_of last) (sym (map_snoc number_of rest last) ∙ ap (map number_of) (sym is) ∙ numbers) in
-        let all = all_before (IsSeated hall) rest last (subst (AllByRecursion (IsSeated hall)) is members) in
+        let all = All-pushed (IsSeated hall) rest last (subst (AllByRecursion (IsSeated hall)) is members) in
         (at.0, at.1, at.2, at.3, all.0, all.1)
 
     pub none_left : (n : ℕ) (seats : List (SeatState (EngineState A V) V)) → seats ≡ [] → map number_of seats ≡ up_to n → n ≡ 0
@@ -173,7 +166,7 @@ module _ {A V P : Type 0} (hall : HallState (EngineState A V)) (others n : ℕ) 
         ∙ ap (λ (ns : List ℕ). ns ++ number_of (seat post) ∷ []) posted.numbers
         ∙ ap (λ (k : ℕ). up_to n ++ k ∷ []) (ap number_of other ∙ ap (λ (k : ℕ). suc k) posted.splits);
     ready = subst (AllByRecursion (λ (p : P). IsReady hall others (at p) (app p) (seat p))) (sym more)
-        (all_with (λ (p : P). IsReady hall others (at p) (app p) (seat p)) posts post posted.ready (split_ready hall others (at post) (app post) own (seat post) same app_is posted.seated other));
+        (All-push (λ (p : P). IsReady hall others (at p) (app p) (seat p)) posts post posted.ready (split_ready hall others (at post) (app post) own (seat post) same app_is posted.seated other));
   }
 
   -- the caller's own post comes apart
@@ -234,9 +227,3 @@ zipped R [] [] long each = tt
 zipped R [] (y ∷ ys) long each = absurd (omega (arith, long))
 zipped R (x ∷ xs) [] long each = absurd (omega (arith, long))
 zipped R (x ∷ xs) (y ∷ ys) long each = (each 0 x y (omega arith), zipped R xs ys (omega (arith, long)) (λ k a d inside. each (suc k) a d (omega (arith, inside))))
-
--- where nothing was taken, nothing is left
-pub nothing_left : {X : Type 0} (taken : Option X) (xs : List X) → (0 < length xs → IsSome taken) → ((x : X) → taken ≡ Some x → ⊥) → xs ≡ []
-nothing_left taken [] some never = refl
-nothing_left None (x ∷ xs) some never = absurd (true≢false (sym (some (omega arith))))
-nothing_left (Some y) (x ∷ xs) some never = absurd (never y refl)

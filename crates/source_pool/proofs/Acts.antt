@@ -1,5 +1,5 @@
 -- Clear tasks act one after another, with nothing between the claim of one and its end.
-use Rattle.std.proofs.Common.{◌≡◌, ◌≢◌, ⊎_elim, ℕ, suc, ◌+◌, not, Bool, true, false, cond, List, [], ◌∷◌, length, Some, refl, sym, ap, subst, ◌∙◌}
+use Rattle.std.proofs.Common.{◌≡◌, ◌≢◌, ⊎_elim, ℕ, suc, ◌+◌, not, Bool, true, false, List, [], ◌∷◌, length, Some, refl, sym, ap, subst, ◌∙◌}
 use Rattle.std.specs.Prelude.{Contains, IsSome}
 use Rattle.std.specs.List.{AllByRecursion, filter}
 use Rattle.std.specs.Option.{is_some, option_or}
@@ -7,6 +7,7 @@ use Rattle.std.specs.declared.cmp.Ordering.TheVariants.{Less}
 use Rattle.std.proofs.lemmas.Bool.{true≢false, and_from}
 use Rattle.std.proofs.lemmas.List.{length-map}
 use Rattle.std.proofs.lemmas.Option.{same_Some}
+use Rattle.kdg_graph.proofs.KeyOrder.{ascending_filtered}
 use Rattle.task_order.specs.declared.task.Task.{Task}
 use Rattle.task_order.specs.Key.{key_cmp}
 use Rattle.task_order.specs.TaskList.{IsAscending}
@@ -35,22 +36,6 @@ use Rattle.source_pool.proofs.Drawing.{drawings_begin, unblocked}
 use Rattle.source_pool.proofs.Lists.{same_tasks}
 
 -- ---- some of the nodes
-
--- what holds of each task holds of those of some nodes
-all_of_some : (P : Task → Type 0) (test : Node → Bool) (nodes : List Node) → AllByRecursion P (tasks_of nodes) → AllByRecursion P (tasks_of (filter test nodes))
-all_of_some P test nodes all = all_from P (tasks_of (filter test nodes)) (λ task has.
-    let from : (node : Node) × Contains (filter test nodes) node × (node.task ≡ task) = from_map (λ (n : Node). n.task) (filter test nodes) task has in
-    let among = from_filter test nodes from.0 from.1 in
-    subst P from.2 (all_at P (tasks_of nodes) from.0.task all (in_map (λ (n : Node). n.task) nodes from.0 among.0)))
-
-pub some_ascend : (test : Node → Bool) (nodes : List Node) → IsAscending (tasks_of nodes) → IsAscending (tasks_of (filter test nodes))
-some_ascend test [] up = tt
-some_ascend test (node ∷ nodes) up =
-    let rest = some_ascend test nodes up.1 in
-    elim (test node) as (λ passes. IsAscending (tasks_of (cond passes (node ∷ filter test nodes) (filter test nodes)))) [
-      | true ↦ (all_of_some (λ (other : Task). key_cmp node.task.key other.key ≡ Less) test nodes up.0, rest)
-      | false ↦ rest
-    ]
 
 no_nodes : (nodes : List Node) → [] ≡ ids_of nodes → nodes ≡ []
 no_nodes [] is = refl
@@ -109,7 +94,7 @@ module _ {V : Type 0} {app : Application V} (basis : Basis app) where
         (in_map (λ (n : Node). n.task) nodes node (in_filter (is_clear app now.nodes) now.nodes node from.1 (and_from _ _ (ap not (not_running node from.1)) free)))
 
     in_order : IsAscending (tasks_of nodes)
-    in_order = some_ascend (is_clear app now.nodes) now.nodes sound.keys_and_counts.graph.ascending
+    in_order = ascending_filtered (is_clear app now.nodes) now.nodes sound.keys_and_counts.graph.ascending
 
     pub they_are_the_clear : tasks_of nodes ≡ clear_tasks app state
     they_are_the_clear =

@@ -6,6 +6,7 @@ use Rattle.std.specs.Ordering.{is_lt}
 use Rattle.std.specs.declared.cmp.Ordering.TheVariants.{Less}
 use Rattle.std.proofs.lemmas.Bool.{true≢false}
 use Rattle.std.proofs.lemmas.List.Sorted.{ranks_by, sorted_far}
+use Rattle.plain_laws.proofs.Lists.{All-map}
 use Rattle.task_order.specs.declared.key.Key.{Key}
 use Rattle.task_order.specs.declared.task.Task.{Task}
 use Rattle.task_order.specs.Key.{key_cmp, key_cmp_total}
@@ -16,10 +17,6 @@ use Rattle.run_laws.specs.Lists.{all_at, all_from, in_map}
 use Rattle.source_pool.specs.Course.{HaveOwnKeys, job_tasks}
 
 -- ---- lists of anything
-
-all_mapped : {X Y : Type 0} (P : Y → Type 0) (f : X → Y) (xs : List X) → AllByRecursion (λ x. P (f x)) xs → AllByRecursion P (map f xs)
-all_mapped P f [] all = tt
-all_mapped P f (x ∷ xs) all = (all.0, all_mapped P f xs all.1)
 
 -- ---- keys
 
@@ -38,7 +35,7 @@ module _ {V : Type 0} where
   -- jobs with keys of their own, and their tasks
   pub own_tasks : (jobs : List (Job V)) → HaveOwnKeys jobs → HasDistinctKeys (job_tasks jobs)
   own_tasks [] own = tt
-  own_tasks (job ∷ jobs) own = (all_mapped (λ other. other.key ≢ job.task.key) (λ (j : Job V). j.task) jobs (all_other job jobs own.0), own_tasks jobs own.1)
+  own_tasks (job ∷ jobs) own = (All-map (λ other. other.key ≢ job.task.key) (λ (j : Job V). j.task) jobs (all_other job jobs own.0), own_tasks jobs own.1)
     where
       all_other : (one : Job V) (jobs : List (Job V)) → AllByRecursion (λ other. one.task.key ≢ other.task.key) jobs → AllByRecursion (λ (other : Job V). other.task.key ≢ one.task.key) jobs
       all_other one [] all = tt
@@ -64,4 +61,4 @@ module _ {V : Type 0} where
   pub ascends : EarlierIsConnected → (dones : List (Done V)) → IsEarliestFirst dones → HasDistinctKeys (done_tasks dones) → IsAscending (done_tasks dones)
   ascends connected [] sorted own = tt
   ascends connected (done ∷ dones) sorted own =
-      (all_mapped (λ task. key_cmp done.task.key task.key ≡ Less) (λ (d : Done V). d.task) dones (rest_later connected done dones sorted own.0), ascends connected dones (rest_sorted done dones sorted) own.1)
+      (All-map (λ task. key_cmp done.task.key task.key ≡ Less) (λ (d : Done V). d.task) dones (rest_later connected done dones sorted own.0), ascends connected dones (rest_sorted done dones sorted) own.1)

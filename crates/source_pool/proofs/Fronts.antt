@@ -1,5 +1,5 @@
 -- Text that is kept is a front of the sequential run's text.
-use Rattle.std.proofs.Common.{◌≡◌, ℕ, zero, suc, ◌+◌, ◌-◌, ◌≤◌, ◌||◌, Bool, true, false, not, cond, List, [], ◌∷◌, ◌++◌, length, append-nil, append_assoc, Option, Some, None, refl, sym, ap, subst, ◌∙◌, arith}
+use Rattle.std.proofs.Common.{◌≡◌, ℕ, zero, suc, ◌+◌, ◌-◌, ◌≤◌, ◌||◌, Bool, true, false, not, List, [], ◌∷◌, ◌++◌, length, append-nil, append_assoc, Option, Some, None, refl, sym, ap, subst, ◌∙◌, arith}
 use Rattle.std.specs.Prelude.{IfSome, MatchOption}
 use Rattle.std.specs.List.{AllByRecursion, filter, list_any}
 use Rattle.std.specs.Option.{option_map}
@@ -9,6 +9,9 @@ use Rattle.std.proofs.lemmas.Bool.{true≢false}
 use Rattle.std.proofs.lemmas.List.{length-map}
 use Rattle.std.proofs.lemmas.List.Elements.{filter-append}
 use Rattle.std.proofs.lemmas.Option.{same_Some}
+use Rattle.plain_laws.proofs.Orderings.{not_less}
+use Rattle.kdg_graph.proofs.Marks.{filter_again}
+use Rattle.plain_laws.proofs.Lists.{filter-none}
 use Rattle.task_order.specs.declared.key.Key.{Key}
 use Rattle.task_order.specs.declared.task.Task.{Task}
 use Rattle.task_order.specs.Key.{Bound, at_key, end, is_before, key_cmp}
@@ -31,21 +34,9 @@ use Rattle.source_pool.specs.Basis.{Basis}
 use Rattle.source_pool.specs.Kept.{acted_in, entries_after, first_pending}
 use Rattle.source_pool.specs.KeptLaws.{DrainedEntriesAreFirst, KeptTextsAreFronts}
 use Rattle.source_pool.specs.Runs.{state_at_rest}
-use Rattle.source_pool.proofs.Kept.{RunTo, bound_is, none_before_first, not_less, rounds_stand, run_to}
+use Rattle.source_pool.proofs.Kept.{RunTo, bound_is, none_before_first, rounds_stand, run_to}
 
 -- ---- lists
-
-pass_step : {X : Type 0} (test : X → Bool) (x : X) (rest : List X) (passes : Bool) → test x ≡ passes → filter test rest ≡ rest → filter test (cond passes (x ∷ rest) rest) ≡ cond passes (x ∷ rest) rest
-pass_step test x rest true is same = ap (λ b. cond b (x ∷ filter test rest) (filter test rest)) is ∙ ap (λ rest. x ∷ rest) same
-pass_step test x rest false is same = same
-
-all_pass : {X : Type 0} (test : X → Bool) (xs : List X) → filter test (filter test xs) ≡ filter test xs
-all_pass test [] = refl
-all_pass test (x ∷ xs) = pass_step test x (filter test xs) (test x) refl (all_pass test xs)
-
-none_passes : {X : Type 0} (test : X → Bool) (xs : List X) → AllByRecursion (λ x. test x ≡ false) xs → filter test xs ≡ []
-none_passes test [] none = refl
-none_passes test (x ∷ xs) none = ap (λ b. cond b (x ∷ filter test xs) (filter test xs)) none.0 ∙ none_passes test xs none.1
 
 -- one in the middle is in the relation to each after it
 to_later : {X : Type 0} (R : X → X → Type 0) (front : List X) (x : X) (rest : List X) → Pairwise R (front ++ x ∷ rest) → AllByRecursion (R x) rest
@@ -223,8 +214,8 @@ module _ {V : Type 0} {app : Application V} (basis : Basis app) where
         let later = logs_no_earlier bound went.steps (most - went.steps) (there went.steps).pending refl (subst (λ (e : Execution V). is_clear_before bound e ≡ true) (sym went.is) went.clear) in
         let log_is : (there most).log ≡ done ++ later.0 =
         ap (λ (n : ℕ). (there n).log) (sym all) ∙ later.1 ∙ ap (λ (log : List Entry). log ++ later.0) (ap (λ (e : Execution V). e.log) went.is ∙ run.log_is) in
-        ap (entries_before bound) log_is ∙ filter-append (is_entry_before bound) done later.0 ∙ ap (λ (rest : List Entry). entries_before bound done ++ rest) (none_passes (is_entry_before bound) later.0 later.2)
-        ∙ append-nil (entries_before bound done) ∙ all_pass (is_entry_before bound) entries
+        ap (entries_before bound) log_is ∙ filter-append (is_entry_before bound) done later.0 ∙ ap (λ (rest : List Entry). entries_before bound done ++ rest) (filter-none (is_entry_before bound) later.0 later.2)
+        ∙ append-nil (entries_before bound done) ∙ filter_again (is_entry_before bound) entries
 
   -- ---- rounds
 

@@ -6,6 +6,8 @@ use Rattle.std.specs.declared.cmp.Ordering.TheVariants.{Less}
 use Rattle.std.proofs.Math.Nat.{zero-mod}
 use Rattle.std.proofs.lemmas.Bool.{eqb-true}
 use Rattle.std.proofs.lemmas.Option.{same_Some}
+use Rattle.plain_laws.proofs.Members.{filter_of_all}
+use Rattle.kdg_graph.proofs.KeyOrder.{ascending_filtered}
 use Rattle.task_order.specs.declared.task.Task.{Task}
 use Rattle.task_order.specs.Key.{key_cmp}
 use Rattle.task_order.specs.TaskList.{IsAscending}
@@ -19,13 +21,7 @@ use Rattle.run_laws.specs.Lists.{all_at, from_filter, here, in_map, there}
 use Rattle.run_laws.specs.Progress.{Progress}
 use Rattle.source_pool.specs.Basis.{Basis}
 use Rattle.source_pool.specs.Laws.{ClaimsGoInKeyOrder, ClearNodesHaveClearTasks}
-use Rattle.source_pool.proofs.Acts.{some_ascend, they_are_the_clear}
-
--- where every item passes a test, the list stays
-all_pass : {X : Type 0} (test : X → Bool) (xs : List X) → ((x : X) → Contains xs x → test x ≡ true) → filter test xs ≡ xs
-all_pass test [] each = refl
-all_pass test (x ∷ xs) each =
-    ap (λ passes. cond passes (x ∷ filter test xs) (filter test xs)) (each x (here x xs)) ∙ ap (λ l. x ∷ l) (all_pass test xs (λ y has. each y (there x y xs has)))
+use Rattle.source_pool.proofs.Acts.{they_are_the_clear}
 
 module _ {V : Type 0} {app : Application V} (basis : Basis app) where
   -- no later node has the id
@@ -48,7 +44,7 @@ module _ {V : Type 0} {app : Application V} (basis : Basis app) where
   others_are_left now (n ∷ nodes) node found up first =
       let is : n ≡ node = same_Some n node first in
       let gone : without n.id (n ∷ nodes) ≡ nodes =
-      ap (λ test. cond (not test) (n ∷ without n.id nodes) (without n.id nodes)) (eq-eqb n.id.at n.id.at refl) ∙ all_pass (λ (m : Node). not (is_at n.id m)) nodes (others_have_other_ids now n nodes found up) in
+      ap (λ test. cond (not test) (n ∷ without n.id nodes) (without n.id nodes)) (eq-eqb n.id.at n.id.at refl) ∙ filter_of_all (λ (m : Node). not (is_at n.id m)) nodes (others_have_other_ids now n nodes found up) in
       ap (λ (l : List Node). n.task ∷ tasks_of l) (sym gone) ∙ ap (λ (m : Node). m.task ∷ tasks_of (without m.id (n ∷ nodes))) is
 
   pub claims_go_in_key_order : ClaimsGoInKeyOrder app
@@ -58,11 +54,11 @@ module _ {V : Type 0} {app : Application V} (basis : Basis app) where
       let clear = clear_nodes app now.nodes in
       let first : slice_get clear zero ≡ Some claimed.node = ap (slice_get clear) (sym (zero-mod (length clear))) ∙ claimed.chosen in
       others_are_left now clear claimed.node (λ n has. basis.have_ids now.nodes n graph (from_filter (is_clear app now.nodes) now.nodes n has).0)
-      (some_ascend (is_clear app now.nodes) now.nodes graph.ascending) first
+      (ascending_filtered (is_clear app now.nodes) now.nodes graph.ascending) first
       ∙ ap (λ (j : Job V). j.task ∷ tasks_of (without claimed.node.id clear)) (sym claimed.job_is)
       ∙ ap (λ (l : List Node). job.task ∷ tasks_of l) (sym (basis.take_one now next 0 job claimed))
 
   pub clear_nodes_have_clear_tasks : ClearNodesHaveClearTasks app
   clear_nodes_have_clear_tasks start now cells state text rest =
       let are = they_are_the_clear basis start now cells state text rest in
-      (are, subst IsAscending are (some_ascend (is_clear app now.nodes) now.nodes rest.course.come.sound.keys_and_counts.graph.ascending))
+      (are, subst IsAscending are (ascending_filtered (is_clear app now.nodes) now.nodes rest.course.come.sound.keys_and_counts.graph.ascending))

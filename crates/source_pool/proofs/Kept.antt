@@ -3,9 +3,11 @@ use Rattle.std.proofs.Common.{◌≡◌, ℕ, zero, suc, ◌+◌, ◌||◌, true
 use Rattle.std.specs.List.{list_any}
 use Rattle.std.specs.Ordering.{is_lt}
 use Rattle.std.specs.declared.cmp.Ordering.{Ordering}
-use Rattle.std.specs.declared.cmp.Ordering.TheVariants.{Less, Equal, Greater}
+use Rattle.std.specs.declared.cmp.Ordering.TheVariants.{Less}
 use Rattle.std.proofs.lemmas.List.{length-map}
 use Rattle.std.proofs.lemmas.Option.{same_Some}
+use Rattle.kdg_graph.proofs.KeyOrder.{turned}
+use Rattle.plain_laws.proofs.Orderings.{not_less}
 use Rattle.task_order.specs.declared.key.Key.{Key}
 use Rattle.task_order.specs.declared.task.Task.{Task}
 use Rattle.task_order.specs.Key.{Bound, at_key, is_before, key_cmp}
@@ -32,11 +34,6 @@ use Rattle.source_pool.specs.KeptLaws.{DrainedTextsAreKept}
 use Rattle.source_pool.specs.Runs.{state_at_rest}
 use Rattle.source_pool.proofs.RunsBeside.{end_beside}
 
-pub not_less : (order : Ordering) → (order ≡ Less → ⊥) → is_lt order ≡ false
-not_less Less never = absurd (never refl)
-not_less Equal never = refl
-not_less Greater never = refl
-
 pub bound_is : (nodes : List Node) → least_bound nodes ≡ first_pending (tasks_of nodes)
 bound_is [] = refl
 bound_is (node ∷ nodes) = refl
@@ -56,9 +53,6 @@ module _ {V : Type 0} (app : Application V) where
 module _ {V : Type 0} {app : Application V} (basis : Basis app) where
   -- ---- the first of the pending tasks
 
-  never_earlier : (key other : Key) → key_cmp key other ≡ Less → is_lt (key_cmp other key) ≡ false
-  never_earlier key other less = not_less (key_cmp other key) (λ more. basis.irreflexive key key (basis.transitive key other key less more) refl)
-
   pub none_before_first : (cells : List V) (pending : List Task) → IsAscending pending → is_clear_before (first_pending pending) (execution_from (state_of cells pending)) ≡ true
   none_before_first cells [] up = refl
   none_before_first cells (task ∷ tasks) up =
@@ -66,7 +60,7 @@ module _ {V : Type 0} {app : Application V} (basis : Basis app) where
       let test = λ (other : Task). is_before other.key (at_key key) in
       let own : is_lt (key_cmp key key) ≡ false = not_less (key_cmp key key) (λ less. basis.irreflexive key key less refl) in
       let later : list_any test tasks ≡ false =
-      none_any test tasks (λ other has. never_earlier key other.key (all_at (λ (other : Task). key_cmp key other.key ≡ Less) tasks other up.0 has)) in
+      none_any test tasks (λ other has. turned key other.key (all_at (λ (other : Task). key_cmp key other.key ≡ Less) tasks other up.0 has)) in
       ap not (ap (λ found. found || list_any test tasks) own ∙ later)
 
   -- ---- one run

@@ -1,9 +1,8 @@
 -- Two lists place by place, members of lists, and lists in key order.
-use Rattle.std.proofs.Common.{◌≡◌, ◌≢◌, ◌<◌, ℕ, suc, inl, inr, List, [], ◌∷◌, ◌++◌, drop, length, length-append, map, take, Option, Some, None, refl, sym, ◌∙◌, ap, subst, arith, IsPermutation}
-use Rattle.std.specs.Prelude.{Contains, IsSome, slice_index_or, slice_set}
-use Rattle.std.specs.List.{All, AllByRecursion, AllZip, swap}
+use Rattle.std.proofs.Common.{◌≡◌, ◌≢◌, ◌<◌, ℕ, inl, inr, List, [], ◌∷◌, ◌++◌, drop, length, length-append, map, take, Some, refl, sym, ◌∙◌, ap, subst, arith, IsPermutation}
+use Rattle.std.specs.Prelude.{Contains, slice_index_or, slice_set}
+use Rattle.std.specs.List.{All, AllZip, swap}
 use Rattle.std.specs.declared.cmp.Ordering.TheVariants.{Less}
-use Rattle.std.proofs.lemmas.Bool.{true≢false}
 use Rattle.std.proofs.lemmas.List.{get_or-map, length-map, map-set}
 use Rattle.std.proofs.lemmas.List.Elements.{All-append, All-cons, All-drop, All-head, All-nil, All-take}
 use Rattle.std.proofs.lemmas.List.Sorted.{IsPermutation-keeps, IsPermutation-map, IsPermutation-refl, IsPermutation-swap, IsPermutation-trans}
@@ -11,7 +10,7 @@ use Rattle.task_order.specs.declared.task.Task.{Task}
 use Rattle.task_order.specs.Key.{key_cmp}
 use Rattle.task_order.specs.Laws.{EarlierIsIrreflexive, EarlierIsTransitive}
 use Rattle.task_order.specs.TaskList.{IsAscending}
-use Rattle.run_laws.specs.Lists.{all-append, all_at, cases, here, none, there}
+use Rattle.run_laws.specs.Lists.{all_at, cases, here, none, there}
 
 pub some_in : {X : Type 0} (xs : List X) → xs ≢ [] → 0 < length xs
 some_in [] some = absurd (some refl)
@@ -24,12 +23,6 @@ AllZip-append R [] others [] more each rest = rest
 AllZip-append R [] others (y ∷ ys) more each rest = absurd each
 AllZip-append R (x ∷ xs) others [] more each rest = absurd each
 AllZip-append R (x ∷ xs) others (y ∷ ys) more each rest = (each.0, AllZip-append R xs others ys more each.1 rest)
-
-pub length_beside : {X Y : Type 0} (R : X → Y → Type 0) (xs : List X) (ys : List Y) → AllZip R xs ys → length xs ≡ length ys
-length_beside R [] [] each = refl
-length_beside R [] (y ∷ ys) each = absurd each
-length_beside R (x ∷ xs) [] each = absurd each
-length_beside R (x ∷ xs) (y ∷ ys) each = ap suc (length_beside R xs ys each.1)
 
 -- some order of the first list, beside the other one place by place
 pub record Beside {X Y : Type 0} (R : X → Y → Type 0) (xs : List X) (ys : List Y) : Type 0 where
@@ -86,19 +79,6 @@ module _ {X Y : Type 0} (R : X → Y → Type 0) where
         same = subst (λ (l : List X). IsPermutation l (firsts moved.0)) pairs.1 (IsPermutation-map (λ (p : Pair). p.0) pairs.0 moved.0 moved.1);
         each = subst (AllZip R (firsts moved.0)) moved.2 (from_pairs moved.0);
       }
-
--- ---- a loop that empties a list
-
--- where nothing was taken from it, nothing is left
-pub nothing_left : {X : Type 0} (taken : Option X) (xs : List X) → (0 < length xs → IsSome taken) → ((x : X) → taken ≡ Some x → ⊥) → xs ≡ []
-nothing_left taken [] some never = refl
-nothing_left None (x ∷ xs) some never = absurd (true≢false (sym (some (omega arith))))
-nothing_left (Some y) (x ∷ xs) some never = absurd (never y refl)
-
--- ---- one more at the end
-
-pub all_turned : {X : Type 0} (P : X → Type 0) (x : X) (xs : List X) → P x → AllByRecursion P xs → AllByRecursion P (xs ++ x ∷ [])
-all_turned P x xs own all = all-append P xs (x ∷ []) all (own, tt)
 
 -- ---- lists in key order
 

@@ -1,10 +1,9 @@
 -- Where a task passes the limit, its whole round does: acting never lowers how many tasks have been created.
-use Rattle.std.proofs.Common.{◌≡◌, ◌+◌, ◌<◌, ◌≤◌, ℕ, suc, List, [], ◌∷◌, length, refl, sym, ap, subst, ◌∙◌, arith}
+use Rattle.std.proofs.Common.{◌≡◌, ◌+◌, ◌<◌, ◌≤◌, ℕ, suc, List, [], ◌∷◌, length, sym, ap, subst, ◌∙◌, arith}
 use Rattle.std.specs.Prelude.{Contains}
 use Rattle.std.proofs.lemmas.List.{length-map}
 use Rattle.std.proofs.lemmas.Option.{same_Some}
-use Rattle.task_order.specs.declared.key.Key.{Key}
-use Rattle.task_order.specs.declared.start.Start.{Start}
+use Rattle.app_laws.proofs.Apart.{length-children_from}
 use Rattle.task_order.specs.declared.task.Task.{Task}
 use Rattle.task_order.specs.TaskList.{without}
 use Rattle.kdg_graph.specs.declared.node_id.NodeId.{NodeId}
@@ -30,10 +29,6 @@ use Rattle.source_pool.specs.KeptLaws.{ActsPassWithTheRound, EndsPassWithTheRoun
 use Rattle.source_pool.proofs.Acts as acts
 use Rattle.source_pool.proofs.Jobs.{first_performed, job_is_clear}
 
-length-children : (parent : Key) (number : ℕ) (starts : List Start) → length (children_from parent number starts) ≡ length starts
-length-children parent number [] = refl
-length-children parent number (start ∷ starts) = ap suc (length-children parent (suc number) starts)
-
 module _ {V : Type 0} {app : Application V} (basis : Basis app) where
   -- ---- how many are pending
 
@@ -45,7 +40,7 @@ module _ {V : Type 0} {app : Application V} (basis : Basis app) where
       omega (
         arith,
         basis.adds_each (children_from task.key 0 starts) others,
-        length-children task.key 0 starts,
+        length-children_from task.key 0 starts,
         basis.puts_add_one task others,
         ap length (basis.put_without task state.pending ready.ascending has),
       )

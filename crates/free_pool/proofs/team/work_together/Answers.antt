@@ -1,12 +1,8 @@
-use Rattle.std.proofs.Common.{◌≡◌, ◌-◌, Option, Some, rules, subst}
-use Rattle.std.specs.Prelude.{IfSome}
+use Rattle.std.proofs.Common.{◌≡◌, ◌-◌, Option, Some, rules}
+use Rattle.plain_laws.proofs.Options.{if_some_at}
 use Rattle.worker_gate.specs.declared.post.Post.{Post}
 use Rattle.free_pool.proofs.Seats.{team_after}
 use Rattle.free_pool.proofs.team.work_together.Goals as goal
-
--- what is so of whatever is there
-of_some : {X : Type 0} (P : X → Type 0) (there : Option X) (x : X) → there ≡ Some x → IfSome there P → P x
-of_some P there x is all = subst (λ one. IfSome one P) is all
 
 pub joined-requires-after_bounds : goal.joined-requires-after_bounds
 joined-requires-after_bounds g c κs within =
@@ -19,6 +15,6 @@ joined-requires-after_bounds g c κs within =
           (λ (post : Post g.row.A.Denot g.row.A-Val.Denot g.row.A-Horizon.Denot). post.seat)
           (λ (post : Post g.row.A.Denot g.row.A-Val.Denot g.row.A-Horizon.Denot). post.seat)
           c.in-Ok.posts.1 c.in-Some-Some.own.seat c.in-Ok.posts.0.items c.in-Some-Some.others.items c.in-Ok.ensures.own c.in-Ok.ensures.first
-          (of_some _ _ _ own_is c.work_all.ensures.lead.1).worked c.in-Ok.ensures.numbers c.in-Ok.ensures.ready
-          (of_some _ _ _ others_are c.work_all.ensures.others),
+          (if_some_at _ _ _ own_is c.work_all.ensures.lead.1).worked c.in-Ok.ensures.numbers c.in-Ok.ensures.ready
+          (if_some_at _ _ _ others_are c.work_all.ensures.others),
     )

@@ -1,5 +1,6 @@
 use Rattle.std.proofs.Common.{sym, ap, subst, ◌∙◌}
 use Rattle.std.specs.List.{AllByRecursion}
+use Rattle.plain_laws.proofs.Lists.{All-push}
 use Rattle.cell_store.specs.Values.{values_of}
 use Rattle.run_laws.specs.Answers.{IsClaimAnswer}
 use Rattle.graph_update.specs.Engine.{IsToRun}
@@ -8,7 +9,6 @@ use Rattle.run_laws.specs.Events.{IsClaimed, clear_nodes}
 use Rattle.run_laws.specs.Progress.{Progress}
 use Rattle.source_pool.specs.Course.{IsDrawing}
 use Rattle.source_pool.proofs.DrawnOut.{drawn_out}
-use Rattle.source_pool.proofs.Lists.{all_turned}
 use Rattle.source_pool.proofs.claiming.draw.Goals as goal
 
 pub loop-job-smaller : goal.loop-job-smaller
@@ -29,7 +29,7 @@ loop-job-preserved g c =
       drawing = subst (IsDrawing app g.from.start (values_of g.from.start.cells) g.from.state g.from.text c.claim.new.self.progress) (sym c.in_ok-push_back.ensures.items)
           (c.drawing_laws.ensures.goes_on c.args.engine.now.app g.from.start c.loop-job.engine.progress c.claim.new.self.progress (values_of g.from.start.cells) g.from.state g.from.text c.loop-job.jobs.items c.next.result c.in-Job.job
           c.loop-job.invariant.drawing claimed);
-      may_run = subst (AllByRecursion (MayRun app)) (sym c.in_ok-push_back.ensures.items) (all_turned (MayRun app) c.in-Job.job c.loop-job.jobs.items may_run c.loop-job.invariant.may_run);
+      may_run = subst (AllByRecursion (MayRun app)) (sym c.in_ok-push_back.ensures.items) (All-push (MayRun app) c.loop-job.jobs.items c.in-Job.job c.loop-job.invariant.may_run may_run);
       ended = ap (λ (p : Progress g.row.A-Val.Denot). p.ended) claimed.after ∙ c.loop-job.invariant.ended;
     }
 

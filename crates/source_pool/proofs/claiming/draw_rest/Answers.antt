@@ -1,5 +1,6 @@
 use Rattle.std.proofs.Common.{◌≡◌, sym, ap, subst, ◌∙◌}
 use Rattle.std.specs.List.{AllByRecursion}
+use Rattle.plain_laws.proofs.Lists.{All-push}
 use Rattle.run_laws.specs.Answers.{IsClaimAnswer}
 use Rattle.graph_update.specs.Engine.{IsToRun}
 use Rattle.crew.specs.Jobs.{MayRun}
@@ -8,7 +9,6 @@ use Rattle.run_laws.specs.Progress.{Progress}
 use Rattle.source_pool.specs.Performing.{HasDrawn}
 use Rattle.source_pool.proofs.DrawnInOrder.{one_more_drawn}
 use Rattle.source_pool.proofs.DrawnOut.{drawn_out}
-use Rattle.source_pool.proofs.Lists.{all_turned}
 use Rattle.source_pool.proofs.claiming.draw_rest.Goals as goal
 
 pub loop-job-smaller : goal.loop-job-smaller
@@ -31,7 +31,7 @@ loop-job-preserved g c =
       drawn = subst (λ items. HasDrawn app (λ drawn. drawn ≡ items) c.args.engine.now.progress c.claim.new.self.progress) (sym c.in_ok-push_back.ensures.items)
           (one_more_drawn app c.args.engine.now.progress c.loop-job.engine.progress c.claim.new.self.progress c.loop-job.jobs.items c.in-Job.job
           (c.drawing_laws.ensures.goes_on start) (c.drawing_laws.ensures.in_key_order start) c.loop-job.invariant.drawn claimed);
-      may_run = subst (AllByRecursion (MayRun app)) (sym c.in_ok-push_back.ensures.items) (all_turned (MayRun app) c.in-Job.job c.loop-job.jobs.items may_run c.loop-job.invariant.may_run);
+      may_run = subst (AllByRecursion (MayRun app)) (sym c.in_ok-push_back.ensures.items) (All-push (MayRun app) c.loop-job.jobs.items c.in-Job.job c.loop-job.invariant.may_run may_run);
       ended = ap (λ (p : Progress g.row.A-Val.Denot). p.ended) claimed.after ∙ c.loop-job.invariant.ended;
     }
 

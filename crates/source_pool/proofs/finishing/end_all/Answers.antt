@@ -1,10 +1,10 @@
 use Rattle.std.proofs.Common.{refl, sym, subst, ◌∙◌, arith}
 use Rattle.std.proofs.lemmas.Result.{err_from_is_err_and}
+use Rattle.plain_laws.proofs.Lists.{nothing_left}
 use Rattle.run_laws.specs.Answers.{IsFinishRefusal}
 use Rattle.run_laws.specs.Events.{IsFinished, IsOverLimit}
 use Rattle.run_laws.specs.Laws.{IsDone}
 use Rattle.source_pool.proofs.Ended.{HaveCome, all_at_fault, all_ended, first_is_done, none_ended, one_ended}
-use Rattle.source_pool.proofs.Lists.{nothing_left}
 use Rattle.source_pool.proofs.finishing.end_all.Goals as goal
 
 pub loop-done-init : goal.loop-done-init

@@ -2,11 +2,11 @@ use Rattle.std.proofs.Common.{◌≡◌, ◌<◌, ◌∷◌, ◌∙◌, ◌++◌
 use Rattle.std.specs.Prelude.{slice_get}
 use Rattle.std.proofs.lemmas.List.{length-set}
 use Rattle.std.proofs.lemmas.Option.{slice_get_read}
+use Rattle.plain_laws.proofs.Lists.{nothing_left}
 use Rattle.run_laws.specs.Jobs.{Done, Job}
 use Rattle.source_pool.specs.declared.hands.Hand.{Hand}
 use Rattle.source_pool.specs.Performing.{dealt_jobs}
 use Rattle.source_pool.proofs.Dealing.{all_in_hands, none_dealt, one_in_hand}
-use Rattle.source_pool.proofs.Lists.{nothing_left}
 use Rattle.source_pool.proofs.hands.deal_in_order.Goals as goal
 
 pub loop-job-init : goal.loop-job-init

@@ -1,9 +1,9 @@
 use Rattle.std.proofs.Common.{◌∙◌, List, arith, refl, subst}
 use Rattle.std.specs.List.{AllByRecursion}
+use Rattle.plain_laws.proofs.Lists.{nothing_left}
 use Rattle.run_laws.specs.Jobs.{Done, Job}
 use Rattle.crew.specs.Jobs.{MayRun}
 use Rattle.source_pool.specs.Course.{IsJobDone}
-use Rattle.source_pool.proofs.Lists.{nothing_left}
 use Rattle.source_pool.proofs.PerformedInOrder.{all_done, none_done, one_done}
 use Rattle.source_pool.proofs.performing.perform_in_turn.Goals as goal
 
