@@ -5,6 +5,8 @@ use Rattle.std.specs.List.{AllByRecursion, list_any}
 use Rattle.std.specs.Ordering.{is_lt}
 use Rattle.std.specs.declared.cmp.Ordering.TheVariants.{Less}
 use Rattle.std.proofs.lemmas.Bool.{false≢true}
+use Rattle.std.proofs.lemmas.Option.{get_or_from_slice_get, slice_get_within}
+use Rattle.plain_laws.proofs.Lists.{All-get_or}
 use Rattle.task_order.specs.declared.key.Key.{Key}
 use Rattle.task_order.specs.declared.task.Task.{Task}
 use Rattle.task_order.specs.Key.{key_cmp}
@@ -16,6 +18,10 @@ use Rattle.app_laws.specs.Applications.{Application, AreFitTasks, IsLawful, set_
 use Rattle.mark_board.specs.Ranks.{FreeRanksAreUnbarred, IsUnbarred}
 use Rattle.mark_rounds.specs.Marked.{FreeAndSafeIsClear}
 
+-- what holds of all holds of the task at a place
+pub holds_there : (P : Task → Type 0) (tasks : List Task) (rank : ℕ) (task : Task) → AllByRecursion P tasks → slice_get tasks rank ≡ Some task → P task
+holds_there P tasks rank task all at = subst P (get_or_from_slice_get tasks rank task task at) (All-get_or P tasks rank task (slice_get_within tasks rank task at) all)
+
 -- ---- the tasks before one of an ascending list
 
 module _ (turned : EarlierIsTurned) (equal : EqualIsReflexive) where
@@ -25,11 +31,6 @@ module _ (turned : EarlierIsTurned) (equal : EqualIsReflexive) where
       let test : is_earlier key task ≡ false = ap is_lt ((turned key task.key).0 all.0) in
       ap (λ (b : Bool). cond b (task ∷ tasks_before key tasks) (tasks_before key tasks)) test ∙ not_later key tasks all.1
 
-  its_key : (P : Task → Type 0) (tasks : List Task) (rank : ℕ) (task : Task) → AllByRecursion P tasks → slice_get tasks rank ≡ Some task → P task
-  its_key P [] rank task all at = absurd cc
-  its_key P (other ∷ tasks) zero task all at = let same : other ≡ task = cc in subst P same all.0
-  its_key P (other ∷ tasks) (suc rank) task all at = its_key P tasks rank task all.1 at
-
   pub front : (tasks : List Task) (rank : ℕ) (task : Task) → IsAscending tasks → slice_get tasks rank ≡ Some task → tasks_before task.key tasks ≡ take rank tasks
   front [] rank task ascending at = absurd cc
   front (other ∷ tasks) zero task ascending at =
@@ -38,7 +39,7 @@ module _ (turned : EarlierIsTurned) (equal : EqualIsReflexive) where
       subst (λ (t : Task). tasks_before t.key (other ∷ tasks) ≡ []) same
       (ap (λ (b : Bool). cond b (other ∷ tasks_before other.key tasks) (tasks_before other.key tasks)) test ∙ not_later other.key tasks ascending.0)
   front (other ∷ tasks) (suc rank) task ascending at =
-      let less : key_cmp other.key task.key ≡ Less = its_key (λ (t : Task). key_cmp other.key t.key ≡ Less) tasks rank task ascending.0 at in
+      let less : key_cmp other.key task.key ≡ Less = holds_there (λ (t : Task). key_cmp other.key t.key ≡ Less) tasks rank task ascending.0 at in
       let test : is_earlier task.key other ≡ true = ap is_lt less in
       ap (λ (b : Bool). cond b (other ∷ tasks_before task.key tasks) (tasks_before task.key tasks)) test ∙ ap (λ (rest : List Task). other ∷ rest) (front tasks rank task ascending.1 at)
 

@@ -2,7 +2,6 @@ pub mod AllMarked
 pub mod Chosen
 pub mod Clear
 pub mod FirstWriting
-pub mod Found
 pub mod Noted
 pub mod Places
 pub mod Safe

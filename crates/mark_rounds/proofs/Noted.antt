@@ -1,19 +1,16 @@
 -- What is noted of the sets that write a location.
-use Rattle.std.proofs.Common.{◌≡◌, ◌≢◌, ◌⊎◌, inl, inr, ℕ, zero, suc, ◌+◌, ◌<◌, Bool, true, false, cond, List, [], ◌∷◌, length, drop, get_or, Option, Some, None, refl, sym, ap, subst, ◌∙◌, drop-cons, add-one, arith}
+use Rattle.std.proofs.Common.{◌≡◌, ◌≢◌, ◌⊎◌, inl, inr, ℕ, zero, suc, ◌+◌, ◌<◌, Bool, true, false, cond, List, [], ◌∷◌, length, drop, get_or, Option, Some, None, refl, sym, ap, subst, ◌∙◌, drop-cons, add-one}
 use Rattle.std.specs.Prelude.{Contains, IsSome, slice_get, slice_set}
 use Rattle.std.proofs.lemmas.Bool.{cases_eq, true≢false}
 use Rattle.std.proofs.lemmas.List.{length-set}
 use Rattle.std.proofs.lemmas.List.Elements.{Contains-get_or}
+use Rattle.plain_laws.proofs.Lists.{get-set_same}
+use Rattle.plain_laws.proofs.Members.{cases, none}
 use Rattle.rw_sets.specs.declared.access.Access.{Access}
 use Rattle.rw_sets.specs.declared.access.Access.TheVariants.{Read, Write}
 use Rattle.rw_sets.specs.Accesses.{Accesses, access_at, allows_write, is_write, IsAscending, IsInRange, writes}
 use Rattle.rw_sets.specs.Laws.{LookupsFindPairs}
 use Rattle.mark_rounds.specs.Writers.{HaveFirstWriters, first_writer}
-
-set_here : (xs : List ℕ) (i n : ℕ) → i < length xs → slice_get (slice_set xs i n) i ≡ Some n
-set_here [] i n within = absurd (omega (arith, within))
-set_here (x ∷ xs) zero n within = refl
-set_here (x ∷ xs) (suc i) n within = set_here xs i n (omega (arith, within))
 
 set_elsewhere : (xs : List ℕ) (i j n : ℕ) → i ≢ j → slice_get (slice_set xs i n) j ≡ slice_get xs j
 set_elsewhere [] i j n differs = refl
@@ -21,13 +18,6 @@ set_elsewhere (x ∷ xs) zero zero n differs = absurd (differs refl)
 set_elsewhere (x ∷ xs) zero (suc j) n differs = refl
 set_elsewhere (x ∷ xs) (suc i) zero n differs = refl
 set_elsewhere (x ∷ xs) (suc i) (suc j) n differs = set_elsewhere xs i j n (λ same. differs (ap suc same))
-
-none_in : (p : ℕ × Access) → Contains [] p → ⊥
-none_in p (k, inside, is) = omega (arith, inside)
-
-first_or_later : (q p : ℕ × Access) (ps : Accesses) → Contains (q ∷ ps) p → (q ≡ p) ⊎ Contains ps p
-first_or_later q p ps (zero, inside, is) = inl is
-first_or_later q p ps (suc k, inside, is) = inr (k, omega (arith, inside), is)
 
 -- the pairs of a set that are not left have noted the rank where they write, and nowhere else
 pub record AreNoted (rank : ℕ) (set : Accesses) (old now : List ℕ) (left : Accesses) : Type 0 where
@@ -49,7 +39,7 @@ module _ (rank : ℕ) (set items : Accesses) (old now : List ℕ) (i : ℕ) (d :
   reading_noted reads = record {
     count = noted.count;
     written = λ loc has. elim (noted.written loc has) [
-      | inl among ↦ elim (first_or_later pair (loc, Write) (drop (i + 1) set) (subst (λ l. Contains l (loc, Write)) left among)) [
+      | inl among ↦ elim (cases pair (loc, Write) (drop (i + 1) set) (subst (λ l. Contains l (loc, Write)) left among)) [
         | inl is ↦ absurd (true≢false (ap (λ (p : ℕ × Access). is_write p.1) (sym is) ∙ reads))
         | inr later ↦ inl later
       ]
@@ -67,7 +57,7 @@ module _ (rank : ℕ) (set items : Accesses) (old now : List ℕ) (i : ℕ) (d :
         by_access at Write right is = ap (λ n. (n, Write)) is
 
     written_there : (loc : ℕ) → pair.0 ≡ loc → slice_get (slice_set now pair.0 rank) loc ≡ Some rank
-    written_there loc is = subst (λ n. slice_get (slice_set now pair.0 rank) n ≡ Some rank) is (set_here now pair.0 rank within)
+    written_there loc is = subst (λ n. slice_get (slice_set now pair.0 rank) n ≡ Some rank) is (get-set_same now pair.0 rank within)
 
     stays : (loc : ℕ) → slice_get now loc ≡ Some rank → slice_get (slice_set now pair.0 rank) loc ≡ Some rank
     stays loc done = elim (cases_eq pair.0 loc) [
@@ -79,7 +69,7 @@ module _ (rank : ℕ) (set items : Accesses) (old now : List ℕ) (i : ℕ) (d :
     writing_noted = record {
       count = length-set now pair.0 rank ∙ noted.count;
       written = λ loc has. elim (noted.written loc has) [
-        | inl among ↦ elim (first_or_later pair (loc, Write) (drop (i + 1) set) (subst (λ l. Contains l (loc, Write)) left among)) [
+        | inl among ↦ elim (cases pair (loc, Write) (drop (i + 1) set) (subst (λ l. Contains l (loc, Write)) left among)) [
           | inl is ↦ inr (written_there loc (ap (λ (p : ℕ × Access). p.0) is))
           | inr later ↦ inl later
         ]
@@ -96,11 +86,11 @@ is_write_access (Some Write) is = refl
 -- once none is left
 pub all_noted : LookupsFindPairs → (rank : ℕ) (old now : List ℕ) (set rest : Accesses) → IsAscending set → rest ≡ [] → AreNoted rank set old now rest
     → (loc : ℕ) → slice_get now loc ≡ cond (writes set loc) (Some rank) (slice_get old loc)
-all_noted find rank old now set rest ascending none noted loc = by_case (writes set loc) refl
+all_noted find rank old now set rest ascending empty noted loc = by_case (writes set loc) refl
   where
     by_case : (b : Bool) → writes set loc ≡ b → slice_get now loc ≡ cond b (Some rank) (slice_get old loc)
     by_case true is = elim (noted.written loc ((find set loc Write ascending).0 (is_write_access (access_at set loc) is))) [
-      | inl among ↦ absurd (none_in (loc, Write) (subst (λ l. Contains l (loc, Write)) none among))
+      | inl among ↦ absurd (none (loc, Write) (subst (λ l. Contains l (loc, Write)) empty among))
       | inr done ↦ done
     ]
     by_case false is = noted.others loc (λ has. true≢false (sym (ap allows_write ((find set loc Write ascending).1 has)) ∙ is))

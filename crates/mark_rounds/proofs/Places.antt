@@ -3,6 +3,7 @@ use Rattle.std.proofs.Common.{◌≡◌, ℕ, zero, suc, ◌+◌, ◌<◌, List,
 use Rattle.std.specs.Prelude.{slice_get}
 use Rattle.std.specs.Borrow.{Bor}
 use Rattle.std.specs.List.{AllByRecursion}
+use Rattle.plain_laws.proofs.Lists.{All-get_or}
 use Rattle.task_order.specs.declared.task.Task.{Task}
 use Rattle.rw_sets.specs.Accesses.{Accesses}
 use Rattle.mark_board.specs.declared.view.Mark.{Mark}
@@ -16,9 +17,7 @@ left_one xs i x within here = drop-cons xs i x within ∙ ap (λ first. first �
 
 -- what stands at a place holds what all hold
 pub holds_at : {X : Type 0} (P : X → Type 0) (xs : List X) (i : ℕ) (x : X) → i < length xs → x ≡ get_or xs i x → AllByRecursion P xs → P x
-holds_at P [] i x within here all = absurd (omega (arith, within))
-holds_at P (y ∷ xs) zero x within here all = subst P (sym here) all.0
-holds_at P (y ∷ xs) (suc i) x within here all = holds_at P xs i x (omega (arith, within)) here all.1
+holds_at P xs i x within here all = subst P (sym here) (All-get_or P xs i x within all)
 
 -- what all tasks hold, the lent ones do
 pub all_lent : (P : Task → Type 0) (tasks : List (Bor Task)) → AllByRecursion P (tasks_in tasks) → AllByRecursion (λ (task : Bor Task). P task.now) tasks

@@ -1,8 +1,11 @@
 -- A place is free where its node is a source.
-use Rattle.std.proofs.Common.{◌≡◌, ◌⊎◌, inl, inr, ℕ, zero, suc, false, List, [], ◌∷◌, map, Some, refl, sym, subst, ◌∙◌, arith}
+use Rattle.std.proofs.Common.{◌≡◌, inl, inr, ℕ, zero, suc, false, List, [], ◌∷◌, map, Some, sym, subst, ◌∙◌}
 use Rattle.std.specs.Prelude.{Contains, slice_get}
 use Rattle.std.specs.List.{AllByRecursion}
 use Rattle.std.specs.declared.cmp.Ordering.TheVariants.{Less, Equal, Greater}
+use Rattle.std.proofs.lemmas.List.Elements.{Contains-get_or}
+use Rattle.std.proofs.lemmas.Option.{get_or_from_slice_get, slice_get_within}
+use Rattle.plain_laws.proofs.Members.{all_at, cases, here, there}
 use Rattle.task_order.specs.declared.task.Task.{Task}
 use Rattle.task_order.specs.Key.{key_cmp}
 use Rattle.task_order.specs.Laws.{EarlierIsTurned, EqualIsReflexive}
@@ -14,24 +17,9 @@ use Rattle.kdg_graph.specs.Nodes.{HaveSets, tasks_of}
 use Rattle.mark_board.specs.Ranks.{FreeRanksAreUnbarred, IsUnbarred}
 use Rattle.mark_rounds.specs.Sources.{FreeNodesAreSources}
 
-none : (node : Node) → Contains [] node → ⊥
-none node (k, inside, is) = omega (arith, inside)
-
-first_or_later : (first node : Node) (nodes : List Node) → Contains (first ∷ nodes) node → (first ≡ node) ⊎ Contains nodes node
-first_or_later first node nodes (zero, inside, is) = inl is
-first_or_later first node nodes (suc k, inside, is) = inr (k, omega (arith, inside), is)
-
-all_at : (P : Node → Type 0) (nodes : List Node) (node : Node) → AllByRecursion P nodes → Contains nodes node → P node
-all_at P [] node all has = absurd (none node has)
-all_at P (first ∷ nodes) node all has = elim (first_or_later first node nodes has) [ inl same ↦ subst P same all.0 | inr later ↦ all_at P nodes node all.1 later ]
-
-behind : (first node : Node) (nodes : List Node) → Contains nodes node → Contains (first ∷ nodes) node
-behind first node nodes (k, inside, is) = (suc k, omega (arith, inside), is)
-
-there : (nodes : List Node) (rank : ℕ) (node : Node) → slice_get nodes rank ≡ Some node → Contains nodes node
-there [] rank node at = absurd cc
-there (first ∷ nodes) zero node at = let same : first ≡ node = cc in (zero, omega arith, same)
-there (first ∷ nodes) (suc rank) node at = behind first node nodes (there nodes rank node at)
+stands_in : (nodes : List Node) (rank : ℕ) (node : Node) → slice_get nodes rank ≡ Some node → Contains nodes node
+stands_in nodes rank node at =
+    subst (Contains nodes) (get_or_from_slice_get nodes rank node node at) (Contains-get_or nodes rank node (slice_get_within nodes rank node at))
 
 later_nodes : (P : Task → Type 0) (nodes : List Node) → AllByRecursion P (tasks_of nodes) → AllByRecursion (λ node. P node.task) nodes
 later_nodes P [] all = tt
@@ -54,7 +42,7 @@ module _ (turned : EarlierIsTurned) (equal : EqualIsReflexive) where
   apart_from (first ∷ nodes) zero node ascending at none other has less conflict =
       let same : first ≡ node = cc in
       let later = later_nodes (λ (task : Task). key_cmp first.task.key task.key ≡ Less) nodes ascending.0 in
-      elim (first_or_later first other nodes has) [
+      elim (cases first other nodes has) [
         | inl is ↦
             let itself : key_cmp node.task.key node.task.key ≡ Less = subst (λ (n : Node). key_cmp n.task.key node.task.key ≡ Less) (sym is ∙ same) less in
             differ (sym (equal node.task.key) ∙ itself)
@@ -69,7 +57,7 @@ module _ (turned : EarlierIsTurned) (equal : EqualIsReflexive) where
       turn : Greater ≡ Less → ⊥
       turn wrong = cc
   apart_from (first ∷ nodes) (suc rank) node ascending at none other has less conflict =
-      elim (first_or_later first other nodes has) [
+      elim (cases first other nodes has) [
         | inl is ↦ none.0 (subst (λ (n : Node). Conflicts n.set node.set) (sym is) conflict)
         | inr behind ↦ apart_from nodes rank node ascending.1 at none.1 other behind less conflict
       ]
@@ -79,13 +67,13 @@ module _ (turned : EarlierIsTurned) (equal : EqualIsReflexive) where
   unbarred_from (first ∷ nodes) zero node ascending at apart = tt
   unbarred_from (first ∷ nodes) (suc rank) node ascending at apart =
       let later = later_nodes (λ (task : Task). key_cmp first.task.key task.key ≡ Less) nodes ascending.0 in (
-        apart first (zero, omega arith, refl) (all_at (λ (n : Node). key_cmp first.task.key n.task.key ≡ Less) nodes node later (there nodes rank node at)),
-        unbarred_from nodes rank node ascending.1 at (λ other has. apart other (behind first other nodes has)),
+        apart first (here first nodes) (all_at (λ (n : Node). key_cmp first.task.key n.task.key ≡ Less) nodes node later (stands_in nodes rank node at)),
+        unbarred_from nodes rank node ascending.1 at (λ other has. apart other (there first other nodes has)),
       )
 
 pub free_nodes_are_sources : EarlierIsTurned → EqualIsReflexive → NodesHaveIds → SourcesAreUnblocked → FreeRanksAreUnbarred → FreeNodesAreSources
 free_nodes_are_sources turned equal ids sources free nodes marks rank node graph idle marked at =
-    let has = there nodes rank node at in
+    let has = stands_in nodes rank node at in
     let law = free (sets_of nodes) marks rank node.set (its_sets nodes graph.sets) marked in
     let source = sources nodes node.id node graph (ids nodes node graph has) in (
       (λ unmarked. source.1 (all_at (λ (n : Node). n.running ≡ false) nodes node idle has, apart_from turned equal nodes rank node graph.ascending at (law.0 unmarked))),

@@ -1,7 +1,6 @@
 -- What the test of one place tells.
 use Rattle.std.proofs.Common.{◌≡◌, ℕ, zero, suc, Bool, ◌&&◌, List, [], ◌∷◌, map, Some, IsTrue, sym, ap, subst, ◌∙◌}
 use Rattle.std.specs.Prelude.{◌↔◌, slice_get}
-use Rattle.std.specs.List.{AllByRecursion}
 use Rattle.task_order.specs.declared.task.Task.{Task}
 use Rattle.task_order.specs.TaskList.{tasks_before}
 use Rattle.rw_sets.specs.Accesses.{Accesses, IsInRange}
@@ -11,17 +10,13 @@ use Rattle.mark_board.specs.Markers.{BoardState, IsFree, MarkerState}
 use Rattle.mark_board.specs.Ranks.{marks_from}
 use Rattle.mark_rounds.specs.Basis.{Basis}
 use Rattle.mark_rounds.specs.Pending.{HaveMarked, MarkedState, state_in}
+use Rattle.mark_rounds.proofs.Clear.{holds_there}
 use Rattle.mark_rounds.proofs.Safe.{marked_by_all, source_where_free}
 
 set_at : (f : Task → Accesses) (tasks : List Task) (rank : ℕ) (task : Task) (set : Accesses) → slice_get tasks rank ≡ Some task → slice_get (map f tasks) rank ≡ Some set → set ≡ f task
 set_at f [] rank task set at there = absurd cc
 set_at f (first ∷ tasks) zero task set at there = let same : first ≡ task = cc in let made : f first ≡ set = cc in sym made ∙ ap f same
 set_at f (first ∷ tasks) (suc rank) task set at there = set_at f tasks rank task set at there
-
-holds_there : (P : Task → Type 0) (tasks : List Task) (rank : ℕ) (task : Task) → AllByRecursion P tasks → slice_get tasks rank ≡ Some task → P task
-holds_there P [] rank task all at = absurd cc
-holds_there P (first ∷ tasks) zero task all at = let same : first ≡ task = cc in subst P same all.0
-holds_there P (first ∷ tasks) (suc rank) task all at = holds_there P tasks rank task all.1 at
 
 module _ {V : Type 0} (app : Application V) (basis : Basis app) (pending : MarkedState V) (board : BoardState) (marker : MarkerState) (marked : HaveMarked app pending board marker) (rank : ℕ) (task : Task) (set : Accesses)
     (at : slice_get pending.tasks rank ≡ Some task) (there : slice_get pending.sets rank ≡ Some set) where
