@@ -3,6 +3,7 @@ use Rattle.std.specs.Prelude.{◌≡◌, ℕ, suc, ◌+◌, ◌-◌, ◌*◌, �
 use Rattle.std.proofs.Common.{◌⊎◌, inl, inr, arith, sym, ap, ◌∙◌, subst}
 use Rattle.std.proofs.lemmas.Bool.{cases_lt, eq-eqb, eqb-true, false_from_ne_true, le-ltb, lt-ltb, or_cases, or_from, or_left, or_right, true≢false}
 use Rattle.std.proofs.lemmas.List.{get_or-map}
+use Rattle.plain_laws.proofs.Bools.{same_tests}
 use Rattle.rw_sets.specs.Accesses.{writes}
 use Rattle.cell_store.specs.declared.cell.Cell.{Cell}
 use Rattle.cell_store.specs.declared.cell.Cell.TheVariants.{Home, Out}
@@ -17,7 +18,7 @@ use Rattle.gf2_eliminate.specs.declared.line.Line2.TheVariants.{Row, Col}
 use Rattle.gf2_eliminate.specs.Covers.{covers, IsAtHome, IsCommon, IsFirstBeyond, IsFirstCommon, IsLeastBeyond, IsLeastCommon, IsSharedAmong}
 use Rattle.gf2_eliminate.specs.Elimination.{is_shared, set_of}
 use Rattle.gf2_eliminate.specs.Lines.{no_line, numbers_in, has, line_at, holds, IsListTo, IsRow, IsColumn}
-use Rattle.gf2_eliminate.specs.Membership.{in_has, same_tests}
+use Rattle.gf2_eliminate.specs.Membership.{in_has}
 use Rattle.gf2_eliminate.specs.Lawful.{IsNamed, OfRow, OfItself, OfColumn, SharesRow, named_from_some, number_within, shared_found, shared_from, some_from_writes, writes_from_named}
 use Rattle.gf2_eliminate.proofs.Marking.{or_assoc}
 

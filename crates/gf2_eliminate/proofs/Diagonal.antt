@@ -8,7 +8,8 @@ use Rattle.std.proofs.Common.{arith, sym, ap, ◌∙◌, subst, append_assoc}
 use Rattle.std.proofs.lemmas.Bool.Decides.{nat_tests}
 use Rattle.std.proofs.lemmas.Cmp.{nat_cmp_total, on_total, then_total}
 use Rattle.std.proofs.lemmas.List.Concat.{flat_map-append}
-use Rattle.mtx_reader.specs.Ascending.{IsAscendingBy, all_in, all_from_in, all_push, ascending_push, nat_less, numbers_from}
+use Rattle.plain_laws.proofs.Lists.{All-append, All-push}
+use Rattle.mtx_reader.specs.Ascending.{IsAscendingBy, all_in, all_from_in, ascending_push, nat_less, numbers_from}
 use Rattle.mtx_reader.specs.Patterns.{IsPattern}
 use Rattle.mtx_reader.specs.Places.{IsWithin, Place, place_cmp}
 use Rattle.gf2_eliminate.specs.Blocks.{block_places, blocks_places, most_blocks, places_behind}
@@ -38,7 +39,7 @@ behind_rows places row next above less =
 
 behind_last : (places : List Place) (last next : Place) → ComeBefore places last → place_cmp last next ≡ Less → ComeBefore (places ++ last ∷ []) next
 behind_last places last next before less =
-    all_push (λ place. place_cmp place next ≡ Less) places last
+    All-push (λ place. place_cmp place next ≡ Less) places last
     (all_from_in (λ place. place_cmp place next ≡ Less) places (λ place there. place_total.trans place last next (all_in (λ other. place_cmp other last ≡ Less) places place before there) less))
     less
 
@@ -83,10 +84,6 @@ blocks-next n = let next : n + 1 ≡ suc n = omega arith in sym (blocks-more n) 
 pub block_added : (n : ℕ) (before after : List Place) → before ≡ blocks_places (numbers_from 0 n) → after ≡ before ++ block_places n → after ≡ blocks_places (numbers_from 0 (n + 1))
 block_added n before after so_far more = more ∙ ap (λ (places : List Place). places ++ block_places n) so_far ∙ sym (blocks-more n)
 
-all_append : (P : Place → Type 0) (xs ys : List Place) → AllByRecursion P xs → AllByRecursion P ys → AllByRecursion P (xs ++ ys)
-all_append P [] ys left right = right
-all_append P (x ∷ xs) ys left right = (left.0, all_append P xs ys left.1 right)
-
 within_more : (size more : ℕ) (places : List Place) → size ≤ more → AllByRecursion (IsWithin size size) places → AllByRecursion (IsWithin more more) places
 within_more size more places grows within = all_from_in (IsWithin more more) places (λ place there.
     let here = all_in (IsWithin size size) places place within there in
@@ -110,7 +107,7 @@ blocks_within zero = tt
 blocks_within (suc n) =
     let grows : 3 * n ≤ 3 * suc n = omega arith in
     subst (AllByRecursion (IsWithin (3 * suc n) (3 * suc n))) (blocks-next n)
-    (all_append (IsWithin (3 * suc n) (3 * suc n)) (blocks_places (numbers_from 0 n)) (block_places n)
+    (All-append (IsWithin (3 * suc n) (3 * suc n)) (blocks_places (numbers_from 0 n)) (block_places n)
     (within_more (3 * n) (3 * suc n) (blocks_places (numbers_from 0 n)) grows (blocks_within n))
     (block_within (3 * n) (3 * suc n) (omega arith)))
 

@@ -5,6 +5,7 @@ use Rattle.std.proofs.Common.{◌⊎◌, inl, inr, arith, sym, ap, ◌∙◌, su
 use Rattle.std.proofs.lemmas.Bool.{and_parts, and_from, cases_eq, cases_Bool, eqb-true, eq-eqb, ne_eqb, or_right, true≢false, false_from_ne_true}
 use Rattle.std.proofs.lemmas.List.{get_or-set_same, get_or-set_other}
 use Rattle.std.proofs.lemmas.Option.{slice_get-get_or}
+use Rattle.plain_laws.proofs.Bools.{same_tests}
 use Rattle.rw_sets.specs.Accesses.{Accesses, IsAscending, access_at}
 use Rattle.rw_sets.specs.declared.access.Access.TheVariants.{Write}
 use Rattle.cell_store.specs.declared.cell.Cell.TheVariants.{Home, Out}
@@ -20,7 +21,7 @@ use Rattle.gf2_eliminate.specs.declared.line.Line2.TheVariants.{Row, Col}
 use Rattle.gf2_eliminate.specs.Lines.{no_line, numbers_in, is_used, has, line_at, holds, listed, AreLines, IsRow, IsColumn}
 use Rattle.gf2_eliminate.specs.Elimination.{first_of, exactly_one, writing, is_touched, set_of, pivot_of, holds_after, line_after, lines_after, outcome_with, eliminated}
 use Rattle.gf2_eliminate.specs.Plans.{as_used, locations, pivot_among, planned, planned_with, sum_to, sums, text_with, with_lines, with_sum, without}
-use Rattle.gf2_eliminate.specs.Membership.{same_tests, has_listed, in_has, has_in, listed_same, list_is_listed, written_in}
+use Rattle.gf2_eliminate.specs.Membership.{has_listed, in_has, has_in, listed_same, list_is_listed, written_in}
 use Rattle.gf2_eliminate.specs.Lawful.{IsNamed, OfRow, OfItself, OfColumn, named_from_some, set_ascending, after_row, after_column, get_after, column_stays, written_from_named}
 use Rattle.gf2_eliminate.proofs.Held.{added_column, column_list, holder, holders_of, other_row, pivot_is, row_list}
 use Rattle.gf2_eliminate.proofs.Marking.{or_none}

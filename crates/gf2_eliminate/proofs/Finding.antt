@@ -5,6 +5,7 @@ use Rattle.std.specs.Ordering.{nat_cmp}
 use Rattle.std.proofs.Common.{◌⊎◌, inl, inr, arith, sym, ap, ◌∙◌, append_assoc, get_or}
 use Rattle.std.proofs.lemmas.List.{map-append, map_more}
 use Rattle.std.proofs.lemmas.Bool.{eqb-true, eq-eqb, or_cases}
+use Rattle.plain_laws.proofs.Bools.{same_tests}
 use Rattle.rw_sets.specs.declared.access.Access.TheVariants.{Write}
 use Rattle.cell_store.specs.declared.cell.Cell.{Cell}
 use Rattle.mtx_reader.specs.Ascending.{IsAscendingBy, all_in, all_from_in}
@@ -13,7 +14,7 @@ use Rattle.gf2_eliminate.specs.Lines.{has, listed}
 use Rattle.gf2_eliminate.specs.Elimination.{writing}
 use Rattle.gf2_eliminate.specs.Plans.{locations_behind}
 use Rattle.gf2_eliminate.specs.Touched.{is_marked, ones_at, HaveColumns}
-use Rattle.gf2_eliminate.specs.Membership.{same_tests, any_found, in_has, has_in, list_is_listed}
+use Rattle.gf2_eliminate.specs.Membership.{any_found, in_has, has_in, list_is_listed}
 use Rattle.gf2_eliminate.proofs.Marking.{any_more, or_assoc}
 
 -- one row more

@@ -1,5 +1,5 @@
 -- The first cells, as they are made place by place.
-use Rattle.std.specs.Prelude.{Result, Ok, Err, IfOk, ◌≡◌, ◌≢◌, ℕ, zero, suc, ◌+◌, ◌-◌, ◌<◌, ◌≤◌, Bool, true, false, ◌==◌, nat_lt, if◌then◌else◌, List, [], ◌∷◌, ◌++◌, length, map, filter, take, drop, slice_set, refl}
+use Rattle.std.specs.Prelude.{◌≡◌, ◌≢◌, ℕ, zero, suc, ◌+◌, ◌-◌, ◌<◌, ◌≤◌, Bool, true, false, ◌==◌, nat_lt, if◌then◌else◌, List, [], ◌∷◌, ◌++◌, length, map, filter, take, drop, slice_set, refl}
 use Rattle.std.specs.List.{AllByRecursion}
 use Rattle.std.specs.Ordering.{nat_cmp, ordering_then}
 use Rattle.std.specs.declared.cmp.Ordering.{Ordering}
@@ -8,6 +8,7 @@ use Rattle.std.proofs.Common.{◌⊎◌, inl, inr, arith, sym, ap, ◌∙◌, su
 use Rattle.std.proofs.lemmas.Bool.{and_parts, and_from, cases_lt, cases_eq, eqb-true, eq-eqb, ne_eqb, lt-ltb, le-ltb}
 use Rattle.std.proofs.lemmas.List.{get_or-set_same, get_or-set_other, map-append, take_more, take-append-drop}
 use Rattle.std.proofs.lemmas.List.Elements.{filter-append}
+use Rattle.plain_laws.proofs.Bools.{same_tests}
 use Rattle.task_order.specs.declared.start.Start.{Start}
 use Rattle.app_laws.specs.Applications.{AreFitStarts}
 use Rattle.mtx_reader.specs.declared.pattern.Pattern.{Pattern}
@@ -17,7 +18,7 @@ use Rattle.mtx_reader.specs.Places.{Place, is_same, place_cmp, is_among, IsWithi
 use Rattle.gf2_eliminate.specs.declared.line.Line2.{Line2}
 use Rattle.gf2_eliminate.specs.declared.line.Line2.TheVariants.{Row, Col}
 use Rattle.gf2_eliminate.specs.Lines.{no_line, numbers_in, has, line_at, listed, IsListTo, IsRow, IsColumn, AreLines}
-use Rattle.gf2_eliminate.specs.Membership.{same_tests, any_found, any_from, in_has, has_in, has_listed, listed_list, list_is_listed, length_numbers, line_numbers}
+use Rattle.gf2_eliminate.specs.Membership.{any_found, any_from, in_has, has_in, has_listed, listed_list, list_is_listed, length_numbers, line_numbers}
 use Rattle.gf2_eliminate.specs.Start.{with_number, empty_line, start_line, start_cells, start_task}
 use Rattle.gf2_eliminate.specs.Elimination.{IsElimination, elimination}
 
@@ -297,11 +298,6 @@ module _ (pattern : Pattern) (is : IsPattern pattern) where
 pub none_put : (rows columns : ℕ) → map (empty_line rows) (numbers_from 0 (rows + columns)) ≡ lines_so_far rows columns []
 none_put rows columns = refl
 
-pub all_index : {X : Type 0} (P : X → Type 0) (xs : List X) (i : ℕ) (d : X) → i < length xs → AllByRecursion P xs → P (get_or xs i d)
-all_index P [] i d below all = absurd (omega arith)
-all_index P (x ∷ xs) zero d below all = all.0
-all_index P (x ∷ xs) (suc i) d below all = all_index P xs i d (omega arith) all.1
-
 pub length_so_far : (rows columns : ℕ) (places : List Place) → length (lines_so_far rows columns places) ≡ rows + columns
 length_so_far rows columns places = length_numbers (line_so_far rows places) 0 (rows + columns)
 
@@ -324,11 +320,6 @@ module _ (pattern : Pattern) where
         ap (λ line. has (numbers_in line) (suc column)) (row_at_start row row-below) ∙ has_listed pattern.cols (λ c. is_among pattern.places (suc row, suc c)) column below
         ∙ sym (ap (λ line. has (numbers_in line) (suc row)) (column_at_start column below) ∙ has_listed pattern.rows (λ r. is_among pattern.places (suc r, suc column)) row row-below);
   }
-
--- what follows from what is said of a value that was had
-pub ok_then : {T E : Type 0} (r : Result T E) (P Q : T → Type 0) → ((x : T) → P x → Q x) → IfOk r P → IfOk r Q
-ok_then (Ok x) P Q follows is = follows x is
-ok_then (Err e) P Q follows is = tt
 
 pub tasks_fit : (rows columns : ℕ) → AreFitStarts (elimination rows columns) (map start_task (numbers_from 0 columns))
 tasks_fit rows columns = all_from_in (λ start. IsElimination columns start.prio start.body) (map start_task (numbers_from 0 columns)) (λ start there.

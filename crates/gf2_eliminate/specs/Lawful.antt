@@ -7,6 +7,7 @@ use Rattle.std.proofs.Common.{◌⊎◌, inl, inr, arith, sym, ap, ◌∙◌, su
 use Rattle.std.proofs.lemmas.Bool.{and_parts, and_from, or_cases, or_left, or_right, eqb-true, eq-eqb, ne_eqb, lt-ltb, le-ltb, cases_Bool, cases_lt, true≢false, false_from_ne_true}
 use Rattle.std.proofs.lemmas.List.{get_or-map}
 use Rattle.std.proofs.lemmas.Option.{slice_get-get_or, slice_get_past}
+use Rattle.plain_laws.proofs.Bools.{and_false}
 use Rattle.rw_sets.specs.Accesses.{Accesses, IsAscending, access_at, writes, allows_write, merged, Conflicts, IsWithin}
 use Rattle.rw_sets.specs.declared.access.Access.{Access}
 use Rattle.rw_sets.specs.declared.access.Access.TheVariants.{Write}
@@ -33,10 +34,6 @@ one_or_none false = refl
 or_none : (b : Bool) → (b || false) ≡ b
 or_none true = refl
 or_none false = refl
-
-and_none : (b : Bool) → (b && false) ≡ false
-and_none true = refl
-and_none false = refl
 
 -- a cell that is out, by the test
 out_is : (cell : Cell Line2) → is_out cell ≡ true → cell ≡ Out
@@ -241,7 +238,7 @@ module _ (rows columns : ℕ) where
         after_column column pivot cells other
         ∙ ap Col (listed_same rows (λ row. holds_after rows columns column pivot cells row other) (λ row. holds cells row other)
         (λ row row-below. ap (λ b. exactly_one (holds cells row other) ((holds cells row column && not (row == pivot)) && b)) free
-        ∙ ap (exactly_one (holds cells row other)) (and_none (holds cells row column && not (row == pivot))) ∙ one_or_none (holds cells row other)))
+        ∙ ap (exactly_one (holds cells row other)) (and_false (holds cells row column && not (row == pivot))) ∙ one_or_none (holds cells row other)))
         ∙ sym (column_is rows (λ row. holds cells row other) (line_at cells (rows + other)) (fit.each_column other other-below) (λ row row-below. sym (fit.agree row other row-below other-below)))
 
     line_stays : (loc : ℕ) → loc < rows + columns → ¬ IsNamed column cells loc → line_after rows columns column pivot cells loc ≡ line_at cells loc

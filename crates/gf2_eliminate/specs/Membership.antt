@@ -6,6 +6,7 @@ use Rattle.std.specs.declared.cmp.Ordering.TheVariants.{Less}
 use Rattle.std.proofs.Common.{inl, inr, arith, sym, ap, ◌∙◌, subst, add-zero}
 use Rattle.std.proofs.lemmas.Bool.{or_cases, or_left, or_right, eqb-true, eq-eqb, cases_Bool, true≢false, false_from_ne_true}
 use Rattle.std.proofs.lemmas.Option.{same_Some, unwrap_or-slice_get}
+use Rattle.plain_laws.proofs.Bools.{same_tests}
 use Rattle.rw_sets.specs.Accesses.{IsAscending, AllBeyond, access_at}
 use Rattle.rw_sets.specs.AccessLaws.{ascending_none, ascending_cons}
 use Rattle.rw_sets.specs.declared.access.Access.TheVariants.{Write}
@@ -15,12 +16,6 @@ use Rattle.gf2_eliminate.specs.declared.line.Line2.{Line2}
 use Rattle.gf2_eliminate.specs.declared.line.Line2.TheVariants.{Row, Col}
 use Rattle.gf2_eliminate.specs.Lines.{no_line, numbers_in, is_used, has, line_at, listed, IsListTo, IsRow, IsColumn}
 use Rattle.gf2_eliminate.specs.Elimination.{first_of, writing}
-
--- two tests that imply each other are the same
-pub same_tests : (s t : Bool) → (s ≡ true → t ≡ true) → (t ≡ true → s ≡ true) → s ≡ t
-same_tests true t there back = sym (there refl)
-same_tests false true there back = back refl
-same_tests false false there back = refl
 
 pub any_found : {X : Type 0} (test : X → Bool) (xs : List X) → list_any test xs ≡ true → (x : X) × IsIn xs x × (test x ≡ true)
 any_found test [] some = absurd (true≢false (sym some))

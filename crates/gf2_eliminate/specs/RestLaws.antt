@@ -2,12 +2,12 @@
 use Rattle.std.specs.Prelude.{◌≡◌, ℕ, ◌<◌, false, not, ◌&&◌, ◌==◌, List, Option, Some, None, IsTrue, refl}
 use Rattle.std.proofs.Common.{◌⊎◌, inl, inr, sym, ap, ◌∙◌}
 use Rattle.std.proofs.lemmas.Bool.{true≢false, false_from_ne_true}
+use Rattle.plain_laws.proofs.Bools.{same_tests}
 use Rattle.rw_sets.specs.Accesses.{writes}
 use Rattle.resting_tasks.specs.Resting.{SetsAreWritten, NoneHasChildren, EachIsSafe, RestIsKept, IsResting}
 use Rattle.gf2_eliminate.specs.declared.line.Line2.{Line2}
 use Rattle.gf2_eliminate.specs.Lines.{holds}
 use Rattle.gf2_eliminate.specs.Elimination.{exactly_one, set_of, pivot_of, lines_after, outcome_with, eliminated, elimination}
-use Rattle.gf2_eliminate.specs.Membership.{same_tests}
 use Rattle.gf2_eliminate.specs.Lawful.{one_or_none, IsNamed, OfRow, OfItself, OfColumn, holds_then, named_from_some, writes_from_named, some_from_writes, outcome_childless, outcome_moves}
 
 module _ (rows columns : ℕ) where

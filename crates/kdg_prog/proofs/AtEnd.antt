@@ -38,10 +38,6 @@ unfolding IsStrictlySortedBy
 ascends [] each = tt
 ascends (entry ∷ entries) each = (each.0, ascends entries each.1)
 
--- the end of a run in rounds is one of a run in any mode
-pub any_end : {V : Type 0} (app : Application V) (progress : Progress V) (finals : Finals V) (rounds : ℕ) → IsRoundsEnd app progress finals rounds → IsRunEnd app progress finals
-any_end app progress finals rounds ended = record { last = ended.last; is_end = ended.is_end; store = ended.store; text = ended.text; count = ended.count }
-
 -- the cells are home at the end
 pub home_at_end : {V : Type 0} (app : Application V) (progress : Progress V) (finals : Finals V) → HomesAreValues V → IsRunEnd app progress finals → AreAllHome finals.store
 home_at_end app progress finals values ended = subst AreAllHome (sym ended.store) (values.all_home ended.last.cells)

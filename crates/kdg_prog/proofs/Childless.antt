@@ -1,5 +1,6 @@
 -- Where no task makes others, an execution creates no more tasks than it begins with.
 use Rattle.std.proofs.Common.{◌≡◌, ◌∙◌, ℕ, zero, suc, List, [], ◌∷◌, length, length-append, ap, refl, sym, arith}
+use Rattle.app_laws.proofs.Steps.{after_none}
 use Rattle.task_order.specs.declared.start.Start.{Start}
 use Rattle.task_order.specs.declared.task.Task.{Task}
 use Rattle.task_order.specs.Laws.{PutsAddOne}
@@ -16,7 +17,7 @@ use Rattle.kdg_prog.specs.declared.status.Status.TheVariants as status
 use Rattle.kdg_prog.specs.declared.words.Options.{Options}
 use Rattle.kdg_prog.specs.Problem.{Problem}
 use Rattle.kdg_prog.specs.Refusals.{AnswersRounds, IsAtStart}
-use Rattle.kdg_prog.proofs.FirstTasks.{after_none, created_at_start}
+use Rattle.kdg_prog.proofs.FirstTasks.{created_at_start}
 
 module _ {V : Type 0} (app : Application V) (childless : NoneHasChildren app) where
   acts_create_none : (e : Execution V) (pending : List Task) → e.pending ≡ pending → IsFitExecution app e → created_by (acts app.act e pending) ≡ created_by e

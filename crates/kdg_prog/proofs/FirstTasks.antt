@@ -1,10 +1,12 @@
 -- Where the first tasks alone are more than the budget.
-use Rattle.std.proofs.Common.{◌≡◌, ◌∙◌, ℕ, suc, ◌+◌, ◌<◌, List, [], ◌∷◌, length, ap, refl, sym, subst, inr, arith}
+use Rattle.std.proofs.Common.{◌≡◌, ◌∙◌, ℕ, ◌+◌, ◌<◌, List, [], ◌∷◌, length, ap, refl, sym, subst, inr, arith}
+use Rattle.app_laws.proofs.Steps.{after_none}
+use Rattle.app_laws.proofs.Apart.{length-first_from}
 use Rattle.task_order.specs.declared.start.Start.{Start}
 use Rattle.task_order.specs.declared.task.Task.{Task}
 use Rattle.task_order.specs.Laws.{PutsAddOne}
 use Rattle.task_order.specs.TaskList.{put_in, put_all}
-use Rattle.app_laws.specs.Execution.{Execution, Operator, after_steps, created_after, created_by, first_from, start_of}
+use Rattle.app_laws.specs.Execution.{Execution, Operator, created_after, created_by, first_from, start_of}
 use Rattle.app_laws.specs.Laws.{EndsWithinLimit}
 use Rattle.app_laws.specs.Serial.{IsOverBudget}
 use Rattle.graph_update.specs.Engine.{IsBeginFault}
@@ -23,14 +25,6 @@ length-put_all adds_one (task ∷ new) tasks =
     let rest = length-put_all adds_one new (put_in task tasks) in
     let one = adds_one task tasks in
     omega (arith, rest, one)
-
-length-first_from : (number : ℕ) (starts : List Start) → length (first_from number starts) ≡ length starts
-length-first_from number [] = refl
-length-first_from number (start ∷ starts) = ap suc (length-first_from (suc number) starts)
-
-pub after_none : {V : Type 0} (act : Operator V) (e : Execution V) → after_steps act 0 e ≡ e
-unfolding after_steps
-after_none act e = refl
 
 -- where the first tasks are counted, Budget comes before any has acted
 pub counted_at_start : {V : Type 0} (options : Options) (problem : Problem V) (tasks : List Start) → tasks ≡ problem.tasks → (fault : BeginFault) (answer : Status) → IsBeginFault tasks options.budget fault → AnswersBegin fault answer → IsAtStart options problem answer

@@ -1,9 +1,10 @@
 -- What is made of a sink where a print is written at once, where there is none, and where it goes out in pieces.
-use Rattle.std.proofs.Common.{◌≡◌, ℕ, ◌+◌, ◌≤◌, List, [], ◌++◌, append-nil, append_assoc, length, take, length-append, Option, Some, None, Ok, Err, refl, sym, ap, subst, ◌∙◌, inl, inr, arith}
+use Rattle.std.proofs.Common.{◌≡◌, ℕ, ◌+◌, ◌≤◌, List, [], ◌++◌, append-nil, length, take, length-append, Option, Ok, Err, refl, sym, ap, subst, ◌∙◌, inl, inr, arith}
 use Rattle.std.proofs.Math.Seq.{take-append-add}
 use Rattle.std.proofs.lemmas.List.{take-append-le}
 use Rattle.std.specs.Prelude.{IfOk, IfErr, IsErrAnd, Result}
 use Rattle.std.specs.Io.KnownBytes.{Appends}
+use Rattle.std.proofs.KnownBytes.{Appends-trans}
 use Rattle.kdg_text.specs.declared.fault.Fault.{Fault}
 use Rattle.kdg_text.specs.declared.fault.ReadFail.{ReadFail}
 use Rattle.kdg_text.specs.declared.fault.ReadFail.TheVariants as reader
@@ -24,18 +25,11 @@ use Rattle.kdg_prog.specs.Refusals.{AnswersReader, IsAtStart, IsBeforeStart, IsR
 use Rattle.kdg_prog.specs.Serving.{IsRunServed, IsServed, IsServedBy, IsServedFor, IsWritten, WritesNothing}
 use Rattle.kdg_prog.proofs.Promising.{fault_kinds}
 
--- bytes appended after others
-pub appends_both : (a b c : Option (List ℕ)) (xs ys : List ℕ) → Appends a b xs → Appends b c ys → Appends a c (xs ++ ys)
-appends_both None b c xs ys first second = tt
-appends_both (Some a) None c xs ys first second = absurd first
-appends_both (Some a) (Some b) None xs ys first second = absurd second
-appends_both (Some a) (Some b) (Some c) xs ys first second = rw (second, first) (append_assoc a xs ys)
-
 -- a front of the last piece, as a front of all
 pub front_behind : (a b c : Option (List ℕ)) (front piece : List ℕ) → Appends a b front → AppendsFront b c piece → AppendsFront a c (front ++ piece)
 front_behind a b c front piece first last =
     let within : length front + last.0 ≤ length (front ++ piece) = omega (arith, length-append front piece, last.1) in
-    (length front + last.0, within, subst (Appends a c) (sym (take-append-add front piece last.0)) (appends_both a b c front (take last.0 piece) first last.2))
+    (length front + last.0, within, subst (Appends a c) (sym (take-append-add front piece last.0)) (Appends-trans a b c front (take last.0 piece) first last.2))
 
 -- all of the front of a text
 pub front_of : (a b : Option (List ℕ)) (front rest : List ℕ) → Appends a b front → AppendsFront a b (front ++ rest)
@@ -56,11 +50,6 @@ front_of_nothing a b text nothing = (0, omega arith, nothing)
 pub of_error : {T : Type 0} (P : Result T Status → Type 0) (fault : Status) (result : Result T Status) → IsErrAnd result (λ answer. answer ≡ fault) → P (Err fault) → P result
 of_error P fault (Ok done) told is = absurd told
 of_error P fault (Err answer) told is = subst (λ (a : Status). P (Err a)) (sym told) is
-
--- nothing is written where the sink stays as it was
-pub stays : (known : Option (List ℕ)) → Appends known known []
-stays None = tt
-stays (Some bytes) = sym (append-nil bytes)
 
 module _ (is : Answer) (First : ℕ → Type 0) (log : List ℕ) (Keeps : List ℕ → Type 0) (options : Options) (sink : Transfer) where
   -- there is no print, and nothing was written

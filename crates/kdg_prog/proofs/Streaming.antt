@@ -5,6 +5,8 @@ use Rattle.std.proofs.lemmas.Grind.{flat_map-append}
 use Rattle.std.specs.Prelude.{IsErrAnd, MatchOption, Result, ◌==◌}
 use Rattle.std.specs.Option.{option_map}
 use Rattle.std.specs.Io.KnownBytes.{Appends}
+use Rattle.std.proofs.KnownBytes.{Appends-trans}
+use Rattle.free_pool.specs.Runs.{end_of_rounds}
 use Rattle.task_order.specs.Key.{end}
 use Rattle.cell_store.specs.Laws.{HomesAreValues}
 use Rattle.cell_store.specs.Values.{AreAllHome, values_of}
@@ -35,9 +37,9 @@ use Rattle.kdg_prog.specs.declared.words.Mode.TheVariants.{Free, Rounds, Serial}
 use Rattle.kdg_prog.specs.declared.words.Options.{Options}
 use Rattle.kdg_prog.specs.Problem.{KeepsText, MayStream, Problem, answer_by, first_state, is_in_rounds, is_streamed, log_within, print_of_finals, rounds_of, rounds_shown, rounds_text, start_for, tasks_line, text_shown, whole_print}
 use Rattle.kdg_prog.specs.Serving.{IsHomeFlow, IsRunServed, IsStreamEnd, IsStreamed, IsWritten, LeavesRunLog}
-use Rattle.kdg_prog.proofs.AtEnd.{any_end, ascends, begins, home_at_end, left_of_limit, refusal_of_run, run_at_end}
+use Rattle.kdg_prog.proofs.AtEnd.{ascends, begins, home_at_end, left_of_limit, refusal_of_run, run_at_end}
 use Rattle.kdg_prog.proofs.Refusing.{none_told, print_from_run}
-use Rattle.kdg_prog.proofs.Serving.{appends_both, front_behind, front_of, front_of_longer, of_error}
+use Rattle.kdg_prog.proofs.Serving.{front_behind, front_of, front_of_longer, of_error}
 
 -- what was logged when the run ended stays in front, whatever the budget
 ended_in_front : {V : Type 0} (act : Operator V) (budget : ℕ) (start last : Execution V) (found : Option ℕ) →
@@ -120,7 +122,7 @@ module _ {V : Type 0} (options : Options) (problem : Problem V) (progress : Prog
         → IsStreamed options problem sink flow
     streamed_rounds (flow.Ended finals rounds failed) ended counted = record {
       whole = ended.whole;
-      run = run_at_end options problem progress values begun orderly joins ended.whole (any_end problem.app progress ended.whole rounds ended.end);
+      run = run_at_end options problem progress values begun orderly joins ended.whole (end_of_rounds problem.app progress ended.whole rounds ended.end);
       told = ap (rounds_shown options) (counted ended.whole rounds ended.end);
       text = ended.text;
       behind = ended.behind;
@@ -162,7 +164,7 @@ module _ {V : Type 0} (options : Options) (problem : Problem V) (progress : Prog
 -- its cells are home
 pub home_in_rounds : {V : Type 0} (app : Application V) (progress : Progress V) (sink : Transfer) (flow : Flow V) → HomesAreValues V → IsFlow app progress sink flow → IsFitFlow app flow → IsHomeFlow app flow
 home_in_rounds app progress sink (flow.Ended finals rounds failed) values ended fit =
-    (subst AreAllHome ended.behind.store (home_at_end app progress ended.whole values (any_end app progress ended.whole rounds ended.end)), fit)
+    (subst AreAllHome ended.behind.store (home_at_end app progress ended.whole values (end_of_rounds app progress ended.whole rounds ended.end)), fit)
 home_in_rounds app progress sink (flow.Budget created limit failed) values over fit = tt
 home_in_rounds app progress sink flow.NoRoom values took fit = tt
 
@@ -212,7 +214,7 @@ module _ {V : Type 0} (options : Options) (problem : Problem V) (values : HomesA
         let all = ended.all none in (
           ended.text ++ text,
           print_is ∙ ap (λ (l : List ℕ). whole_print (ended.text ++ l)) (sym is),
-          appends_both sink.before sink.after after ended.text text all.1 written.0,
+          Appends-trans sink.before sink.after after ended.text text all.1 written.0,
           written.1 ∙ all.2,
         )
     served_rest text after faults (Err answer) is written =

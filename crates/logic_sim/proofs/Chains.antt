@@ -1,8 +1,9 @@
 -- Inverters in a row make a deck that is wired soundly.
 use Rattle.std.proofs.Common.{◌≡◌, ◌∙◌, ℕ, zero, suc, replicate, lit≤, ◌+◌, ◌<◌, ◌≤◌, List, [], ◌∷◌, ◌++◌, length, map, arith, ap, sym, refl, subst, zero-add}
 use Rattle.std.specs.List.{All, AllZip, range_with_len}
-use Rattle.std.proofs.lemmas.List.Elements.{All-nil, All-cons, All-map, All-from_get_or, All-weaker}
-use Rattle.std.proofs.lemmas.List.FromFn.{length-map-range_with_len, length-range_with_len, get_or-range_with_len, map-range_with_len_more}
+use Rattle.std.proofs.lemmas.List.Elements.{All-nil, All-cons, All-map, All-weaker}
+use Rattle.std.proofs.lemmas.List.FromFn.{length-map-range_with_len, map-range_with_len_more}
+use Rattle.plain_laws.proofs.Ranges.{range-below}
 use Rattle.bench_reader.specs.declared.deck.Signal.{Signal}
 use Rattle.bench_reader.specs.declared.deck.Stim.{Stim}
 use Rattle.bench_reader.specs.Decks.{IsDelayOf, IsSoundlyWired, IsStimFor, IsWired, inputs_of}
@@ -15,11 +16,6 @@ gate_added n before after gate so_far is more =
     ∙ ap (λ (signal : Signal). before ++ signal ∷ []) is
     ∙ ap (λ (signals : List Signal). signals ++ inverter_of n ∷ []) so_far
     ∙ ap (λ (gates : List Signal). chain_input ∷ gates) (sym (map-range_with_len_more inverter_of 0 n n (zero-add n)))
-
-numbers-below : (n : ℕ) → All (λ i. i < n) (range_with_len 0 n)
-numbers-below n = All-from_get_or (λ i. i < n) (range_with_len 0 n) 0 (λ k below.
-    let in_range : k < n = omega (arith, below, length-range_with_len 0 n) in
-    omega (arith, get_or-range_with_len 0 n k 0 in_range, in_range))
 
 length-chain : (n : ℕ) → length (chain_signals n) ≡ suc n
 length-chain n = ap suc (length-map-range_with_len inverter_of 0 n)
@@ -38,7 +34,7 @@ chain-sound n few =
     record {
       signal_count = omega (arith, few, length-chain n);
       stimulus_count = omega arith;
-      wired = All-cons IsWiredIn chain_input _ tt (All-map IsWiredIn inverter_of (range_with_len 0 n) (All-weaker (λ i. i < n) (λ i. IsWiredIn (inverter_of i)) (λ i below. (refl, one-below count i (omega (arith, below, length-chain n)))) (range_with_len 0 n) (numbers-below n)));
+      wired = All-cons IsWiredIn chain_input _ tt (All-map IsWiredIn inverter_of (range_with_len 0 n) (All-weaker (λ i. i < n) (λ i. IsWiredIn (inverter_of i)) (λ i below. (refl, one-below count i (omega (arith, below, length-chain n)))) (range_with_len 0 n) (range-below n)));
       outputs_in_range = one-below count n (omega (arith, length-chain n));
       outputs_differ = λ i j d before below. absurd (omega arith);
       stimuli_fit = All-nil (IsStimFor (length (inputs_of (chain_signals n))));

@@ -4,6 +4,7 @@ use Rattle.std.specs.Prelude.{◌==◌, ◌&&◌, ◌||◌, not, nat_lt, slice_i
 use Rattle.std.specs.List.{AllByRecursion, filter, list_all, list_any}
 use Rattle.std.proofs.lemmas.Bool.{cases_Bool, eqb-true, false≢true, le-ltb, or_cases, or_left, or_right}
 use Rattle.std.proofs.lemmas.Bool.Decides.{nat_tests}
+use Rattle.plain_laws.proofs.Lists.{none_from_all}
 use Rattle.bench_reader.specs.Decks.{IsSoundlyWired}
 use Rattle.bench_reader.specs.declared.deck.Form.{Form}
 use Rattle.bench_reader.specs.declared.deck.Form.TheVariants.{Input, Gate, Dff}
@@ -32,10 +33,6 @@ any_none (x ∷ xs) = any_none xs
 pub any_swap : {X Y : Type 0} (r : X → Y → Bool) (xs : List X) (ys : List Y) → list_any (λ x. list_any (λ y. r x y) ys) xs ≡ list_any (λ y. list_any (λ x. r x y) xs) ys
 any_swap r [] ys = sym (any_none ys)
 any_swap r (x ∷ xs) ys = ap (λ (b : Bool). list_any (λ y. r x y) ys || b) (any_swap r xs ys) ∙ sym (any_or (λ y. r x y) (λ y. list_any (λ x. r x y) xs) ys)
-
--- no element passes
-pub none_pass : {X : Type 0} (p : X → Bool) (xs : List X) → AllByRecursion (λ x. p x ≡ false) xs → list_any p xs ≡ false
-none_pass p xs all = any_alike p (λ x. false) xs all ∙ any_none xs
 
 -- where all that a filter drops fail
 pub any_kept : {X : Type 0} (p keeps : X → Bool) (F : X → Type 0) (xs : List X) → ((x : X) → F x → keeps x ≡ false → p x ≡ false) → AllByRecursion F xs → list_any p xs ≡ list_any p (filter keeps xs)
@@ -85,7 +82,7 @@ module _ (c : Simulation) (near entries : List ℕ) (tasks : List Task) (sound :
   near_exact_within zero limit signal long early below =
       let none : limit ≡ 0 = omega (arith, long) in
       le-ltb (slice_index near signal) limit (omega (arith, none))
-      ∙ sym (none_pass (λ task. reaches c task.key.prio task.body signal limit) tasks (each_of (λ (task : Task). reaches c task.key.prio task.body signal limit ≡ false) tasks
+      ∙ sym (none_from_all (λ task. reaches c task.key.prio task.body signal limit) tasks (each_of (λ (task : Task). reaches c task.key.prio task.body signal limit ≡ false) tasks
       (λ task. subst (λ (l : ℕ). reaches c task.key.prio task.body signal l ≡ false) (sym none) (leads_to_none c (moment_of c task.key.prio task.body) task.body.at signal))))
   near_exact_within (suc fuel) limit signal long early below =
       let sooner : ℕ = limit - delay_of c signal in

@@ -6,6 +6,8 @@ use Rattle.std.specs.Ordering.{is_lt}
 use Rattle.std.specs.declared.cmp.Ordering.TheVariants.{Less}
 use Rattle.std.proofs.lemmas.Bool.{and_from, and_left, and_parts, cases_Bool, cases_lt, eq-eqb, eqb-true, false≢true, false_from_ne_true, le-ltb, lt-ltb, ltb-false, ltb-true, ne_eqb}
 use Rattle.std.proofs.lemmas.Bool.Decides.{nat_tests}
+use Rattle.plain_laws.proofs.Bools.{same_tests}
+use Rattle.plain_laws.proofs.Lists.{none_from_all}
 use Rattle.task_order.specs.declared.task.Body.{Body}
 use Rattle.task_order.specs.declared.task.Task.{Task}
 use Rattle.task_order.specs.Key.{key_cmp}
@@ -15,13 +17,13 @@ use Rattle.app_laws.specs.Applications.{AreFitTasks}
 use Rattle.logic_sim.specs.Circuit.{IsFitTask}
 use Rattle.logic_sim.specs.Conflicts.{change_writes, eval_writes}
 use Rattle.logic_sim.specs.Distance.{moment_of}
-use Rattle.logic_sim.specs.DistanceLaws.{any_alike, same_answer}
+use Rattle.logic_sim.specs.DistanceLaws.{any_alike}
 use Rattle.logic_sim.specs.Event.{Simulation, change_kind, delay_of, plan_place, time_of, value_place}
 use Rattle.logic_sim.specs.Horizon.{ArePending, IsLeast, comes_at, first_time, never}
 use Rattle.logic_sim.specs.Lawful.{change_set-written, eval_set-written}
 use Rattle.logic_sim.specs.Meaning.{change_set, eval_set, set_for, simulation}
 use Rattle.logic_sim.specs.Safety.{earlier_prio, moment-change, moment-plan}
-use Rattle.logic_sim.proofs.Nearness.{any_or, none_pass}
+use Rattle.logic_sim.proofs.Nearness.{any_or}
 
 -- none of what is later has an earlier time
 none_sooner : (w : Task → Bool) (task : Task) (others : List Task) (limit : ℕ) → AllByRecursion (λ other. key_cmp task.key other.key ≡ Less) others → limit ≤ time_of task.key.prio
@@ -46,14 +48,14 @@ first_tells w (task ∷ tasks) limit ascending early = elim (cases_Bool (w task)
     with_first : (b : Bool) → nat_lt (time_of task.key.prio) limit ≡ b → nat_lt (time_of task.key.prio) limit ≡ (nat_lt (time_of task.key.prio) limit || list_any (λ other. w other && nat_lt (time_of other.key.prio) limit) tasks)
     with_first true is = rw is refl
     with_first false is =
-        let none = none_pass (λ other. w other && nat_lt (time_of other.key.prio) limit) tasks (none_sooner w task tasks limit ascending.0 (ltb-false (time_of task.key.prio) limit is)) in
+        let none = none_from_all (λ other. w other && nat_lt (time_of other.key.prio) limit) tasks (none_sooner w task tasks limit ascending.0 (ltb-false (time_of task.key.prio) limit is)) in
         rw (is, none) refl
 
 -- a change writes its signal's value, and all else the plan
 pub writes_value : (c : Simulation) (prio : ℕ) (body : Body) (signal : ℕ) → IsFitTask c prio body → writes (set_for c.deck body.kind body.at) (value_place signal) ≡ (body.kind == change_kind && body.at == signal)
 writes_value c prio body signal (inl change) =
     subst (λ (kind : ℕ). writes (set_for c.deck kind body.at) (value_place signal) ≡ (kind == change_kind && body.at == signal)) (sym change.kind)
-    (same_answer (writes (change_set body.at) (value_place signal)) (body.at == signal)
+    (same_tests (writes (change_set body.at) (value_place signal)) (body.at == signal)
     (λ written. let is = change_writes body.at (value_place signal) written in eq-eqb body.at signal (omega (arith, is)))
     (λ same. subst (λ (s : ℕ). writes (change_set body.at) (value_place s) ≡ true) (eqb-true body.at signal same) (change_set-written body.at)))
 writes_value c prio body signal (inr (inl eval)) =
@@ -65,7 +67,7 @@ writes_value c prio body signal (inr (inr tick)) =
 
 plans_written : (c : Simulation) (gate signal : ℕ) → writes (eval_set c.deck gate) (plan_place signal) ≡ (gate == signal)
 plans_written c gate signal =
-    same_answer (writes (eval_set c.deck gate) (plan_place signal)) (gate == signal)
+    same_tests (writes (eval_set c.deck gate) (plan_place signal)) (gate == signal)
     (λ written. let is = eval_writes c.deck gate (plan_place signal) written in eq-eqb gate signal (omega (arith, is)))
     (λ same. subst (λ (s : ℕ). writes (eval_set c.deck gate) (plan_place s) ≡ true) (eqb-true gate signal same) (eval_set-written c gate))
 
@@ -125,7 +127,7 @@ plan_sooner c task signal limit fit =
         let moment : moment_of c task.key.prio task.body ≡ time_of task.key.prio + delay_of c task.body.at = ap (λ (b : Bool). if b then time_of task.key.prio else time_of task.key.prio + delay_of c task.body.at) is in
         let delay : delay_of c task.body.at ≡ delay_of c signal = ap (delay_of c) (eqb-true task.body.at signal at) in
         let same : nat_lt (time_of task.key.prio) (limit - delay_of c signal) ≡ nat_lt (moment_of c task.key.prio task.body) limit =
-        same_answer (nat_lt (time_of task.key.prio) (limit - delay_of c signal)) (nat_lt (moment_of c task.key.prio task.body) limit)
+        same_tests (nat_lt (time_of task.key.prio) (limit - delay_of c signal)) (nat_lt (moment_of c task.key.prio task.body) limit)
         (λ low. lt-ltb (moment_of c task.key.prio task.body) limit (omega (arith, moment, delay, ltb-true (time_of task.key.prio) (limit - delay_of c signal) low)))
         (λ low. lt-ltb (time_of task.key.prio) (limit - delay_of c signal) (omega (arith, moment, delay, ltb-true (moment_of c task.key.prio task.body) limit low))) in
         ap (λ (b : Bool). not (task.body.kind == change_kind) && task.body.at == signal && b) same

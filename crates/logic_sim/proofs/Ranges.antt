@@ -1,27 +1,16 @@
 -- Lists of the signals below a number that pass a test, one signal further.
-use Rattle.std.proofs.Common.{◌≡◌, ◌∙◌, ℕ, ◌+◌, ◌<◌, Bool, true, false, List, [], ◌∷◌, ◌++◌, length, get_or, ap, sym, zero-add}
+use Rattle.std.proofs.Common.{◌≡◌, ◌∙◌, ℕ, ◌+◌, ◌<◌, Bool, true, false, List, [], ◌∷◌, ◌++◌, length, get_or, ap, sym}
 use Rattle.std.specs.Prelude.{filter, map, if◌then◌else◌}
 use Rattle.std.specs.List.{range_with_len}
-use Rattle.std.proofs.lemmas.List.{append-nil, get_or_read, map-append, map-id}
-use Rattle.std.proofs.lemmas.List.Elements.{filter-append}
-use Rattle.std.proofs.lemmas.List.FromFn.{map-range_with_len_more}
+use Rattle.std.proofs.lemmas.List.{append-nil, get_or_read, map-append}
+
+
+use Rattle.plain_laws.proofs.Ranges.{filter-range_more}
 use Rattle.bench_reader.specs.declared.deck.Signal.{Signal}
 use Rattle.task_order.specs.declared.start.Start.{Start}
 use Rattle.logic_sim.specs.Event.{eval_at}
 use Rattle.bench_reader.specs.Decks.{is_input}
 use Rattle.logic_sim.specs.Wiring.{flip_flops_among, gates_among, inputs_among, is_among, is_flip_flop, is_gate, no_signal, readers_among, signal_at, watched_by}
-
-range_more : (n : ℕ) → range_with_len 0 (n + 1) ≡ range_with_len 0 n ++ n ∷ []
-range_more n =
-    sym (map-id (range_with_len 0 (n + 1)))
-    ∙ map-range_with_len_more (λ (z : ℕ). z) 0 n n (zero-add n)
-    ∙ ap (λ (zs : List ℕ). zs ++ n ∷ []) (map-id (range_with_len 0 n))
-
-filter_more : (p : ℕ → Bool) (n : ℕ) (b : Bool) → p n ≡ b → filter p (range_with_len 0 (n + 1)) ≡ filter p (range_with_len 0 n) ++ (if b then n ∷ [] else [])
-filter_more p n b e =
-    ap (filter p) (range_more n)
-    ∙ filter-append p (range_with_len 0 n) (n ∷ [])
-    ∙ ap (λ (t : Bool). filter p (range_with_len 0 n) ++ (if t then n ∷ [] else [])) e
 
 pub read_signal : (signals : List Signal) (n : ℕ) (signal : Signal) → n < length signals → signal ≡ get_or signals n signal → signal ≡ signal_at signals n
 read_signal signals n signal below is = get_or_read signals n signal below is no_signal
@@ -29,7 +18,7 @@ read_signal signals n signal below is = get_or_read signals n signal below is no
 gates_among-more : (signals : List Signal) (n : ℕ) (signal : Signal) (b : Bool) → n < length signals → signal ≡ get_or signals n signal → is_gate signal.form ≡ b →
     gates_among signals (n + 1) ≡ gates_among signals n ++ (if b then n ∷ [] else [])
 gates_among-more signals n signal b below is e =
-    filter_more (λ number. is_gate (signal_at signals number).form) n b (ap (λ (s : Signal). is_gate s.form) (sym (read_signal signals n signal below is)) ∙ e)
+    filter-range_more (λ number. is_gate (signal_at signals number).form) n b (ap (λ (s : Signal). is_gate s.form) (sym (read_signal signals n signal below is)) ∙ e)
 
 -- a further gate is evaluated
 pub first_evals_gate : (signals : List Signal) (n : ℕ) (signal : Signal) (starts : List Start) → n < length signals → signal ≡ get_or signals n signal → is_gate signal.form ≡ true →
@@ -49,7 +38,7 @@ first_evals_input signals n signal starts below is gate so_far =
 sort_among-more : (sort : Signal → Bool) (signals : List Signal) (n : ℕ) (signal : Signal) (b : Bool) → n < length signals → signal ≡ get_or signals n signal → sort signal ≡ b →
     filter (λ number. sort (signal_at signals number)) (range_with_len 0 (n + 1)) ≡ filter (λ number. sort (signal_at signals number)) (range_with_len 0 n) ++ (if b then n ∷ [] else [])
 sort_among-more sort signals n signal b below is e =
-    filter_more (λ number. sort (signal_at signals number)) n b (ap sort (sym (read_signal signals n signal below is)) ∙ e)
+    filter-range_more (λ number. sort (signal_at signals number)) n b (ap sort (sym (read_signal signals n signal below is)) ∙ e)
 
 sort_one : (sort : Signal → Bool) (signals : List Signal) (n : ℕ) (signal : Signal) (numbers : List ℕ) → n < length signals → signal ≡ get_or signals n signal → sort signal ≡ true →
     numbers ≡ filter (λ number. sort (signal_at signals number)) (range_with_len 0 n) → numbers ++ n ∷ [] ≡ filter (λ number. sort (signal_at signals number)) (range_with_len 0 (n + 1))
@@ -83,4 +72,4 @@ flip_flops_other signals n signal numbers below is other so_far = sort_other (λ
 pub readers_among-more : (signals : List Signal) (n : ℕ) (signal : Signal) (fan_in : List ℕ) (number : ℕ) → n < length signals → signal ≡ get_or signals n signal → watched_by signal.form ≡ fan_in →
     readers_among signals (n + 1) number ≡ readers_among signals n number ++ (if is_among fan_in number then n ∷ [] else [])
 readers_among-more signals n signal fan_in number below is e =
-    filter_more _ n (is_among fan_in number) (ap (λ (s : Signal). is_among (watched_by s.form) number) (sym (read_signal signals n signal below is)) ∙ ap (λ (f : List ℕ). is_among f number) e)
+    filter-range_more _ n (is_among fan_in number) (ap (λ (s : Signal). is_among (watched_by s.form) number) (sym (read_signal signals n signal below is)) ∙ ap (λ (f : List ℕ). is_among f number) e)

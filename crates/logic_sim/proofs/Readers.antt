@@ -7,6 +7,7 @@ use Rattle.std.proofs.lemmas.List.{append-nil, get_or_read, get_or-replicate, ge
 use Rattle.std.proofs.lemmas.List.Elements.{All-from_get_or, All-from_recursion, All-same}
 use Rattle.std.proofs.lemmas.List.Folds.{list_any_more}
 use Rattle.std.proofs.lemmas.Option.{slice_get-get_or}
+use Rattle.plain_laws.proofs.Bools.{or_true}
 use Rattle.bench_reader.specs.Decks.{IsWired}
 use Rattle.bench_reader.specs.declared.deck.Form.{Form}
 use Rattle.bench_reader.specs.declared.deck.Form.TheVariants.{Input, Gate, Dff}
@@ -42,10 +43,6 @@ pushed false old gates gate is absent = ap (λ (zs : List ℕ). zs ++ gate ∷ [
 kept : (added : Bool) (old gates : List ℕ) (gate : ℕ) → All (λ other. other < gate) old → gates ≡ old ++ (if added then gate ∷ [] else []) → last_is gate gates ≡ true → gates ≡ old ++ gate ∷ []
 kept true old gates gate below is present = is
 kept false old gates gate below is present = absurd (false≢true (sym (last_is-below gate old below) ∙ ap (last_is gate) (sym (is ∙ append-nil old)) ∙ present))
-
-or_true : (b : Bool) → (b || true) ≡ true
-or_true true = refl
-or_true false = refl
 
 or_false : (b : Bool) → (b || false) ≡ b
 or_false true = refl

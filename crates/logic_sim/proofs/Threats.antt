@@ -6,6 +6,7 @@ use Rattle.std.specs.Ordering.{is_lt, nat_cmp}
 use Rattle.std.specs.declared.cmp.Ordering.TheVariants.{Less}
 use Rattle.std.proofs.lemmas.Bool.{and_from, and_parts, cases_Bool, cases_lt, eq-eqb, eqb-true, false≢true, false_from_ne_true, le-leb, le-ltb, leb-true, lt-ltb, ltb-true, or_from}
 use Rattle.std.proofs.lemmas.Bool.Decides.{nat_tests}
+use Rattle.plain_laws.proofs.Bools.{and_false}
 use Rattle.bench_reader.specs.Decks.{IsSoundlyWired}
 use Rattle.bench_reader.specs.declared.deck.Form.{Form}
 use Rattle.task_order.specs.declared.key.Key.{Key}
@@ -117,10 +118,6 @@ module _ (c : Simulation) (near entries : List ℕ) (tasks : List Task) (writers
   abbrev is_threat : Task → Bool
   is_threat other = plans_here other || is_driven_here other || comes_to_gates other
 
-  never_both : (b : Bool) → (b && false) ≡ false
-  never_both true = refl
-  never_both false = refl
-
   -- no later event is one
   later_is_none : (other : Task) → IsFitTask c other.key.prio other.body → is_earlier task.key other ≡ false → is_threat other ≡ false
   later_is_none other fit later =
@@ -146,7 +143,7 @@ module _ (c : Simulation) (near entries : List ℕ) (tasks : List Task) (writers
           by_kind false is =
               let beyond = plan_beyond c sound other.key.prio other.body task.key.prio fit (λ e. false≢true (sym is ∙ eq-eqb other.body.kind change_kind e)) from in
               let late : nat_lt (moment_of c other.key.prio other.body) (time_of task.key.prio + 1) ≡ false = le-ltb (moment_of c other.key.prio other.body) (time_of task.key.prio + 1) beyond in
-              ap (λ (b : Bool). not (other.body.kind == change_kind) && other.body.at == task.body.at && b) late ∙ never_both (not (other.body.kind == change_kind) && other.body.at == task.body.at)
+              ap (λ (b : Bool). not (other.body.kind == change_kind) && other.body.at == task.body.at && b) late ∙ and_false (not (other.body.kind == change_kind) && other.body.at == task.body.at)
 
       not_driven : is_driven_here other ≡ false
       not_driven = false_from_ne_true (is_driven_here other) (λ driven.

@@ -4,6 +4,7 @@ use Rattle.std.specs.List.{AllByRecursion, list_any}
 use Rattle.std.proofs.Common.{arith, ap, get_or, inl, inr, subst, sym, ◌∙◌}
 use Rattle.std.proofs.lemmas.Bool.{and_from, and_parts, cases_lt, cases_Bool, eq-eqb, eqb-true, false≢true, le-ltb, lt-ltb, ltb-true, or_cases, or_left, or_right}
 use Rattle.std.proofs.lemmas.List.{get_or_past}
+use Rattle.plain_laws.proofs.Bools.{same_tests}
 use Rattle.bench_reader.specs.Decks.{IsSoundlyWired, is_input}
 use Rattle.bench_reader.specs.declared.deck.Form.{Form}
 use Rattle.bench_reader.specs.declared.deck.Form.TheVariants.{Input, Gate, Dff}
@@ -173,14 +174,9 @@ leads_longer fuel other c moment from to limit sound long led =
     let found = chain_found fuel c moment from to limit led in
     chain_leads found.chain other c moment from to limit sound long found.leads found.early
 
-pub same_answer : (a b : Bool) → (a ≡ true → b ≡ true) → (b ≡ true → a ≡ true) → a ≡ b
-same_answer true b there back = sym (there refl)
-same_answer false true there back = back refl
-same_answer false false there back = refl
-
 pub leads_enough : (fuel other : ℕ) (c : Simulation) (moment from to limit : ℕ) → IsSoundlyWired c.deck → limit ≤ fuel → limit ≤ other → leads fuel c moment from to limit ≡ leads other c moment from to limit
 leads_enough fuel other c moment from to limit sound long other-long =
-    same_answer (leads fuel c moment from to limit) (leads other c moment from to limit) (leads_longer fuel other c moment from to limit sound other-long) (leads_longer other fuel c moment from to limit sound long)
+    same_tests (leads fuel c moment from to limit) (leads other c moment from to limit) (leads_longer fuel other c moment from to limit sound other-long) (leads_longer other fuel c moment from to limit sound long)
 
 -- the same answer for each element
 pub any_alike : {X : Type 0} (p q : X → Bool) (xs : List X) → AllByRecursion (λ x. p x ≡ q x) xs → list_any p xs ≡ list_any q xs

@@ -10,6 +10,7 @@ use Rattle.std.proofs.lemmas.Bool.Decides.{nat_tests}
 use Rattle.std.proofs.lemmas.List.Elements.{All-get_or, recursion_from_All}
 use Rattle.std.proofs.lemmas.List.Folds.{list_all-append, list_all-map}
 use Rattle.std.proofs.lemmas.Option.{slice_get-get_or, same_Some}
+use Rattle.plain_laws.proofs.Lists.{get-set_same}
 use Rattle.bench_reader.specs.Decks.{IsSoundlyWired, IsWired}
 use Rattle.bench_reader.specs.declared.deck.Form.{Form}
 use Rattle.bench_reader.specs.declared.deck.Form.TheVariants.{Input, Gate, Dff}
@@ -70,11 +71,6 @@ get-set_other (cell ∷ cells) zero (suc loc) value differs = refl
 get-set_other (cell ∷ cells) (suc place) zero value differs = refl
 get-set_other (cell ∷ cells) (suc place) (suc loc) value differs = get-set_other cells place loc value (λ e. differs (ap suc e))
 
-get-set_same : (cells : List ℕ) (place value : ℕ) → place < length cells → slice_get (slice_set cells place value) place ≡ Some value
-get-set_same [] place value below = absurd (omega arith)
-get-set_same (cell ∷ cells) zero value below = refl
-get-set_same (cell ∷ cells) (suc place) value below = get-set_same cells place value (omega arith)
-
 get-set_alike : (cells others : List ℕ) (place loc value : ℕ) → place < length cells → place < length others →
     slice_get cells loc ≡ slice_get others loc → slice_get (slice_set cells place value) loc ≡ slice_get (slice_set others place value) loc
 get-set_alike cells others place loc value below below-others same = elim (cases_eq loc place) [
@@ -106,11 +102,6 @@ whole_behind : (front text : List ℕ) → IsWholeLines (front ++ (text ++ 10 �
 whole_behind [] text = ends_with_line_feed text
 whole_behind (byte ∷ []) text = ends_with_line_feed (byte ∷ text)
 whole_behind (byte ∷ next ∷ front) text = whole_behind (next ∷ front) text
-
--- what holds of each of some tasks holds of the one in the middle
-pub middle : {X : Type 0} (P : X → Type 0) (before : List X) (x : X) (after : List X) → AllByRecursion P (before ++ x ∷ after) → P x
-middle P [] x after all = all.0
-middle P (first ∷ before) x after all = middle P before x after all.1
 
 module _ (c : Simulation) where
   updated-alike : (set : Accesses) (idle : Bool) (place value : ℕ) (children : List Start) (text cells others : List ℕ) → place < length cells → place < length others → AgreeOn set cells others →

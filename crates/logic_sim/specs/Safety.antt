@@ -8,6 +8,7 @@ use Rattle.std.proofs.lemmas.Bool.{and_from, and_parts, cases_Bool, cases_lt, eq
 use Rattle.std.proofs.lemmas.Bool.Decides.{nat_tests}
 use Rattle.std.proofs.lemmas.List.{get_or_past}
 use Rattle.std.proofs.lemmas.List.Folds.{list_all-append, list_all-map}
+use Rattle.plain_laws.proofs.Lists.{All-append, All-middle}
 use Rattle.bench_reader.specs.Decks.{IsSoundlyWired}
 use Rattle.bench_reader.specs.declared.deck.Deck.{Deck}
 use Rattle.bench_reader.specs.declared.deck.Form.{Form}
@@ -28,15 +29,10 @@ use Rattle.logic_sim.specs.Conflicts.{change_conflicts, changes_conflict, plan_c
 use Rattle.logic_sim.specs.Distance.{comes_to_change, comes_to_plan, drivers_of, is_safe, leads, moment_of, reaches, reaches_any, threatens}
 use Rattle.logic_sim.specs.DistanceLaws.{any_at, any_weaker, leads_from_driver, leads_here, leads_sooner}
 use Rattle.logic_sim.specs.Event.{Simulation, act_of, change_at, change_kind, delay_of, eval_at, eval_kind, eval_of, event_of, next_changes, next_ticks, nothing_done, plan_in, plan_of, tick_at, tick_kind, time_of, value_in}
-use Rattle.logic_sim.specs.Lawful.{acts_are_fit, acts_are_local, acts_ignore_paths, cells_are_counted, children_come_no_earlier, middle, sets_are_in_range, sets_are_local, sets_stay_within, walks_are_true}
+use Rattle.logic_sim.specs.Lawful.{acts_are_fit, acts_are_local, acts_ignore_paths, cells_are_counted, children_come_no_earlier, sets_are_in_range, sets_are_local, sets_stay_within, walks_are_true}
 use Rattle.logic_sim.specs.Laws.{all_mapped, either, filter_range}
 use Rattle.logic_sim.specs.Meaning.{change_set, eval_set, set_for, simulation}
 use Rattle.logic_sim.specs.Wiring.{fan_in_of, is_among, no_signal, readers_of, reads, signal_at, watched_by}
-
--- what holds of each element of two lists holds of each of both
-all_of_both : {X : Type 0} (P : X → Type 0) (xs ys : List X) → AllByRecursion P xs → AllByRecursion P ys → AllByRecursion P (xs ++ ys)
-all_of_both P [] ys all others = others
-all_of_both P (x ∷ xs) ys all others = (all.0, all_of_both P xs ys all.1 others)
 
 -- what holds of elements that a filter keeps
 kept_gives : {X : Type 0} (P Q : X → Type 0) (p : X → Bool) (xs : List X) → ((x : X) → P x → p x ≡ true → Q x) → AllByRecursion P xs → AllByRecursion Q (filter p xs)
@@ -169,7 +165,7 @@ module _ (c : Simulation) where
   act_of-follows task cells (inr (inr tick)) =
       let time = time_of task.key.prio in
       subst (λ (kind : ℕ). AllFollow c task (event_of c kind time task.body.at task.body.arg cells).children) (sym tick.kind)
-      (all_of_both (λ (start : Start). Follows c task start.prio start.body) (eval_of c time task.body.at cells).children (next_ticks c time task.body.at)
+      (All-append (λ (start : Start). Follows c task start.prio start.body) (eval_of c time task.body.at cells).children (next_ticks c time task.body.at)
       (plan_follows task _ cells (λ is. omega (arith, is, tick.kind)))
       (either (AllFollow c task) (nat_le (time + c.clock) c.until) (tick_at (time + c.clock) task.body.at ∷ []) []
       (inr (inr (record { ticked = tick.kind; ticks = refl; same = refl; later = refl })), tt) tt))
@@ -324,7 +320,7 @@ module _ (c : Simulation) where
       unthreatened = not-true (threatens c task acted) acted-parts.0
 
       follow : AllByRecursion (λ child. Follows c acted child.key.prio child.body) children
-      follow = children_follow acted 0 (act_of c acted cells).children (act_of-follows acted cells (middle (IsTaskOf (simulation c)) before acted after fit-others))
+      follow = children_follow acted 0 (act_of c acted cells).children (act_of-follows acted cells (All-middle (IsTaskOf (simulation c)) before acted after fit-others))
 
       no_threat : (child : Task) → Follows c acted child.key.prio child.body → is_no_threat child ≡ true
       no_threat child follows =

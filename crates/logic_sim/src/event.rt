@@ -169,6 +169,9 @@ fn push_changes(
     Ok(())
 }
 
+/// How many bytes a line has beside the name, at most: a time, a value, two spaces and a line feed.
+pub(crate) const MOST_BESIDE_NAME: usize = 26;
+
 /// Writes that the signal of this name took the value at that time.
 pub(crate) fn push_change(text: &mut Text, time: u64, name: &[u8], value: u8) -> Result<(), NoRoom>
     ensures { OnOk result (text.new ≡ text.old ++ change_line time name.now value) }

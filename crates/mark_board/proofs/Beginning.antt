@@ -3,12 +3,12 @@ use Rattle.std.proofs.Common.{◌≡◌, inr, ℕ, zero, suc, ◌+◌, ◌*◌, 
 use Rattle.std.specs.Prelude.{slice_index, slice_set}
 use Rattle.std.proofs.lemmas.List.{get_or-replicate, length-replicate}
 use mathlib.Core.Option.{some-injective, some-ne-none}
+use Rattle.plain_laws.proofs.Members.{none}
 use Rattle.atomic_table.specs.Table.{opening}
 use Rattle.mark_board.specs.declared.view.View.{View}
 use Rattle.mark_board.specs.Board.{AreNumbered, BoardRule, IsAt, IsMarker, first_view}
 use Rattle.mark_board.specs.Words.{no_rank}
 use Rattle.mark_board.proofs.Marking.{word_other, word_same}
-use Rattle.mark_board.proofs.Places.{none_in}
 
 module _ (v : View) where
   -- the only place is the first one
@@ -26,7 +26,7 @@ one_marker = record {
       let only = only_first first_view place u at in
       inr (subst (λ (x : View). IsMarker place x) only.1 (record { unspent = refl; number_is = sym only.0 }));
   unjoined = λ place. (
-    (λ has. absurd (none_in place has)),
+    (λ has. absurd (none place has)),
     (λ is. let above = is.0 in let only = (only_first first_view place is.1.0 is.1.1).0 in absurd (omega (arith, above, only))),
   );
   once = tt;

@@ -8,6 +8,8 @@ use mathlib.Core.Option.{some}
 use lib.ListN.{get_elem?}
 use lib.Dec.{leb}
 use native.Mathlib.Decide.{ℕ_discrete}
+use Rattle.plain_laws.proofs.Members.{cases, here, none, there}
+use Rattle.plain_laws.proofs.Places.{at_inside}
 use Rattle.rw_sets.specs.declared.access.Access.{Access}
 use Rattle.rw_sets.specs.declared.access.Access.TheVariants.{Read, Write}
 use Rattle.rw_sets.specs.Accesses.{Accesses, IsAscending, IsInRange, access_at, clash, excludes}
@@ -16,7 +18,7 @@ use Rattle.mark_board.specs.declared.view.Mark.{Mark}
 use Rattle.mark_board.specs.Markers.{IsClear, IsFree, IsFreeAt}
 use Rattle.mark_board.specs.Words.{AreOfLastRounds, HaveLeast, base_of, least_at, mark_at, no_rank, of_round, ranks, word_of}
 use Rattle.mark_board.proofs.LeastMarks.{least_append, least_elsewhere, least_head}
-use Rattle.mark_board.proofs.Places.{at_inside, by_member, in_head, in_tail, index_at, none_in}
+use Rattle.mark_board.proofs.Places.{index_at}
 use Rattle.mark_board.proofs.Rounds.{mark_of_word, word_above}
 
 -- ---- words
@@ -29,7 +31,7 @@ module _ (renewals rank word : ℕ) where
   later mark marks low = let parts = least_append word (mark ∷ []) marks in omega (arith, low, parts)
 
   bounds : (marks : List Mark) → base_of renewals + rank ≤ least_at word marks → (mark : Mark) → Contains (of_round renewals marks) mark → word_of mark.loc mark.access ≡ word → rank ≤ mark.rank
-  bounds [] low mark has here = absurd (none_in mark has)
+  bounds [] low mark has here = absurd (none mark has)
   bounds (first ∷ marks) low mark has here = by_test (nat_lt first.rank (base_of renewals + ranks)) has (λ rest. bounds marks (later first marks low) mark rest here)
     where
       by_test : (test : Bool) → Contains (cond test (shown first ∷ of_round renewals marks) (of_round renewals marks)) mark → (Contains (of_round renewals marks) mark → rank ≤ mark.rank) → rank ≤ mark.rank
@@ -41,12 +43,12 @@ module _ (renewals rank word : ℕ) where
           let its_rank : first.rank - base_of renewals ≡ mark.rank = ap (λ (m : Mark). m.rank) same in
           omega (arith, low, parts, head, its_rank))
           again
-          (by_member (shown first) mark (of_round renewals marks) there)
+          (cases (shown first) mark (of_round renewals marks) there)
       by_test false there again = again there
 
   in_rest : (first mark : Mark) (marks : List Mark) → Contains (of_round renewals marks) mark → Contains (of_round renewals (first ∷ marks)) mark
   in_rest first mark marks has = elim (nat_lt first.rank (base_of renewals + ranks)) as (λ b. Contains (cond b (shown first ∷ of_round renewals marks) (of_round renewals marks)) mark) [
-    | true ↦ in_tail (shown first) mark (of_round renewals marks) has
+    | true ↦ there (shown first) mark (of_round renewals marks) has
     | false ↦ has
   ]
 
@@ -54,17 +56,17 @@ module _ (renewals rank word : ℕ) where
       → ((mark : Mark) → Contains (of_round renewals marks) mark → word_of mark.loc mark.access ≡ word → rank ≤ mark.rank) → base_of renewals + rank ≤ least_at word marks
   bounded few room [] last none = room
   bounded few room (first ∷ marks) last none =
-      let rest = bounded few room marks (λ mark has. last mark (in_tail first mark marks has)) (λ mark has. none mark (in_rest first mark marks has)) in
+      let rest = bounded few room marks (λ mark has. last mark (there first mark marks has)) (λ mark has. none mark (in_rest first mark marks has)) in
       let parts = least_append word (first ∷ []) marks in
       let head = dite (ℕ_discrete (word_of first.loc first.access) word) here (λ apart. let none_here = least_elsewhere word first apart in omega (arith, none_here, room)) in
       omega (arith, rest, parts, head)
     where
       from : base_of renewals ≤ first.rank
-      from = last first (in_head first marks)
+      from = last first (here first marks)
 
       its_rank : word_of first.loc first.access ≡ word → (test : Bool) → nat_lt first.rank (base_of renewals + ranks) ≡ test
           → (Contains (cond test (shown first ∷ of_round renewals marks) (of_round renewals marks)) (shown first) → rank ≤ first.rank - base_of renewals) → base_of renewals + rank ≤ first.rank
-      its_rank at_word true is low = let least = low (in_head (shown first) (of_round renewals marks)) in omega (arith, least, from)
+      its_rank at_word true is low = let least = low (here (shown first) (of_round renewals marks)) in omega (arith, least, from)
       its_rank at_word false is low = let above : base_of renewals + ranks ≤ first.rank = grind (arith, nat_tests, is) in omega (arith, above, few)
 
       here : word_of first.loc first.access ≡ word → base_of renewals + rank ≤ least_at word (first ∷ [])

@@ -1,13 +1,13 @@
 -- Where all markers are joined, the first one has the marks of all.
 use Rattle.std.proofs.Common.{◌≡◌, ⊎_elim, ℕ, zero, suc, ◌<◌, List, [], length, set, refl, sym, ap, subst, ◌∙◌, arith, false}
 use Rattle.std.specs.Prelude.{Contains, slice_index}
+use Rattle.plain_laws.proofs.Members.{none}
 use Rattle.atomic_table.specs.Table.{Final, Seen, State}
 use Rattle.mark_board.specs.declared.view.View.{View}
 use Rattle.mark_board.specs.Board.{BoardRule, IsAt, IsMarker, spent_view}
 use Rattle.mark_board.specs.Words.{AreOfLastRounds, HaveLeast, least_at, of_round}
 use Rattle.mark_board.proofs.LeastMarks.{least_apart, least_below, least_none}
 use Rattle.mark_board.proofs.Numbers.{first_place, is_first, other_at}
-use Rattle.mark_board.proofs.Places.{none_in}
 
 module _ {S : Type 0} {cells : ℕ} {s : State S View} (rule : BoardRule cells s) (id : ℕ) (v : View) (at : IsAt s.views id v) (unspent : v.spent ≡ false) (first : v.number ≡ 0)
     (alone : v.unjoined ≡ []) where
@@ -20,7 +20,7 @@ module _ {S : Type 0} {cells : ℕ} {s : State S View} (rule : BoardRule cells s
       (λ (is : IsMarker (suc place) u).
       let has = (rule.numbered.unjoined (suc place)).1 (omega arith, (u, here, is)) in
       let same : rule.numbered.first.unjoined ≡ [] = ap (λ (x : View). x.unjoined) (is_first rule.numbered 0 v at_zero refl) ∙ alone in
-      absurd (none_in (suc place) (subst (λ (xs : List ℕ). Contains xs (suc place)) same has)))
+      absurd (none (suc place) (subst (λ (xs : List ℕ). Contains xs (suc place)) same has)))
       (rule.numbered.markers (suc place) u here)
 
   -- who is alone has all marks

@@ -1,9 +1,9 @@
 -- Where the first marker takes over what another one has, the rule is kept.
-use Rattle.std.proofs.Common.{◌≡◌, ◌≢◌, ◌⊎◌, inl, inr, ⊎_elim, ◌==◌, eq-eqb, ne_eqb, not, cond, Bool, true, false, ℕ, zero, suc, ◌<◌, List, [], ◌∷◌, refl, sym, ap, subst, ◌∙◌, arith, length-set}
+use Rattle.std.proofs.Common.{◌≡◌, ◌≢◌, ◌⊎◌, inl, inr, ⊎_elim, ◌==◌, not, cond, true, false, ℕ, zero, suc, ◌<◌, List, [], ◌∷◌, refl, sym, ap, subst, ◌∙◌, arith, length-set}
 use Rattle.std.specs.Prelude.{◌↔◌, Contains, slice_set}
-use Rattle.std.specs.List.{AllByRecursion}
 use mathlib.Core.Option.{some-injective}
-use Rattle.std.proofs.lemmas.Bool.{true≢false}
+use Rattle.plain_laws.proofs.Lists.{All-filter}
+use Rattle.plain_laws.proofs.Without.{kept_from, kept_in}
 use Rattle.atomic_table.specs.Table.{Joins, State}
 use Rattle.atomic_table.proofs.Lists.{at_set, set_else}
 use Rattle.mark_board.specs.declared.view.View.{View}
@@ -12,49 +12,13 @@ use Rattle.mark_board.specs.Markers.{without}
 use Rattle.mark_board.specs.Words.{least_at, least_of}
 use Rattle.mark_board.proofs.LeastMarks.{least_append, least_apart}
 use Rattle.mark_board.proofs.Numbers.{at_other, is_first, is_marker, marker_moves, not_spent, now_at, other_at}
-use Rattle.mark_board.proofs.Places.{by_member, in_tail}
 
 -- ---- numbers without one of them
-
-stays : (y gone : ℕ) → y ≢ gone → not (y == gone) ≡ true
-stays y gone other = ap not (ne_eqb y gone other)
-
-goes : (y gone : ℕ) → y ≡ gone → not (y == gone) ≡ false
-goes y gone same = ap not (eq-eqb y gone same)
-
-kept_in : (gone x : ℕ) (xs : List ℕ) → Contains xs x → x ≢ gone → Contains (without gone xs) x
-kept_in gone x [] (k, inside, is) other = absurd (omega (arith, inside))
-kept_in gone x (y ∷ xs) has other = by_test (not (y == gone)) refl (by_member y x xs has) (λ later. kept_in gone x xs later other)
-  where
-    by_test : (test : Bool) → not (y == gone) ≡ test → (y ≡ x) ⊎ Contains xs x → (Contains xs x → Contains (without gone xs) x) → Contains (cond test (y ∷ without gone xs) (without gone xs)) x
-    by_test true is (inl same) again = (0, omega arith, same)
-    by_test true is (inr later) again = in_tail y x (without gone xs) (again later)
-    by_test false is (inl same) again = absurd (true≢false (sym (stays y gone (λ wrong. other (sym same ∙ wrong))) ∙ is))
-    by_test false is (inr later) again = again later
-
-kept_from : (gone x : ℕ) (xs : List ℕ) → Contains (without gone xs) x → Contains xs x × (x ≢ gone)
-kept_from gone x [] (k, inside, is) = absurd (omega (arith, inside))
-kept_from gone x (y ∷ xs) has = by_test (not (y == gone)) refl has (λ rest. let kept = kept_from gone x xs rest in (in_tail y x xs kept.0, kept.1))
-  where
-    by_test : (test : Bool) → not (y == gone) ≡ test → Contains (cond test (y ∷ without gone xs) (without gone xs)) x
-        → (Contains (without gone xs) x → Contains (y ∷ xs) x × (x ≢ gone)) → Contains (y ∷ xs) x × (x ≢ gone)
-    by_test true is has again = ⊎_elim
-        (λ (same : y ≡ x). ((0, omega arith, same), (λ wrong. true≢false (sym is ∙ goes y gone (same ∙ wrong)))))
-        again
-        (by_member y x (without gone xs) has)
-    by_test false is has again = again has
-
-kept_all : (P : ℕ → Type 0) (gone : ℕ) (xs : List ℕ) → AllByRecursion P xs → AllByRecursion P (without gone xs)
-kept_all P gone [] all = tt
-kept_all P gone (x ∷ xs) all = elim (not (x == gone)) as (λ b. AllByRecursion P (cond b (x ∷ without gone xs) (without gone xs))) [
-  | true ↦ (all.0, kept_all P gone xs all.1)
-  | false ↦ kept_all P gone xs all.1
-]
 
 kept_apart : (gone : ℕ) (xs : List ℕ) → EachOnce xs → EachOnce (without gone xs)
 kept_apart gone [] once = tt
 kept_apart gone (x ∷ xs) once = elim (not (x == gone)) as (λ b. EachOnce (cond b (x ∷ without gone xs) (without gone xs))) [
-  | true ↦ (kept_all (λ other. x ≢ other) gone xs once.0, kept_apart gone xs once.1)
+  | true ↦ (All-filter (λ other. x ≢ other) (λ y. not (y == gone)) xs once.0, kept_apart gone xs once.1)
   | false ↦ kept_apart gone xs once.1
 ]
 

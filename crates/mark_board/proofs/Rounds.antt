@@ -1,11 +1,13 @@
 -- What a round shows of the marks of all rounds.
 use Rattle.std.proofs.Common.{◌≡◌, ⊎_elim, ℕ, ◌+◌, ◌-◌, ◌*◌, ◌/◌, ◌%◌, ◌<◌, ◌≤◌, ◌==◌, nat_lt, List, [], ◌∷◌, ◌++◌, refl, ap, ◌∙◌, subst, Bool, true, false, cond, arith}
 use Rattle.std.proofs.lemmas.Bool.Decides.{nat_tests}
+use Rattle.std.proofs.lemmas.List.Elements.{Contains-append_cases}
+use Rattle.plain_laws.proofs.Members.{here, there}
 use Rattle.rw_sets.specs.declared.access.Access.{Access}
 use Rattle.rw_sets.specs.declared.access.Access.TheVariants.{Read, Write}
 use Rattle.mark_board.specs.declared.view.Mark.{Mark}
 use Rattle.mark_board.specs.Words.{AreOfLastRounds, base_of, mark_at, of_round, ranks, word_of}
-use Rattle.mark_board.proofs.Places.{by_part, in_head, in_one, in_tail}
+use Rattle.mark_board.proofs.Places.{in_one}
 
 -- the word of a location and an access tells both
 pub mark_of_word : (loc : ℕ) (access : Access) (number : ℕ) → mark_at (word_of loc access) number ≡ record { loc = loc; access = access; rank = number }
@@ -40,7 +42,7 @@ round_one renewals loc access rank below =
     rw (test, back) refl
 
 pub last_append : (renewals : ℕ) (marks more : List Mark) → AreOfLastRounds renewals marks → AreOfLastRounds renewals more → AreOfLastRounds renewals (marks ++ more)
-last_append renewals marks more last also mark has = ⊎_elim (last mark) (also mark) (by_part marks more mark has)
+last_append renewals marks more last also mark has = ⊎_elim (last mark) (also mark) (Contains-append_cases marks more mark has)
 
 pub last_one : (renewals : ℕ) (mark : Mark) → base_of renewals ≤ mark.rank → AreOfLastRounds renewals (mark ∷ [])
 last_one renewals mark from other has = subst (λ (m : Mark). base_of renewals ≤ m.rank) (in_one mark other has) from
@@ -54,9 +56,9 @@ last_next renewals marks some last mark has = let from = last mark has in omega 
 pub next_is_empty : (renewals : ℕ) (marks : List Mark) → 0 < renewals → AreOfLastRounds renewals marks → of_round (renewals - 1) marks ≡ []
 next_is_empty renewals [] some last = refl
 next_is_empty renewals (mark ∷ marks) some last =
-    let from = last mark (in_head mark marks) in
+    let from = last mark (here mark marks) in
     let low : base_of (renewals - 1) + ranks ≤ mark.rank = omega (arith, from, some) in
     let test : nat_lt mark.rank (base_of (renewals - 1) + ranks) ≡ false = grind (arith, nat_tests, low) in
     let shown : Mark = record mark { rank = mark.rank - base_of (renewals - 1) } in
     ap (λ (b : Bool). cond b (shown ∷ of_round (renewals - 1) marks) (of_round (renewals - 1) marks)) test
-    ∙ next_is_empty renewals marks some (λ other has. last other (in_tail mark other marks has))
+    ∙ next_is_empty renewals marks some (λ other has. last other (there mark other marks has))

@@ -1,7 +1,9 @@
 -- Where a marker is split from the first one, the rule is kept: the new one has the next number.
 use Rattle.std.proofs.Common.{◌≡◌, ◌≢◌, ◌⊎◌, inr, ⊎_elim, ℕ, suc, ◌<◌, List, [], ◌∷◌, ◌++◌, length, refl, sym, ap, subst, ◌∙◌, arith, length-set, false}
 use Rattle.std.specs.Prelude.{◌↔◌, Contains, slice_set}
-use Rattle.std.specs.List.{AllByRecursion}
+use Rattle.plain_laws.proofs.Without.{all_apart}
+use Rattle.plain_laws.proofs.Members.{cases, here, there}
+use Rattle.plain_laws.proofs.Places.{at_end, at_inside}
 use Rattle.atomic_table.specs.Table.{Splits, State}
 use Rattle.atomic_table.proofs.Lists.{at_last, at_longer}
 use Rattle.mark_board.specs.declared.view.View.{View}
@@ -9,12 +11,7 @@ use Rattle.mark_board.specs.Board.{AreNumbered, BoardRule, EachOnce, IsAt, IsMar
 use Rattle.mark_board.specs.Words.{least_of}
 use Rattle.mark_board.proofs.LeastMarks.{least_end, least_same}
 use Rattle.mark_board.proofs.Numbers.{at_other, first_place, is_first, is_marker, marker_moves, now_at, other_at}
-use Rattle.mark_board.proofs.Places.{at_end, at_inside, by_member, in_head, in_tail, length_more}
-
-all_apart : (y : ℕ) (xs : List ℕ) → ((x : ℕ) → Contains xs x → x < y) → AllByRecursion (λ x. y ≢ x) xs
-all_apart y [] below = tt
-all_apart y (x ∷ xs) below =
-    ((λ same. let less = below x (in_head x xs) in absurd (omega (arith, less, same))), all_apart y xs (λ z has. below z (in_tail x z xs has)))
+use Rattle.mark_board.proofs.Places.{length_more}
 
 module _ {S : Type 0} {cells : ℕ} {s : State S View} (rule : BoardRule cells s) (v : View) (at : IsAt s.views 0 v) (is : IsMarker 0 v) where
   -- the views after the split
@@ -80,12 +77,12 @@ module _ {S : Type 0} {cells : ℕ} {s : State S View} (rule : BoardRule cells s
       (λ (old : Contains v.unjoined other).
       let one = (was_unjoined other).0 old in
       (one.0, (one.1.0, else_at other one.1.0 (λ zero. let above = one.0 in absurd (omega (arith, above, zero))) one.1.1, one.1.2)))
-      (by_member (suc v.splits) other v.unjoined has)
+      (cases (suc v.splits) other v.unjoined has)
 
   by_stand : (other : ℕ) (u : View) → 0 < other → IsMarker other u → Stands other u → Contains (suc v.splits ∷ v.unjoined) other
   by_stand other u above one (is_first_one same there) = absurd (omega (arith, above, same))
-  by_stand other u above one (is_last_one same there) = subst (λ n. Contains (suc v.splits ∷ v.unjoined) n) (sym same) (in_head (suc v.splits) v.unjoined)
-  by_stand other u above one (is_else apart was) = in_tail (suc v.splits) other v.unjoined ((was_unjoined other).1 (above, (u, was, one)))
+  by_stand other u above one (is_last_one same there) = subst (λ n. Contains (suc v.splits ∷ v.unjoined) n) (sym same) (here (suc v.splits) v.unjoined)
+  by_stand other u above one (is_else apart was) = there (suc v.splits) other v.unjoined ((was_unjoined other).1 (above, (u, was, one)))
 
   below_new : (other : ℕ) → Contains v.unjoined other → other < suc v.splits
   below_new other has =

@@ -4,6 +4,7 @@ use Rattle.std.specs.List.{AllByRecursion}
 use Rattle.std.specs.Option.{option_or, option_map}
 use Rattle.std.proofs.Common.{arith, ap, sym, ◌∙◌, subst, append_assoc, append-nil, length-append, zero-add}
 use Rattle.std.proofs.lemmas.Bool.{cond_both, eqb-true, lt-ltb, le-ltb, ltb-false}
+use Rattle.plain_laws.proofs.Lists.{All-append}
 use Rattle.kdg_text.specs.declared.fault.LineFault.{LineFault}
 use Rattle.kdg_text.specs.Faults.{Numbered, fault_on, first_fault_after}
 use Rattle.mtx_reader.specs.declared.banner.Banner.{Banner}
@@ -128,16 +129,12 @@ addends-within Symmetric size entry right within =
     cond_both (entry.row == entry.column) (((entry.row, entry.column), entry.value) ∷ []) (((entry.row, entry.column), entry.value) ∷ ((entry.column, entry.row), entry.value) ∷ [])
     (AllByRecursion (λ (addend : Addend). IsWithin size.rows size.columns addend.0)) (λ same. (within, tt)) (λ differs. (within, (other, tt)))
 
-all-append : (P : Place → Type 0) (xs ys : List Place) → AllByRecursion P xs → AllByRecursion P ys → AllByRecursion P (xs ++ ys)
-all-append P [] ys all also = also
-all-append P (x ∷ xs) ys all also = (all.0, all-append P xs ys all.1 also)
-
 -- the places that are kept lie within the matrix
 pub kept-within : (banner : Banner) (size : Size) (named kept : List Place) (entry : Entry) → size_fault banner.symmetry (Some size) ≡ None → IsWithin size.rows size.columns (entry.row, entry.column)
     → AllByRecursion (IsWithin size.rows size.columns) named → kept ≡ named ++ kept_places banner.field (addends_by banner.symmetry (Some entry)) → AllByRecursion (IsWithin size.rows size.columns) kept
 kept-within banner size named kept entry right within all is =
     subst (AllByRecursion (IsWithin size.rows size.columns)) (sym is)
-    (all-append (IsWithin size.rows size.columns) named (kept_places banner.field (addends_by banner.symmetry (Some entry))) all
+    (All-append (IsWithin size.rows size.columns) named (kept_places banner.field (addends_by banner.symmetry (Some entry))) all
     (all-kept (IsWithin size.rows size.columns) banner.field (addends_by banner.symmetry (Some entry)) (addends-within banner.symmetry size entry right within)))
 
 pub pattern-sound : (field : Field) (kind : Symmetry) (size : Size) (named : List Place) → size_fault kind (Some size) ≡ None → IsPattern (pattern_of_kept field size named)

@@ -9,6 +9,7 @@ use Rattle.std.proofs.Common.{◌⊎◌, inl, inr, arith, sym, ap, ◌∙◌, su
 use Rattle.std.proofs.lemmas.Bool.{cond_both, cond-true, cases_eq}
 use Rattle.std.proofs.lemmas.Bool.Decides.{nat_tests}
 use Rattle.std.proofs.lemmas.Cmp.{ranked, tied_itself, nat_cmp_total}
+use Rattle.plain_laws.proofs.Lists.{All-push}
 
 -- each item comes before each after it
 abbrev pub IsAscendingBy : {X : Type 0} → (X → X → Ordering) → List X → Type 0
@@ -33,10 +34,6 @@ all_in P (y ∷ ys) x all (inr there) = all_in P ys x all.1 there
 pub all_from_in : {X : Type 0} (P : X → Type 0) (xs : List X) → ((x : X) → IsIn xs x → P x) → AllByRecursion P xs
 all_from_in P [] each = tt
 all_from_in P (x ∷ xs) each = (each x (inl refl), all_from_in P xs (λ y there. each y (inr there)))
-
-pub all_push : {X : Type 0} (P : X → Type 0) (xs : List X) (x : X) → AllByRecursion P xs → P x → AllByRecursion P (xs ++ x ∷ [])
-all_push P [] x all here = (here, tt)
-all_push P (y ∷ ys) x all here = (all.0, all_push P ys x all.1 here)
 
 pub in_left : {X : Type 0} (xs ys : List X) (x : X) → IsIn xs x → IsIn (xs ++ ys) x
 in_left [] ys x there = absurd there
@@ -85,7 +82,7 @@ from_filter test (y ∷ ys) x there =
 module _ {X : Type 0} (cmp : X → X → Ordering) where
   pub ascending_push : (xs : List X) (x : X) → IsAscendingBy cmp xs → AllByRecursion (λ y. cmp y x ≡ Less) xs → IsAscendingBy cmp (xs ++ x ∷ [])
   ascending_push [] x up before = (tt, tt)
-  ascending_push (y ∷ ys) x up before = (all_push (λ z. cmp y z ≡ Less) ys x up.0 before.0, ascending_push ys x up.1 before.1)
+  ascending_push (y ∷ ys) x up before = (All-push (λ z. cmp y z ≡ Less) ys x up.0 before.0, ascending_push ys x up.1 before.1)
 
   pub ascending_append : (xs ys : List X) → IsAscendingBy cmp xs → IsAscendingBy cmp ys → ((x y : X) → IsIn xs x → IsIn ys y → cmp x y ≡ Less) → IsAscendingBy cmp (xs ++ ys)
   ascending_append [] ys up also before = also

@@ -4,13 +4,13 @@ use Rattle.std.specs.List.{All, flat_map, range_with_len}
 use Rattle.std.proofs.lemmas.Int.{ints}
 use Rattle.std.proofs.lemmas.List.{length-replicate, replicate-append-replicate}
 use Rattle.std.proofs.lemmas.List.Concat.{flat_map-append}
-use Rattle.std.proofs.lemmas.List.Elements.{All-nil, All-cons, All-map, All-replicate, All-from_get_or, All-weaker, All-head, All-tail}
-use Rattle.std.proofs.lemmas.List.FromFn.{length-map-range_with_len, length-range_with_len, get_or-range_with_len, map-range_with_len_more}
+use Rattle.std.proofs.lemmas.List.Elements.{All-nil, All-cons, All-map, All-replicate, All-weaker, All-head, All-tail}
+use Rattle.std.proofs.lemmas.List.FromFn.{length-map-range_with_len, length-range_with_len, map-range_with_len_more}
+use Rattle.plain_laws.proofs.Ranges.{range-below, range_more}
 use Rattle.spring_mesh.specs.declared.file.MeshFile.{MeshFile}
 use Rattle.spring_mesh.specs.declared.file.MeshNode.{MeshNode}
 use Rattle.spring_mesh.specs.Files.{IsMass, IsMesh, IsNode, IsSpring}
 use Rattle.spring_mesh.specs.Pairs.{generated_input, most_pairs, pair_mass, pair_nodes, pair_spring, resting_at, with_pair}
-use Rattle.spring_mesh.proofs.Steps.{range_more}
 
 -- one pair more
 nodes-more : (n : ℕ) → flat_map pair_nodes (range_with_len 0 n) ++ pair_nodes n ≡ flat_map pair_nodes (range_with_len 0 (n + 1))
@@ -29,11 +29,6 @@ pair_added n before after so_far more = more ∙ ap (λ (file : MeshFile). with_
   where
     grown : with_pair (generated_input n) n ≡ generated_input (n + 1)
     grown = let nodes = nodes-more n in let masses = masses-more n in let springs = springs-more n in cc
-
-numbers-below : (n : ℕ) → All (λ i. i < n) (range_with_len 0 n)
-numbers-below n = All-from_get_or (λ i. i < n) (range_with_len 0 n) 0 (λ k below.
-    let in_range : k < n = omega (arith, below, length-range_with_len 0 n) in
-    omega (arith, get_or-range_with_len 0 n k 0 in_range, in_range))
 
 length-nodes : (pairs : List ℕ) → length (flat_map pair_nodes pairs) ≡ 2 * length pairs
 length-nodes [] = refl
@@ -74,11 +69,11 @@ generated-sound n few =
       node_count = omega (arith, count, few);
       spring_count = omega (arith, length-map-range_with_len pair_spring 0 n, few);
       mass_count = length-replicate (2 * n) pair_mass ∙ sym count;
-      nodes = nodes-each IsNode n pairs (λ x y left low. resting-sound x y left (omega (arith, low, few))) (numbers-below n);
-      start = nodes-each (λ node. node.time ≡ 0) n pairs (λ x y left low. refl) (numbers-below n);
+      nodes = nodes-each IsNode n pairs (λ x y left low. resting-sound x y left (omega (arith, low, few))) (range-below n);
+      start = nodes-each (λ node. node.time ≡ 0) n pairs (λ x y left low. refl) (range-below n);
       masses = All-replicate IsMass (2 * n) pair_mass (record { some = omega (arith, ints); most = omega (arith, ints) });
       springs = All-map (IsSpring (length nodes)) pair_spring pairs
-          (All-weaker (λ i. i < n) (λ i. IsSpring (length nodes) (pair_spring i)) (λ i below. spring-sound (length nodes) i (omega (arith, below, count))) pairs (numbers-below n));
+          (All-weaker (λ i. i < n) (λ i. IsSpring (length nodes) (pair_spring i)) (λ i below. spring-sound (length nodes) i (omega (arith, below, count))) pairs (range-below n));
       end = omega arith;
     }
 

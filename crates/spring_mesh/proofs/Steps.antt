@@ -1,12 +1,12 @@
 -- Lists of what is below a number, one further.
-use Rattle.std.proofs.Common.{arith, refl, ◌≡◌, ◌∙◌, ℕ, zero, suc, ◌+◌, ◌<◌, ◌≤◌, ◌^◌, Bool, true, false, List, [], ◌∷◌, ◌++◌, Result, Ok, Err, OnOk, length, nat_le, ap, sym, zero-add}
+use Rattle.std.proofs.Common.{arith, refl, ◌≡◌, ◌∙◌, ℕ, zero, suc, ◌+◌, ◌<◌, ◌≤◌, ◌^◌, Bool, true, false, List, [], ◌∷◌, ◌++◌, Result, Ok, Err, OnOk, length, nat_le, ap, sym}
 use Rattle.std.specs.Prelude.{filter, map, if◌then◌else◌}
 use Rattle.std.specs.List.{flat_map, range_with_len, AllByRecursion}
 use Rattle.std.proofs.lemmas.Bool.{cond_both}
 use Rattle.std.proofs.lemmas.Bool.Decides.{nat_tests}
-use Rattle.std.proofs.lemmas.List.{length-map, append-nil, append_assoc, map-append, map-id}
-use Rattle.std.proofs.lemmas.List.Elements.{filter-append}
-use Rattle.std.proofs.lemmas.List.FromFn.{length-range_with_len, map-range_with_len_more}
+use Rattle.std.proofs.lemmas.List.{length-map, append-nil, append_assoc, map-append}
+use Rattle.std.proofs.lemmas.List.FromFn.{length-range_with_len}
+use Rattle.plain_laws.proofs.Ranges.{filter-range_more, range_more}
 use Rattle.task_order.specs.declared.start.Start.{Start}
 use Rattle.spring_mesh.specs.declared.file.MeshFile.{MeshFile}
 use Rattle.spring_mesh.specs.declared.file.Spring.{Spring}
@@ -22,22 +22,10 @@ use Rattle.spring_mesh.specs.Motion.{brought_to}
 use Rattle.spring_mesh.specs.Meaning.{IsFitTask, final_line, first_step, mesh_steps, no_node, node_at, node_line, spring_at, start_tasks, stepping_among}
 use Rattle.spring_mesh.specs.Lawful.{in_time}
 
-pub range_more : (n : ℕ) → range_with_len 0 (n + 1) ≡ range_with_len 0 n ++ n ∷ []
-range_more n =
-    sym (map-id (range_with_len 0 (n + 1)))
-    ∙ map-range_with_len_more (λ (z : ℕ). z) 0 n n (zero-add n)
-    ∙ ap (λ (zs : List ℕ). zs ++ n ∷ []) (map-id (range_with_len 0 n))
-
-filter_more : (p : ℕ → Bool) (n : ℕ) (b : Bool) → p n ≡ b → filter p (range_with_len 0 (n + 1)) ≡ filter p (range_with_len 0 n) ++ (if b then n ∷ [] else [])
-filter_more p n b e =
-    ap (filter p) (range_more n)
-    ∙ filter-append p (range_with_len 0 n) (n ∷ [])
-    ∙ ap (λ (t : Bool). filter p (range_with_len 0 n) ++ (if t then n ∷ [] else [])) e
-
 stepping_among-more : (file : MeshFile) (n : ℕ) (spring : Spring) (b : Bool) → spring ≡ spring_at file n → nat_le spring.h file.end ≡ b
     → stepping_among file (n + 1) ≡ stepping_among file n ++ (if b then n ∷ [] else [])
 stepping_among-more file n spring b is e =
-    filter_more (λ number. nat_le (spring_at file number).h file.end) n b (ap (λ (s : Spring). nat_le s.h file.end) (sym is) ∙ e)
+    filter-range_more (λ number. nat_le (spring_at file number).h file.end) n b (ap (λ (s : Spring). nat_le s.h file.end) (sym is) ∙ e)
 
 early_is : (h end : ℕ) → h ≤ end → nat_le h end ≡ true
 early_is h end early = grind (arith, nat_tests)

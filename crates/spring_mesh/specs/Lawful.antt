@@ -7,6 +7,7 @@ use Rattle.std.proofs.lemmas.Bool.Decides.{nat_tests}
 use Rattle.std.proofs.lemmas.List.{length-set}
 use Rattle.std.proofs.lemmas.List.Elements.{All-get_or, All-set}
 use Rattle.std.proofs.lemmas.Option.{slice_get-get_or, same_Some}
+use Rattle.plain_laws.proofs.Lists.{All-filter}
 use Rattle.task_order.specs.declared.start.Start.{Start}
 use Rattle.task_order.specs.declared.task.Body.{Body}
 use Rattle.task_order.specs.declared.task.Task.{Task}
@@ -49,11 +50,6 @@ get-set_alike (cell ∷ cells) (other ∷ others) (suc place) (suc loc) node sam
 same_node : (cells others : List MeshNode) (loc : ℕ) → loc < length cells → loc < length others → slice_get cells loc ≡ slice_get others loc → node_at cells loc ≡ node_at others loc
 same_node cells others loc below below-others same =
     same_Some (node_at cells loc) (node_at others loc) (sym (slice_get-get_or cells loc no_node below) ∙ same ∙ slice_get-get_or others loc no_node below-others)
-
-all_kept : {X : Type 0} (P : X → Type 0) (test : X → Bool) (xs : List X) → AllByRecursion P xs → AllByRecursion P (filter test xs)
-all_kept P test [] all = tt
-all_kept P test (x ∷ xs) all =
-    cond_both (test x) (x ∷ filter test xs) (filter test xs) (AllByRecursion P) (λ kept. (all.0, all_kept P test xs all.1)) (λ dropped. all_kept P test xs all.1)
 
 pub in_time : (time end : ℕ) → nat_le time end ≡ true → time ≤ end
 in_time time end test = grind (arith, nat_tests)
@@ -199,7 +195,7 @@ module _ (file : MeshFile) where
 
   pub safe_tasks_stay_safe : SafeTasksStaySafe (mesh_steps file)
   safe_tasks_stay_safe task acted before after cells fit step fit-others ascending earlier safe apart = record {
-    apart = all_kept _ _ _ (next_apart acted task ((mesh_steps file).act acted cells).cells apart);
+    apart = All-filter _ _ _ (next_apart acted task ((mesh_steps file).act acted cells).cells apart);
     safe = refl;
   }
 

@@ -3,6 +3,7 @@ use Rattle.std.proofs.Common.{◌≡◌, inr, ℕ, zero, suc, [], ◌∷◌, Som
 use Rattle.std.specs.declared.alloc.Global.{Global}
 use Rattle.std.specs.declared.boxed.Box.{Box}
 use mathlib.Core.Option.{some-injective, some-ne-none}
+use Rattle.plain_laws.proofs.Members.{none}
 use Rattle.atomic_table.specs.Table.{opening}
 use Rattle.app_laws.specs.Applications.{Application}
 use Rattle.run_laws.specs.Rest.{IdleIsSound, NoneRuns}
@@ -12,7 +13,7 @@ use Rattle.worker_gate.specs.Fits.{Fits, nothing_since}
 use Rattle.worker_gate.specs.Hall.{AreNumbered, HallRule, IsAt, IsSeat, first_view, sum_of}
 use Rattle.worker_gate.specs.Laws.{OriginsContinue}
 use Rattle.worker_gate.specs.Steps.{Seen}
-use Rattle.worker_gate.proofs.Places.{none_in, some_is_not_none}
+use Rattle.worker_gate.proofs.Places.{some_is_not_none}
 
 module _ {S V : Type 0} (v : View S V) where
   -- the only place is the first one
@@ -32,7 +33,7 @@ module _ {A V : Type 0} (origin : EngineState A V) where
         let only = only_first (first_view origin) place u at in
         inr (subst (λ (x : Seen A V). IsSeat origin place x) only.1 (record { origin_is = refl; number_is = sym only.0 }));
     unjoined = λ place. (
-      (λ has. absurd (none_in place has)),
+      (λ has. absurd (none place has)),
       (λ is. let above = is.0 in let only = (only_first (first_view origin) place is.1.0 is.1.1).0 in absurd (omega (arith, above, only))),
     );
     once = tt;

@@ -8,6 +8,8 @@ use Rattle.std.specs.declared.boxed.Box.{Box}
 use mathlib.Core.Option as optional
 use mathlib.Core.Option.{some, some-injective, some-ne-none}
 use lib.ListN.{get_elem?}
+use Rattle.plain_laws.proofs.Members.{none}
+use Rattle.plain_laws.proofs.Places.{at_one}
 use Rattle.atomic_table.specs.Table.{Final, Seen as SeesView, State}
 use Rattle.app_laws.specs.Applications.{Application}
 use Rattle.crew.specs.declared.answers.OverCause.{OverCause}
@@ -17,7 +19,6 @@ use Rattle.worker_gate.specs.Fits.{Fits}
 use Rattle.worker_gate.specs.Hall.{HallRule, IsAt, IsSeat, noted, sum_of}
 use Rattle.worker_gate.specs.Steps.{Seen, Slot, spent}
 use Rattle.worker_gate.proofs.Numbers.{first_place, is_first}
-use Rattle.worker_gate.proofs.Places.{at_one, none_in}
 
 told_none : {A X : Type 0} (f : A → List X) (l : List A) → ((place : ℕ) (a : A) → get_elem? l place ≡ some a → f a ≡ []) → flat_map f l ≡ []
 told_none f [] none = refl
@@ -52,7 +53,7 @@ module _ {A V : Type 0} {meaning : A → Application V} (origin : EngineState A 
         (λ (is : IsSeat origin (suc place) u).
         let has = (rule.numbered.unjoined (suc place)).1 (omega arith, (u, here, is)) in
         let same : rule.numbered.first.unjoined ≡ [] = ap (λ (x : Seen A V). x.unjoined) (is_first rule.numbered 0 v at_zero refl) ∙ alone in
-        absurd (none_in (suc place) (subst (λ (xs : List ℕ). Contains xs (suc place)) same has)))
+        absurd (none (suc place) (subst (λ (xs : List ℕ). Contains xs (suc place)) same has)))
         (rule.numbered.seats (suc place) u here)
 
     is_free : (word : ℕ) → rule.word ≡ word → word ≡ 0

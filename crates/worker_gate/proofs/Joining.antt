@@ -1,13 +1,14 @@
 -- Where the first seat takes over what another one has, the rule is kept.
-use Rattle.std.proofs.Common.{◌≡◌, ◌≢◌, ◌⊎◌, inl, inr, ⊎_elim, ◌==◌, eq-eqb, ne_eqb, not, cond, Bool, true, false, ℕ, zero, suc, ◌<◌, ◌^◌, List, [], ◌∷◌, ◌++◌, Option, Some, None, refl, sym, ap, subst, ◌∙◌, arith, length-set, append_assoc}
+use Rattle.std.proofs.Common.{◌≡◌, ◌≢◌, ◌⊎◌, inl, inr, ⊎_elim, ◌==◌, not, ℕ, zero, suc, ◌<◌, ◌^◌, List, [], ◌∷◌, ◌++◌, Option, Some, None, refl, sym, ap, subst, ◌∙◌, arith, length-set, append_assoc}
 use Rattle.std.specs.Prelude.{◌↔◌, Contains, IsPermutation, filter, slice_set}
-use Rattle.std.specs.List.{AllByRecursion, flat_map}
+use Rattle.std.specs.List.{flat_map}
 use Rattle.std.specs.Option.{option_or}
 use mathlib.Core.Option.{some, some-injective}
 use lib.ListN.{get_elem?}
+use Rattle.run_laws.specs.Lists.{pairwise-filter}
+use Rattle.plain_laws.proofs.Without.{kept_from, kept_in}
 use Rattle.atomic_table.specs.Table.{Joins, State}
 use Rattle.atomic_table.proofs.Lists.{at_set, set_else}
-use Rattle.std.proofs.lemmas.Bool.{true≢false}
 use Rattle.std.proofs.lemmas.List.Sorted.{IsPermutation-append_right, IsPermutation-trans}
 use Rattle.app_laws.specs.Applications.{Application}
 use Rattle.app_laws.specs.Order.{Pairwise}
@@ -19,55 +20,13 @@ use Rattle.worker_gate.specs.Hall.{AreNumbered, HallRule, IsAt, IsNamed, IsSeat,
 use Rattle.worker_gate.specs.Laws.{IsSameSum, SameSumsContinue}
 use Rattle.worker_gate.specs.Steps.{Seen, Slot, both_views, spent}
 use Rattle.worker_gate.proofs.Numbers.{at_other, is_first, is_seat, no_origin, now_at, other_at, seat_moves, someone_at}
-use Rattle.worker_gate.proofs.Places.{by_member, in_tail, some_is_not_none}
+use Rattle.worker_gate.proofs.Places.{some_is_not_none}
 use Rattle.worker_gate.proofs.Sums.{drained_else, drained_same, later_marks, noted_apart, same_permutes, told_apart}
 
 -- ---- numbers without one of them
 
 abbrev without : ℕ → List ℕ → List ℕ
 without gone xs = filter (λ x. not (x == gone)) xs
-
-stays : (y gone : ℕ) → y ≢ gone → not (y == gone) ≡ true
-stays y gone other = ap not (ne_eqb y gone other)
-
-goes : (y gone : ℕ) → y ≡ gone → not (y == gone) ≡ false
-goes y gone same = ap not (eq-eqb y gone same)
-
-kept_in : (gone x : ℕ) (xs : List ℕ) → Contains xs x → x ≢ gone → Contains (without gone xs) x
-kept_in gone x [] (k, inside, is) other = absurd (omega (arith, inside))
-kept_in gone x (y ∷ xs) has other = by_test (not (y == gone)) refl (by_member y x xs has) (λ later. kept_in gone x xs later other)
-  where
-    by_test : (test : Bool) → not (y == gone) ≡ test → (y ≡ x) ⊎ Contains xs x → (Contains xs x → Contains (without gone xs) x) → Contains (cond test (y ∷ without gone xs) (without gone xs)) x
-    by_test true is (inl same) again = (0, omega arith, same)
-    by_test true is (inr later) again = in_tail y x (without gone xs) (again later)
-    by_test false is (inl same) again = absurd (true≢false (sym (stays y gone (λ wrong. other (sym same ∙ wrong))) ∙ is))
-    by_test false is (inr later) again = again later
-
-kept_from : (gone x : ℕ) (xs : List ℕ) → Contains (without gone xs) x → Contains xs x × (x ≢ gone)
-kept_from gone x [] (k, inside, is) = absurd (omega (arith, inside))
-kept_from gone x (y ∷ xs) has = by_test (not (y == gone)) refl has (λ rest. let kept = kept_from gone x xs rest in (in_tail y x xs kept.0, kept.1))
-  where
-    by_test : (test : Bool) → not (y == gone) ≡ test → Contains (cond test (y ∷ without gone xs) (without gone xs)) x
-        → (Contains (without gone xs) x → Contains (y ∷ xs) x × (x ≢ gone)) → Contains (y ∷ xs) x × (x ≢ gone)
-    by_test true is has again = ⊎_elim
-        (λ (same : y ≡ x). ((0, omega arith, same), (λ wrong. true≢false (sym is ∙ goes y gone (same ∙ wrong)))))
-        again
-        (by_member y x (without gone xs) has)
-    by_test false is has again = again has
-
-kept_all : (P : ℕ → Type 0) (gone : ℕ) (xs : List ℕ) → AllByRecursion P xs → AllByRecursion P (without gone xs)
-kept_all P gone [] all = tt
-kept_all P gone (x ∷ xs) all = elim (not (x == gone)) as (λ b. AllByRecursion P (cond b (x ∷ without gone xs) (without gone xs))) [
-  | true ↦ (all.0, kept_all P gone xs all.1)
-  | false ↦ kept_all P gone xs all.1
-]
-
-kept_apart : (gone : ℕ) (xs : List ℕ) → Pairwise (λ one other. one ≢ other) xs → Pairwise (λ one other. one ≢ other) (without gone xs)
-kept_apart gone [] pairs = tt
-kept_apart gone (x ∷ xs) pairs = elim (not (x == gone)) as (λ b. Pairwise (λ one other. one ≢ other) (cond b (x ∷ without gone xs) (without gone xs))) [
-  | true ↦ (kept_all (λ other. x ≢ other) gone xs pairs.0, kept_apart gone xs pairs.1)
-  | false ↦ kept_apart gone xs pairs.1
-]
 
 or_both : (a b c : Option OverCause) → option_or a (option_or b c) ≡ option_or (option_or a b) c
 or_both None b c = refl
@@ -181,7 +140,7 @@ module _ {A V : Type 0} {meaning : A → Application V} {origin : EngineState A 
     few = subst (λ (u : Seen A V). suc u.splits < 2 ^ 32) first_is rule.numbered.few;
     seats = λ place u here. its_seat place u (stands place u here);
     unjoined = λ place. (now_unjoined place, (λ is. by_stand place is.1.0 is.0 is.1.2 (stands place is.1.0 is.1.1)));
-    once = kept_apart w.number v.unjoined (subst (λ (u : Seen A V). Pairwise (λ one other. one ≢ other) u.unjoined) first_is rule.numbered.once);
+    once = pairwise-filter (λ one other. one ≢ other) (λ x. not (x == w.number)) v.unjoined (subst (λ (u : Seen A V). Pairwise (λ one other. one ≢ other) u.unjoined) first_is rule.numbered.once);
     no_others = λ place u here. no_others place u (stands (suc place) u here);
   }
 

@@ -1,13 +1,14 @@
 -- What is known of an engine in a turn.
-use Rattle.std.proofs.Common.{◌≡◌, ◌≢◌, ◌&&◌, ⊎_elim, not, Bool, true, false, List, [], ◌∷◌, ◌++◌, map, None, refl, sym, ap, subst, ◌∙◌, append_assoc}
-use Rattle.std.specs.Prelude.{Contains, IsPermutation, IsTrue}
+use Rattle.std.proofs.Common.{◌≡◌, ◌≢◌, ⊎_elim, not, Bool, true, false, List, [], ◌∷◌, ◌++◌, map, None, sym, ap, subst, ◌∙◌, append_assoc}
+use Rattle.std.specs.Prelude.{Contains, IsTrue}
 use Rattle.std.specs.List.{AllByRecursion}
 use Rattle.std.specs.Option.{option_or}
 use Rattle.std.specs.Ordering.{is_lt}
-use Rattle.std.proofs.lemmas.Bool.{true≢false}
+use Rattle.std.proofs.lemmas.Bool.{and_parts, true≢false}
 use Rattle.std.specs.declared.cmp.Ordering.TheVariants.{Less}
-use Rattle.std.proofs.lemmas.List.Elements.{All-from_recursion, recursion_from_All}
-use Rattle.std.proofs.lemmas.List.Sorted.{All-permutation}
+
+
+use Rattle.plain_laws.proofs.Lists.{All-front, All-map, All-shuffled}
 use Rattle.task_order.specs.declared.key.Key.{Key}
 use Rattle.task_order.specs.Key.{key_cmp}
 use Rattle.rw_sets.specs.Accesses.{Conflicts, conflicts_with}
@@ -37,24 +38,9 @@ use Rattle.worker_gate.specs.Steps.{IsFound, Seen}
 
 -- ---- lists
 
-all_front : {X : Type 0} (P : X → Type 0) (xs ys : List X) → AllByRecursion P (xs ++ ys) → AllByRecursion P xs
-all_front P [] ys all = tt
-all_front P (x ∷ xs) ys all = (all.0, all_front P xs ys all.1)
-
 pairwise_front : {X : Type 0} (R : X → X → Type 0) (xs ys : List X) → Pairwise R (xs ++ ys) → Pairwise R xs
 pairwise_front R [] ys pairs = tt
-pairwise_front R (x ∷ xs) ys pairs = (all_front (R x) xs ys pairs.0, pairwise_front R xs ys pairs.1)
-
-all_images : {X Y : Type 0} (P : Y → Type 0) (f : X → Y) (xs : List X) → AllByRecursion (λ x. P (f x)) xs → AllByRecursion P (map f xs)
-all_images P f [] all = tt
-all_images P f (x ∷ xs) all = (all.0, all_images P f xs all.1)
-
-all_shuffled : {X : Type 0} (P : X → Type 0) (xs ys : List X) → IsPermutation xs ys → AllByRecursion P xs → AllByRecursion P ys
-all_shuffled P xs ys same all = recursion_from_All P ys (All-permutation P xs ys same (All-from_recursion P xs all))
-
-first_true : (one other : Bool) → (one && other) ≡ true → one ≡ true
-first_true true other both = refl
-first_true false other both = both
+pairwise_front R (x ∷ xs) ys pairs = (All-front (R x) xs ys pairs.0, pairwise_front R xs ys pairs.1)
 
 never_both : (test : Bool) → test ≡ false → IsTrue test → ⊥
 never_both true is held = true≢false is
@@ -66,7 +52,7 @@ module _ {V : Type 0} (app : Application V) (lower : LowerLaws) (nodes : List No
   none_earlier : (node other : Node) → Contains nodes node → Contains nodes other → node.running ≡ true → key_cmp other.task.key node.task.key ≡ Less → ¬ Conflicts other.set node.set
   none_earlier node other here there runs less conflict =
       let free = all_at (λ (node : Node). node.running ≡ true → is_unblocked app nodes node ≡ true) nodes node unblocked here runs in
-      let clear : is_blocked nodes node ≡ false = false_where_not (is_blocked nodes node) (first_true (not (is_blocked nodes node)) _ free) in
+      let clear : is_blocked nodes node ≡ false = false_where_not (is_blocked nodes node) (and_parts (not (is_blocked nodes node)) _ free).0 in
       let earlier : Contains (earlier_than node.task.key nodes) other =
       in_filter (λ (other : Node). is_lt (key_cmp other.task.key node.task.key)) nodes other there (ap is_lt less) in
       let no : conflicts_with other.set node.set ≡ false =
@@ -87,7 +73,7 @@ module _ {V : Type 0} (app : Application V) (lower : LowerLaws) (nodes : List No
 gone_with_entries : NewKeysFindNone → (nodes : List Node) (entries : List Entry) → AllByRecursion (λ (node : Node). IsNewEntry node.task.key entries) nodes
     → AllByRecursion (λ (key : Key). node_with_key nodes key ≡ None) (keys_of entries)
 gone_with_entries new_keys nodes entries no_nodes =
-    all_images (λ (key : Key). node_with_key nodes key ≡ None) (λ (entry : Entry). entry.0) entries
+    All-map (λ (key : Key). node_with_key nodes key ≡ None) (λ (entry : Entry). entry.0) entries
     (all-weaker (λ (entry : Entry). AllByRecursion (λ (node : Node). entry.0 ≢ node.task.key) nodes) (λ (entry : Entry). node_with_key nodes entry.0 ≡ None)
     (λ entry differ. (new_keys nodes entry.0).1
     (all-tasks (λ task. task.key ≢ entry.0) nodes (λ node has same. all_at (λ (node : Node). entry.0 ≢ node.task.key) nodes node differ has (sym same))))
@@ -102,14 +88,14 @@ module _ {V : Type 0} {app : Application V} (lower : LowerLaws) (new_keys : NewK
       let sound = continues.come.sound in
       let course = means origin (values_of origin.cells) continues.drained continues.entries now (jobs ++ others.jobs) continues.values continues.come in
       record {
-        running = all_front (IsOfNode app now.nodes) jobs others.jobs sound.outs_match.named;
+        running = All-front (IsOfNode app now.nodes) jobs others.jobs sound.outs_match.named;
         own = pairwise_front (λ (job other : Job V). job.task.key ≢ other.task.key) jobs others.jobs sound.outs_match.own;
         values = continues.values;
         home = sound.whole.home;
-        bundles = all_front (λ (job : Job V). job.bundle ≡ part_of (map Home continues.values) job.bundle.set) jobs others.jobs sound.whole.bundles;
+        bundles = All-front (λ (job : Job V). job.bundle ≡ part_of (map Home continues.values) job.bundle.set) jobs others.jobs sound.whole.bundles;
         apart = run_apart app lower now.nodes sound.running_unblocked;
-        gone = all_front (λ (key : Key). node_with_key now.nodes key ≡ None) ended others.finished
-            (all_shuffled (λ (key : Key). node_with_key now.nodes key ≡ None) (keys_of continues.entries) (ended ++ others.finished) continues.finished
+        gone = All-front (λ (key : Key). node_with_key now.nodes key ≡ None) ended others.finished
+            (All-shuffled (λ (key : Key). node_with_key now.nodes key ≡ None) (keys_of continues.entries) (ended ++ others.finished) continues.finished
             (gone_with_entries new_keys now.nodes continues.entries course.no_nodes));
       }
 

@@ -3,12 +3,12 @@ use Rattle.std.proofs.Common.{◌≡◌, ◌≢◌, ◌⊎◌, inr, ⊎_elim, �
 use Rattle.std.specs.Prelude.{◌↔◌, Contains}
 use mathlib.Core.Logic.{dite}
 use native.Mathlib.Decide.{ℕ_discrete}
+use Rattle.plain_laws.proofs.Places.{at_inside, at_one}
 use Rattle.atomic_table.proofs.Lists.{at_set, set_else, set_here}
 use Rattle.app_laws.specs.Order.{Pairwise}
 use Rattle.worker_gate.specs.declared.view.View.{View}
 use Rattle.worker_gate.specs.Hall.{AreNumbered, IsAt, IsSeat, IsUnjoined, NoteOneMark}
 use Rattle.worker_gate.specs.Steps.{spent}
-use Rattle.worker_gate.proofs.Places.{at_inside, at_one}
 
 pub no_origin : {S V : Type 0} (origin : S) (place : ℕ) → IsSeat {V = V} origin place spent → ⊥
 no_origin origin place seat = let is : None ≡ Some origin = seat.origin_is in cc

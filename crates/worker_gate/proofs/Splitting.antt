@@ -1,7 +1,9 @@
 -- Where a seat is split from the first one, the rule is kept: the new seat has the next number.
 use Rattle.std.proofs.Common.{◌≡◌, ◌≢◌, ◌⊎◌, inr, ⊎_elim, ℕ, suc, ◌+◌, ◌<◌, ◌^◌, List, [], ◌∷◌, ◌++◌, Some, None, length, refl, sym, ap, subst, ◌∙◌, arith, length-set}
 use Rattle.std.specs.Prelude.{◌↔◌, Contains, slice_set}
-use Rattle.std.specs.List.{AllByRecursion}
+use Rattle.plain_laws.proofs.Without.{all_apart}
+use Rattle.plain_laws.proofs.Members.{cases, here, there}
+use Rattle.plain_laws.proofs.Places.{at_end, at_inside}
 use Rattle.atomic_table.specs.Table.{Splits, State}
 use Rattle.atomic_table.proofs.Lists.{at_last, at_longer}
 use Rattle.app_laws.specs.Applications.{Application}
@@ -11,13 +13,8 @@ use Rattle.worker_gate.specs.Fits.{Fits}
 use Rattle.worker_gate.specs.Hall.{AreNumbered, HallRule, IsAt, IsNamed, IsSeat, IsUnjoined, NoteOneMark, sum_of}
 use Rattle.worker_gate.specs.Steps.{Seen, Slot, first_half, second_half, spent}
 use Rattle.worker_gate.proofs.Numbers.{first_place, is_first, is_seat, now_at, other_at, at_other, seat_moves, someone_at}
-use Rattle.worker_gate.proofs.Places.{at_end, at_inside, by_member, in_head, in_tail, some_is_not_none}
+use Rattle.worker_gate.proofs.Places.{some_is_not_none}
 use Rattle.worker_gate.proofs.Sums.{drained_end, noted_end, sum_same, told_end}
-
-all_apart : (y : ℕ) (xs : List ℕ) → ((x : ℕ) → Contains xs x → x < y) → AllByRecursion (λ x. y ≢ x) xs
-all_apart y [] below = tt
-all_apart y (x ∷ xs) below =
-    ((λ same. let less = below x (in_head x xs) in absurd (omega (arith, less, same))), all_apart y xs (λ z has. below z (in_tail x z xs has)))
 
 length-more : {X : Type 0} (xs : List X) (x : X) → length (xs ++ x ∷ []) ≡ suc (length xs)
 length-more [] x = refl
@@ -90,12 +87,12 @@ module _ {A V : Type 0} {meaning : A → Application V} {origin : EngineState A 
       (λ (old : Contains v.unjoined other).
       let is = (was_unjoined other).0 old in
       (is.0, (is.1.0, else_at other is.1.0 (λ zero. let above = is.0 in absurd (omega (arith, above, zero))) is.1.1, is.1.2)))
-      (by_member (suc v.splits) other v.unjoined has)
+      (cases (suc v.splits) other v.unjoined has)
 
   by_stand : (other : ℕ) (u : Seen A V) → 0 < other → IsSeat origin other u → Stands other u → Contains (suc v.splits ∷ v.unjoined) other
   by_stand other u above is (is_first_one same one) = absurd (omega (arith, above, same))
-  by_stand other u above is (is_last_one same one) = subst (λ n. Contains (suc v.splits ∷ v.unjoined) n) (sym same) (in_head (suc v.splits) v.unjoined)
-  by_stand other u above is (is_else apart was) = in_tail (suc v.splits) other v.unjoined ((was_unjoined other).1 (above, (u, was, is)))
+  by_stand other u above is (is_last_one same one) = subst (λ n. Contains (suc v.splits ∷ v.unjoined) n) (sym same) (here (suc v.splits) v.unjoined)
+  by_stand other u above is (is_else apart was) = there (suc v.splits) other v.unjoined ((was_unjoined other).1 (above, (u, was, is)))
 
   below_new : (other : ℕ) → Contains v.unjoined other → other < suc v.splits
   below_new other has =

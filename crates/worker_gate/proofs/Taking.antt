@@ -6,6 +6,7 @@ use Rattle.std.specs.declared.boxed.Box.{Box}
 use mathlib.Core.Option.{none, some}
 use mathlib.Core.Option as optional
 use prog.Atomic.{either}
+use Rattle.plain_laws.proofs.Places.{at_inside}
 use Rattle.atomic_table.proofs.Lists.{exchanged}
 use lib.ListN.{get_elem?}
 use Rattle.atomic_table.specs.Table.{Act, Allows, Me, State, Valid, carried_after, homes_after, step}
@@ -16,7 +17,7 @@ use Rattle.worker_gate.specs.Hall.{HallRule, IsAt, IsNamed, IsSeat, sum_of}
 use Rattle.worker_gate.specs.Laws.{SameSumsContinue}
 use Rattle.worker_gate.specs.Steps.{IsFound, Seen, Slot, TakesTurn, refused_by, with_others}
 use Rattle.worker_gate.proofs.Numbers.{first_place, is_first, is_seat, now_at, numbered_kept, other_at, same_mark_kept, someone_at}
-use Rattle.worker_gate.proofs.Places.{at_inside, some_is_not_none}
+use Rattle.worker_gate.proofs.Places.{some_is_not_none}
 use Rattle.worker_gate.proofs.Sums.{drained_first, others_of, sum_apart, sum_same}
 
 some_injective : {X : Type 0} {x y : X} → Some x ≡ Some y → x ≡ y

@@ -9,7 +9,9 @@ ghost use Rattle.logic_sim.specs.Wiring.{fan_in_of, readers_of, signal_at};
 use super::Circuit;
 use super::threats::none_is_before;
 use crate::cells::Cells;
-use crate::event::{CHANGE, EVAL, change_start, eval_start, push_change, tick_start};
+use crate::event::{
+    CHANGE, EVAL, MOST_BESIDE_NAME, change_start, eval_start, push_change, tick_start,
+};
 use crate::gate::computed_value;
 use crate::horizon::Horizon;
 use app_laws::{App, Child, ChildList, Effect, SetAnswer};
@@ -212,11 +214,14 @@ impl Circuit {
         ensures text { IfOk result (λ made. made.1 ≡ change_text self.now.deck time signal value) }
     {
         let children = self.evaluations(time, signal)?;
-        let mut text = Text::new(self.alloc);
-        if self.is_output[signal as usize] {
-            let name = self.deck.signals.items()[signal as usize].name.bytes();
-            push_change(&mut text, time, name, value)?;
+        if !self.is_output[signal as usize] {
+            return Ok((children, Text::new(self.alloc)));
         }
+        let name = self.deck.signals.items()[signal as usize].name.bytes();
+        // Room for the whole line at once: it would grow three times.
+        let room = name.len().saturating_add(MOST_BESIDE_NAME);
+        let mut text = Text::from_vec(Vec::with_capacity(self.alloc, room)?);
+        push_change(&mut text, time, name, value)?;
         Ok((children, text))
     }
 

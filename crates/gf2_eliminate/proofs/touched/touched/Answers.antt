@@ -2,6 +2,7 @@ use Rattle.std.specs.Prelude.{◌≡◌, ◌+◌, ◌-◌, ◌≤◌, ◌++◌, 
 use Rattle.std.specs.List.{AllByRecursion}
 use Rattle.std.proofs.Common.{arith, sym, ap, ◌∙◌, subst, append-nil, get_or}
 use Rattle.std.proofs.lemmas.List.{take_all}
+use Rattle.plain_laws.proofs.Lists.{All-get_or}
 use Rattle.rw_sets.specs.Accesses.{Accesses}
 use Rattle.rw_sets.specs.declared.access.Access.TheVariants.{Write}
 use Rattle.mtx_reader.specs.Ascending.{numbers_from}
@@ -11,7 +12,6 @@ use Rattle.gf2_eliminate.specs.Membership.{listed_list}
 use Rattle.gf2_eliminate.specs.Plans.{locations, locations_behind}
 use Rattle.gf2_eliminate.specs.Touched.{is_marked}
 use Rattle.gf2_eliminate.proofs.Finding.{pairs_more, behind_listed}
-use Rattle.gf2_eliminate.proofs.FirstCells.{all_index}
 use Rattle.gf2_eliminate.proofs.touched.touched.Goals as goal
 
 pub loop-other-init : goal.loop-other-init
@@ -30,7 +30,7 @@ overflow_sub-other c =
     let test = is_marked c.args.store.now c.args.column c.args.rows.now in
     let others = c.deref-other-items.result.now in
     let found : others ≡ listed c.args.size.1 test = c.deref-other-items.ensures.value ∙ c.in_ok-others.ensures ∙ c.in_ok-found.ensures c.args.size.1 c.requires.column c.requires.columns in
-    (all_index (λ (n : ℕ). (1 ≤ n) × (n ≤ c.args.size.1)) others c.loop-other.other-index 0 c.loop-other-test.true
+    (All-get_or (λ (n : ℕ). (1 ≤ n) × (n ≤ c.args.size.1)) others c.loop-other.other-index 0 c.loop-other-test.true
     (subst (AllByRecursion (λ (n : ℕ). (1 ≤ n) × (n ≤ c.args.size.1))) (sym found) (listed_list c.args.size.1 test).within)).0
 
 pub overflow_add-size : goal.overflow_add-size
@@ -38,7 +38,7 @@ overflow_add-size c =
     let test = is_marked c.args.store.now c.args.column c.args.rows.now in
     let others = c.deref-other-items.result.now in
     let found : others ≡ listed c.args.size.1 test = c.deref-other-items.ensures.value ∙ c.in_ok-others.ensures ∙ c.in_ok-found.ensures c.args.size.1 c.requires.column c.requires.columns in
-    let within = all_index (λ (n : ℕ). (1 ≤ n) × (n ≤ c.args.size.1)) others c.loop-other.other-index 0 c.loop-other-test.true
+    let within = All-get_or (λ (n : ℕ). (1 ≤ n) × (n ≤ c.args.size.1)) others c.loop-other.other-index 0 c.loop-other-test.true
     (subst (AllByRecursion (λ (n : ℕ). (1 ≤ n) × (n ≤ c.args.size.1))) (sym found) (listed_list c.args.size.1 test).within) in
     omega (arith, within.0, within.1, c.requires.few)
 

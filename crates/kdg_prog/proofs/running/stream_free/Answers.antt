@@ -1,11 +1,12 @@
 use Rattle.std.proofs.Common.{ℕ, refl, subst}
+use Rattle.std.proofs.KnownBytes.{Appends-nil}
 use Rattle.app_laws.specs.Execution.{after_steps, start_of}
 use Rattle.app_laws.specs.Order.{IsOrderly}
 use Rattle.outer_edge.specs.Transfers.{transfer_of}
 use Rattle.free_pool.specs.Streams.{IsFlow}
 use Rattle.source_pool.specs.Streams.{IsFitFlow}
 use Rattle.kdg_prog.specs.Problem.{problem_of}
-use Rattle.kdg_prog.proofs.Serving.{run_unwritten, stays}
+use Rattle.kdg_prog.proofs.Serving.{run_unwritten}
 use Rattle.kdg_prog.proofs.Streaming.{home_in_free, streamed_free}
 use Rattle.kdg_prog.proofs.running.stream_free.Goals as goal
 
@@ -14,7 +15,7 @@ returns-in_err-engine-clause-served g c =
     let app = c.args.app.now in
     let sink = transfer_of g.K.Sink.contents g.K.Sink.faults c.args.sink.now c.args.sink.now in
     run_unwritten c.args.options.now (problem_of (g.A.App.meaning app) (g.A.Runnable.setting app)) sink c.in_err-engine.field-0.0 c.from_residual.result c.from_residual.ensures.1
-    c.in_err-engine.ensures.refusal c.in_err-engine.ensures.at_start (stays sink.before) refl
+    c.in_err-engine.ensures.refusal c.in_err-engine.ensures.at_start (Appends-nil sink.before) refl
 
 pub end_stream-requires-clause-home : goal.end_stream-requires-clause-home
 end_stream-requires-clause-home g c κs within =

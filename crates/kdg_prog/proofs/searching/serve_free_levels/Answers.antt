@@ -1,4 +1,5 @@
 use Rattle.std.proofs.Common.{ap, refl, rules, subst, sym}
+use Rattle.std.proofs.KnownBytes.{Appends-nil}
 use Rattle.task_order.specs.declared.task.Task.{Task}
 use Rattle.hook_app.specs.Kept.{IsAnswered, IsAsked}
 use Rattle.level_walk.specs.Levels.{vertex_sets, walking}
@@ -9,7 +10,7 @@ use Rattle.kdg_prog.specs.Answer.{graph_problem, search_problem}
 use Rattle.outer_edge.specs.Transfers.{transfer_of}
 use Rattle.kdg_prog.specs.Searches.{AnswersLevels}
 use Rattle.kdg_prog.proofs.Searched.{answers_levels, ok_of}
-use Rattle.kdg_prog.proofs.Serving.{served_when_read, stays, unwritten_for}
+use Rattle.kdg_prog.proofs.Serving.{served_when_read, unwritten_for}
 use Rattle.kdg_prog.proofs.searching.serve_free_levels.Goals as goal
 
 pub serve_free_levels_by-requires-clause-does : goal.serve_free_levels_by-requires-clause-does
@@ -32,7 +33,7 @@ pub returns-in_err-walk-clause-served : goal.returns-in_err-walk-clause-served
 returns-in_err-walk-clause-served g c =
     let sink = transfer_of g.K.Sink.contents g.K.Sink.faults c.args.sink.now c.args.sink.now in
     let refused = c.in_err-walk in
-    unwritten_for Levels c.args.options.now c.args.input sink refused.field-0.0 c.from_residual.result c.from_residual.ensures.1 refused.ensures.refusal refused.ensures.before_start (stays sink.before) refl
+    unwritten_for Levels c.args.options.now c.args.input sink refused.field-0.0 c.from_residual.result c.from_residual.ensures.1 refused.ensures.refusal refused.ensures.before_start (Appends-nil sink.before) refl
 
 pub returns-clause-served : goal.returns-clause-served
 returns-clause-served g c =

@@ -1,7 +1,7 @@
+use Rattle.std.proofs.KnownBytes.{Appends-nil}
 use Rattle.outer_edge.specs.Transfers.{transfer_of}
 use Rattle.kdg_prog.proofs.Promising.{when_served, when_unread}
 use Rattle.kdg_prog.proofs.Searched.{levels_when_served, unread_not_ok}
-use Rattle.kdg_prog.proofs.Serving.{stays}
 use Rattle.kdg_prog.proofs.whole_run.run_asked.Goals as goal
 use Rattle.std.proofs.Common.{refl}
 
@@ -15,7 +15,7 @@ pub returns-in-Err-clause-promises : goal.returns-in-Err-clause-promises
 returns-in-Err-clause-promises g c =
     let source = transfer_of g.S.Source.remaining g.S.Source.faults c.args.source.now c.read_input.new.source in
     let sink = transfer_of g.K.Sink.contents g.K.Sink.faults c.args.sink.now c.args.sink.now in
-    when_unread c.args.options.now source sink c.in-Err.fault c.from.result c.in-Err.ensures.taken c.from.ensures (stays sink.before) refl
+    when_unread c.args.options.now source sink c.in-Err.fault c.from.result c.in-Err.ensures.taken c.from.ensures (Appends-nil sink.before) refl
 
 pub returns-in-Ok-clause-levels : goal.returns-in-Ok-clause-levels
 returns-in-Ok-clause-levels g c = λ command ok.

@@ -1,8 +1,9 @@
 use Rattle.std.proofs.Common.{refl, subst, sym}
+use Rattle.std.proofs.KnownBytes.{Appends-nil}
 use Rattle.outer_edge.specs.Transfers.{transfer_of}
 use Rattle.kdg_prog.specs.declared.words.Command.TheVariants.{Mesh, Rank, Sim}
 use Rattle.kdg_prog.specs.Serving.{IsServedFor}
-use Rattle.kdg_prog.proofs.Serving.{input_unwritten, served_of_circuit, served_of_matrix, served_of_mesh, stays}
+use Rattle.kdg_prog.proofs.Serving.{input_unwritten, served_of_circuit, served_of_matrix, served_of_mesh}
 use Rattle.kdg_prog.proofs.whole_run.serve_free.Goals as goal
 
 pub returns-in_ok-circuit-in-Sim-clause-served : goal.returns-in_ok-circuit-in-Sim-clause-served
@@ -30,16 +31,16 @@ pub returns-in_err-circuit-in-Sim-clause-served : goal.returns-in_err-circuit-in
 returns-in_err-circuit-in-Sim-clause-served g c =
     let sink = transfer_of g.K.Sink.contents g.K.Sink.faults c.args.sink.now c.args.sink.now in
     let refused = c.in_err-circuit-in-Sim in
-    input_unwritten Sim c.args.options.now c.args.input sink refused.field-0.0 c.from_residual.result c.in-Sim.is c.from_residual.ensures.1 refused.ensures.refusal refused.ensures.before_start (stays sink.before) refl
+    input_unwritten Sim c.args.options.now c.args.input sink refused.field-0.0 c.from_residual.result c.in-Sim.is c.from_residual.ensures.1 refused.ensures.refusal refused.ensures.before_start (Appends-nil sink.before) refl
 
 pub returns-in_err-matrix-in-Rank-clause-served : goal.returns-in_err-matrix-in-Rank-clause-served
 returns-in_err-matrix-in-Rank-clause-served g c =
     let sink = transfer_of g.K.Sink.contents g.K.Sink.faults c.args.sink.now c.args.sink.now in
     let refused = c.in_err-matrix-in-Rank in
-    input_unwritten Rank c.args.options.now c.args.input sink refused.field-0.0 c.from_residual-in_err-matrix-in-Rank.result c.in-Rank.is c.from_residual-in_err-matrix-in-Rank.ensures.1 refused.ensures.refusal refused.ensures.before_start (stays sink.before) refl
+    input_unwritten Rank c.args.options.now c.args.input sink refused.field-0.0 c.from_residual-in_err-matrix-in-Rank.result c.in-Rank.is c.from_residual-in_err-matrix-in-Rank.ensures.1 refused.ensures.refusal refused.ensures.before_start (Appends-nil sink.before) refl
 
 pub returns-in_err-mesh-in-Mesh-clause-served : goal.returns-in_err-mesh-in-Mesh-clause-served
 returns-in_err-mesh-in-Mesh-clause-served g c =
     let sink = transfer_of g.K.Sink.contents g.K.Sink.faults c.args.sink.now c.args.sink.now in
     let refused = c.in_err-mesh-in-Mesh in
-    input_unwritten Mesh c.args.options.now c.args.input sink refused.field-0.0 c.from_residual-in_err-mesh-in-Mesh.result c.in-Mesh.is c.from_residual-in_err-mesh-in-Mesh.ensures.1 refused.ensures.refusal refused.ensures.before_start (stays sink.before) refl
+    input_unwritten Mesh c.args.options.now c.args.input sink refused.field-0.0 c.from_residual-in_err-mesh-in-Mesh.result c.in-Mesh.is c.from_residual-in_err-mesh-in-Mesh.ensures.1 refused.ensures.refusal refused.ensures.before_start (Appends-nil sink.before) refl
