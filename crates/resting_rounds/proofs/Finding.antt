@@ -1,8 +1,10 @@
 -- What a look finds with one task more.
-use Rattle.std.proofs.Common.{◌≡◌, ◌+◌, ℕ, Bool, true, false, not, ◌||◌, List, [], ◌∷◌, ◌++◌, take, Option, Some, None, cond, refl, sym, ap, subst, ◌∙◌}
+use Rattle.std.proofs.Common.{◌≡◌, ◌+◌, ℕ, Bool, true, false, not, ◌||◌, List, [], ◌∷◌, ◌++◌, take, Option, Some, None, cond, refl, sym, ap, subst, ◌∙◌, append-nil}
 use Rattle.std.specs.Prelude.{slice_get, IfSome, IfNone}
 use Rattle.std.specs.List.{AllByRecursion, filter}
+use Rattle.std.proofs.lemmas.List.Elements.{filter-append}
 use Rattle.std.proofs.lemmas.List.Folds.{list_any-append}
+use Rattle.plain_laws.proofs.Lists.{All-push}
 use Rattle.task_order.specs.declared.task.Task.{Task}
 use Rattle.task_order.specs.TaskList.{tasks_before}
 use Rattle.rw_sets.specs.Accesses.{writes}
@@ -19,33 +21,17 @@ use Rattle.resting_rounds.proofs.Meetings.{apart_is_clear, meets_is_not_clear}
 
 -- ---- lists with one item more
 
-by_first : {X : Type 0} (here : Bool) (x : X) (some all more : List X) → some ++ all ≡ more → cond here (x ∷ some) some ++ all ≡ cond here (x ∷ more) more
-by_first true x some all more is = ap (λ rest. x ∷ rest) is
-by_first false x some all more is = is
-
-filter_end : {X : Type 0} (test : X → Bool) (xs : List X) (x : X) → filter test xs ++ cond (test x) (x ∷ []) [] ≡ filter test (xs ++ x ∷ [])
-filter_end test [] x = refl
-filter_end test (y ∷ xs) x = by_first (test y) y (filter test xs) (cond (test x) (x ∷ []) []) (filter test (xs ++ x ∷ [])) (filter_end test xs x)
-
 pub one_passes : {X : Type 0} (test : X → Bool) (made xs : List X) (x : X) → made ≡ filter test xs → test x ≡ true → made ++ x ∷ [] ≡ filter test (xs ++ x ∷ [])
 one_passes {X} test made xs x is passes =
-    ap (λ (all : List X). all ++ x ∷ []) is ∙ ap (λ (b : Bool). filter test xs ++ cond b (x ∷ []) []) (sym passes) ∙ filter_end test xs x
-
-nothing_more : {X : Type 0} (xs : List X) → xs ≡ xs ++ []
-nothing_more [] = refl
-nothing_more (x ∷ xs) = ap (λ rest. x ∷ rest) (nothing_more xs)
+    ap (λ (all : List X). all ++ x ∷ []) is ∙ ap (λ (b : Bool). filter test xs ++ cond b (x ∷ []) []) (sym passes) ∙ sym (filter-append test xs (x ∷ []))
 
 pub one_fails : {X : Type 0} (test : X → Bool) (made xs : List X) (x : X) → made ≡ filter test xs → test x ≡ false → made ≡ filter test (xs ++ x ∷ [])
 one_fails {X} test made xs x is fails =
-    is ∙ nothing_more (filter test xs) ∙ ap (λ (b : Bool). filter test xs ++ cond b (x ∷ []) []) (sym fails) ∙ filter_end test xs x
+    is ∙ sym (append-nil (filter test xs)) ∙ ap (λ (b : Bool). filter test xs ++ cond b (x ∷ []) []) (sym fails) ∙ sym (filter-append test xs (x ∷ []))
 
 pub tasks_more : (waiting : List Waiting) (one : Waiting) → tasks_of (waiting ++ one ∷ []) ≡ tasks_of waiting ++ one.task.now ∷ []
 tasks_more [] one = refl
 tasks_more (first ∷ waiting) one = ap (λ (rest : List Task). first.task.now ∷ rest) (tasks_more waiting one)
-
-pub all_more : {X : Type 0} (P : X → Type 0) (xs : List X) (x : X) → AllByRecursion P xs → P x → AllByRecursion P (xs ++ x ∷ [])
-all_more P [] x all here = (here, tt)
-all_more P (y ∷ xs) x all here = (all.0, all_more P xs x all.1 here)
 
 module _ {V : Type 0} (app : Application V) where
   -- the sets of one task more
@@ -114,7 +100,7 @@ module _ {V : Type 0} (app : Application V) where
         ∙ ap (blocked app state) (sym one_more)
 
     pub resting_more : (later now : List Waiting) (one : Waiting) → AllByRecursion (Rests app state) later → now ≡ later ++ one ∷ [] → Rests app state one → AllByRecursion (Rests app state) now
-    resting_more later now one all more rests = subst (AllByRecursion (Rests app state)) (sym more) (all_more (Rests app state) later one all rests)
+    resting_more later now one all more rests = subst (AllByRecursion (Rests app state)) (sym more) (All-push (Rests app state) later one all rests)
 
     -- a clear one is one of those that act
     pub clear_more : (clear now : List Task) (copy : Task) → clear ≡ filter (is_clear app state) (take place state.pending) → now ≡ clear ++ copy ∷ [] → copy ≡ task → is_clear app state task ≡ true
@@ -133,9 +119,6 @@ module _ {V : Type 0} (app : Application V) where
 
 pub same_there : {X : Type 0} (xs : List X) (place : ℕ) (x y : X) → slice_get xs place ≡ Some x → slice_get xs place ≡ Some y → x ≡ y
 same_there xs place x y one other = cc
-
-pub where_some : (met : Option ℕ) (loc : ℕ) (P : ℕ → Type 0) → met ≡ Some loc → IfSome met P → P loc
-where_some met loc P is holds = subst (λ (m : Option ℕ). IfSome m P) is holds
 
 pub where_nothing : (met : Option ℕ) (P : Type 0) → met ≡ None → IfNone met P → P
 where_nothing met P is holds = subst (λ (m : Option ℕ). IfNone m P) is holds

@@ -1,11 +1,13 @@
 -- What is gathered of the first of several tasks.
-use Rattle.std.proofs.Common.{◌≡◌, ◌≤◌, ◌<◌, ◌+◌, ℕ, zero, suc, Bool, true, false, ◌||◌, List, [], ◌∷◌, ◌++◌, length, take, get_or, Some, cond, refl, ap, subst, ◌∙◌, add-one, arith}
+use Rattle.std.proofs.Common.{◌≡◌, ◌≤◌, ◌+◌, ℕ, zero, suc, Bool, true, false, ◌||◌, List, [], ◌∷◌, ◌++◌, take, Some, cond, refl, ap, subst, ◌∙◌, add-one, arith}
 use Rattle.std.specs.Prelude.{slice_get}
 use Rattle.std.specs.List.{AllByRecursion, list_any}
 use Rattle.std.specs.Ordering.{is_lt}
 use Rattle.std.specs.declared.cmp.Ordering.TheVariants.{Less}
 use Rattle.std.proofs.lemmas.Bool.{false≢true}
 use Rattle.std.proofs.lemmas.List.Folds.{list_any-append}
+use Rattle.std.proofs.lemmas.Option.{get_or_from_slice_get, slice_get_within}
+use Rattle.plain_laws.proofs.Lists.{All-get_or}
 use Rattle.task_order.specs.declared.key.Key.{Key}
 use Rattle.task_order.specs.declared.task.Task.{Task}
 use Rattle.task_order.specs.Key.{key_cmp}
@@ -15,25 +17,7 @@ use Rattle.task_order.specs.TaskList.{IsAscending, is_earlier, tasks_before}
 -- ---- one place of a list
 
 pub holds_there : {X : Type 0} (P : X → Type 0) (xs : List X) (place : ℕ) (x : X) → AllByRecursion P xs → slice_get xs place ≡ Some x → P x
-holds_there P [] place x all at = absurd cc
-holds_there P (first ∷ xs) zero x all at = let same : first ≡ x = cc in subst P same all.0
-holds_there P (first ∷ xs) (suc place) x all at = holds_there P xs place x all.1 at
-
--- what holds for all holds for the first ones
-pub first_hold : {X : Type 0} (P : X → Type 0) (xs : List X) (count : ℕ) → AllByRecursion P xs → AllByRecursion P (take count xs)
-first_hold P xs zero all = tt
-first_hold P [] (suc count) all = tt
-first_hold P (first ∷ xs) (suc count) all = (all.0, first_hold P xs count all.1)
-
-pub within : {X : Type 0} (xs : List X) (place : ℕ) (x : X) → slice_get xs place ≡ Some x → place < length xs
-within [] place x at = absurd cc
-within (first ∷ xs) zero x at = omega arith
-within (first ∷ xs) (suc place) x at = let below : place < length xs = within xs place x at in omega (arith, below)
-
-pub got : {X : Type 0} (xs : List X) (place : ℕ) (x : X) → place < length xs → slice_get xs place ≡ Some (get_or xs place x)
-got [] place x within = absurd (omega (arith, within))
-got (first ∷ xs) zero x within = refl
-got (first ∷ xs) (suc place) x within = got xs place x (omega (arith, within))
+holds_there P xs place x all at = subst P (get_or_from_slice_get xs place x x at) (All-get_or P xs place x (slice_get_within xs place x at) all)
 
 taken : {X : Type 0} (xs : List X) (place : ℕ) (x : X) → slice_get xs place ≡ Some x → take (suc place) xs ≡ take place xs ++ x ∷ []
 taken [] place x at = absurd cc

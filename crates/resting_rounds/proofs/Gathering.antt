@@ -1,7 +1,8 @@
 -- What is gathered with one task more, and what it tells of a task's set.
 use Rattle.std.proofs.Common.{◌≡◌, ◌<◌, ◌+◌, ℕ, zero, suc, Bool, true, false, ◌&&◌, ◌||◌, List, [], ◌∷◌, length, take, get_or, Option, Some, None, is_some, IsTrue, refl, sym, ap, subst, ◌∙◌, arith}
 use Rattle.std.specs.Prelude.{◌==◌, slice_get, IfSome, IfNone}
-use Rattle.std.proofs.lemmas.Bool.{eqb-true, false≢true, true≢false}
+use Rattle.std.proofs.lemmas.Bool.{and_parts, eqb-true, false≢true, true≢false}
+use Rattle.plain_laws.proofs.Bools.{or_true}
 use Rattle.task_order.specs.declared.task.Task.{Task}
 use Rattle.rw_sets.specs.Accesses.{writes}
 use Rattle.app_laws.specs.Applications.{Application, set_in}
@@ -30,14 +31,6 @@ where_none (Some loc) P none holds = absurd (true≢false none)
 pub not_none : (met : Option ℕ) → is_some met ≡ true → met ≡ None → ⊥
 not_none None some none = false≢true some
 not_none (Some loc) some none = absurd cc
-
-both_hold : (a b : Bool) → (a && b) ≡ true → (a ≡ true) × (b ≡ true)
-both_hold true b both = (refl, both)
-both_hold false b both = absurd (false≢true both)
-
-or_true : (a : Bool) → (a || true) ≡ true
-or_true true = refl
-or_true false = refl
 
 module _ {V C : Type 0} (app : Application V) (covers : C → ℕ → Bool) (tasks : List Task) (place : ℕ) where
   -- one core more
@@ -79,7 +72,7 @@ module _ {V C : Type 0} (app : Application V) (covers : C → ℕ → Bool) (tas
   own_tells cells reach own task None has is some none all = λ loc own_has.
       subst (λ (n : ℕ). any_has app cells (take n tasks) loc ≡ false) (all refl) (sym (has.sets loc) ∙ none loc (is loc ∙ own_has))
   own_tells cells reach own task (Some loc) has is some none all =
-      let both = both_hold (covers own loc) (covers reach.cover loc) some in
+      let both = and_parts (covers own loc) (covers reach.cover loc) some in
       record {
         own = sym (is loc) ∙ both.0;
         others_too = more_have (λ next. writes (set_in app cells next) loc) tasks reach.count place has.behind (sym (has.sets loc) ∙ both.1);

@@ -1,12 +1,14 @@
 -- A task is clear just where it meets no earlier one.
 use Rattle.std.proofs.Common.{◌≡◌, ◌<◌, ℕ, Bool, true, false, not, ◌&&◌, ◌||◌, List, [], ◌∷◌, Option, Some, None, IsSome, IsTrue, refl, sym, ap, ◌∙◌}
-use Rattle.std.specs.List.{AllByRecursion, filter, list_any}
-use Rattle.std.proofs.lemmas.Bool.{false≢true, true≢false, cond_both}
+use Rattle.std.specs.List.{list_any}
+use Rattle.std.proofs.lemmas.Bool.{false≢true, or_parts}
+use Rattle.plain_laws.proofs.Lists.{All-filter}
 use Rattle.task_order.specs.declared.task.Task.{Task}
 use Rattle.task_order.specs.TaskList.{tasks_before}
 use Rattle.rw_sets.specs.declared.access.Access.{Access}
 use Rattle.rw_sets.specs.declared.access.Access.TheVariants.{Read, Write}
 use Rattle.rw_sets.specs.Accesses.{access_at, allows_write, clash, conflicts_with, writes}
+use Rattle.cell_store.proofs.Locations.{has_from_writes}
 use Rattle.app_laws.specs.Applications.{Application, AreFitTasks, IsFitTask, set_in}
 use Rattle.commuting.specs.Clear.{IsReady}
 use Rattle.commuting.specs.Rounds.{is_clear}
@@ -14,15 +16,6 @@ use Rattle.commuting.specs.States.{State}
 use Rattle.resting_rounds.specs.Basis.{Basis}
 use Rattle.resting_rounds.specs.Sets.{AreApart, any_has}
 use Rattle.resting_rounds.specs.Waiting.{MeetsEarlierAt}
-
-pub all_kept : {X : Type 0} (P : X → Type 0) (test : X → Bool) (xs : List X) → AllByRecursion P xs → AllByRecursion P (filter test xs)
-all_kept P test [] all = tt
-all_kept P test (x ∷ xs) all =
-    cond_both (test x) (x ∷ filter test xs) (filter test xs) (AllByRecursion P) (λ kept. (all.0, all_kept P test xs all.1)) (λ dropped. all_kept P test xs all.1)
-
-pub neither : (a b : Bool) → (a || b) ≡ false → (a ≡ false) × (b ≡ false)
-neither true b none = absurd (true≢false none)
-neither false b none = (refl, none)
 
 -- two writes exclude one another
 both_clash : (x y : Option Access) → IsTrue (allows_write x) → IsTrue (allows_write y) → IsTrue (clash x y)
@@ -36,10 +29,6 @@ both_named None y both = absurd (false≢true both)
 both_named (Some x) None both = absurd (false≢true both)
 both_named (Some x) (Some y) both = (refl, refl)
 
-written_named : (access : Option Access) → IsTrue (allows_write access) → IsSome access
-written_named None nothing = absurd (false≢true nothing)
-written_named (Some access) something = refl
-
 -- where one of two tests passes, so does one of those that follow from them
 some_of : (one two first second : Bool) → (one || two) ≡ true → (one ≡ true → first ≡ true) → (two ≡ true → second ≡ true) → (first || second) ≡ true
 some_of true two first second some here later = ap (λ (b : Bool). b || second) (here refl)
@@ -49,7 +38,7 @@ some_of false two false second some here later = later some
 module _ {V : Type 0} (app : Application V) (basis : Basis app) where
   -- a set has locations of the application
   pub in_range : (cells : List V) → app.is_fit_cells cells → (task : Task) → IsFitTask app task → (loc : ℕ) → IsTrue (writes (set_in app cells task) loc) → loc < app.count
-  in_range cells fit task fit_task loc own = (basis.lawful.sets_are_in_range task cells fit fit_task).below loc (written_named (access_at (set_in app cells task) loc) own)
+  in_range cells fit task fit_task loc own = (basis.lawful.sets_are_in_range task cells fit fit_task).below loc (has_from_writes (set_in app cells task) loc own)
 
   meets_one : (cells : List V) (task other : Task) (loc : ℕ) → IsTrue (writes (set_in app cells task) loc) → IsTrue (writes (set_in app cells other) loc)
       → conflicts_with (set_in app cells other) (set_in app cells task) ≡ true
@@ -81,14 +70,14 @@ module _ {V : Type 0} (app : Application V) (basis : Basis app) where
       → list_any (λ other. conflicts_with (set_in app cells other) (set_in app cells task)) others ≡ false
   apart_all cells task [] fit fit_task all apart = refl
   apart_all cells task (other ∷ others) fit fit_task all apart =
-      let both = λ (loc : ℕ) (own : IsTrue (writes (set_in app cells task) loc)). neither (writes (set_in app cells other) loc) (any_has app cells others loc) (apart loc own) in
+      let both = λ (loc : ℕ) (own : IsTrue (writes (set_in app cells task) loc)). or_parts (writes (set_in app cells other) loc) (any_has app cells others loc) (apart loc own) in
       let here = apart_one cells task other fit fit_task all.0 (λ loc own. (both loc own).0) in
       let later = apart_all cells task others fit fit_task all.1 (λ loc own. (both loc own).1) in
       ap (λ (b : Bool). b || list_any (λ next. conflicts_with (set_in app cells next) (set_in app cells task)) others) here ∙ later
 
   module _ (state : State V) (ready : IsReady app state) (task : Task) (fit : IsFitTask app task) where
     safe : app.is_safe task (tasks_before task.key state.pending) ≡ true
-    safe = basis.resting.safe task (tasks_before task.key state.pending) fit (all_kept (IsFitTask app) _ state.pending ready.tasks)
+    safe = basis.resting.safe task (tasks_before task.key state.pending) fit (All-filter (IsFitTask app) _ state.pending ready.tasks)
 
     -- a task that meets an earlier one is not clear
     pub meets_is_not_clear : (loc : ℕ) → MeetsEarlierAt app state task loc → is_clear app state task ≡ false
@@ -99,5 +88,5 @@ module _ {V : Type 0} (app : Application V) (basis : Basis app) where
     pub apart_is_clear : AreApart app (any_has app state.cells (tasks_before task.key state.pending)) state.cells task → is_clear app state task ≡ true
     apart_is_clear apart =
         ap (λ (b : Bool). not b && app.is_safe task (tasks_before task.key state.pending))
-        (apart_all state.cells task (tasks_before task.key state.pending) ready.cells fit (all_kept (IsFitTask app) _ state.pending ready.tasks) apart)
+        (apart_all state.cells task (tasks_before task.key state.pending) ready.cells fit (All-filter (IsFitTask app) _ state.pending ready.tasks) apart)
         ∙ safe

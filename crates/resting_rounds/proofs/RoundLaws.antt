@@ -4,6 +4,8 @@ use Rattle.std.specs.Prelude.{IsSomeAnd}
 use Rattle.std.specs.List.{AllByRecursion, filter, list_any}
 use Rattle.std.specs.Ordering.{is_eq}
 use Rattle.std.specs.declared.cmp.Ordering.TheVariants.{Less}
+use Rattle.std.proofs.lemmas.Bool.{or_parts}
+use Rattle.plain_laws.proofs.Lists.{All-filter, All-weaker}
 use Rattle.task_order.specs.declared.start.Start.{Start}
 use Rattle.task_order.specs.declared.task.Task.{Task}
 use Rattle.task_order.specs.Key.{key_cmp}
@@ -22,7 +24,7 @@ use Rattle.resting_rounds.specs.Basis.{Basis}
 use Rattle.resting_rounds.specs.Found.{IsFound}
 use Rattle.resting_rounds.specs.Sets.{any_has}
 use Rattle.resting_rounds.specs.Waiting.{AreWaiting, MayRest, MeetsEarlierAt, Rests, blocked, state_in, tasks_of}
-use Rattle.resting_rounds.proofs.Meetings.{all_kept, in_range, neither}
+use Rattle.resting_rounds.proofs.Meetings.{in_range}
 
 -- ---- lists of tasks from which some are taken out
 
@@ -36,10 +38,6 @@ stays task [] pending all = refl
 stays task (other ∷ tasks) pending all =
     ap (λ (b : Bool). all_without tasks (cond (not b) (task ∷ without other.key pending) (without other.key pending))) all.0
     ∙ stays task tasks (without other.key pending) all.1
-
-all_along : {X : Type 0} (P Q : X → Type 0) → ((x : X) → P x → Q x) → (xs : List X) → AllByRecursion P xs → AllByRecursion Q xs
-all_along P Q gives [] all = tt
-all_along P Q gives (x ∷ xs) all = (gives x all.0, all_along P Q gives xs all.1)
 
 -- the tasks that don't pass
 abbrev others : (Task → Bool) → List Task → List Task
@@ -64,7 +62,7 @@ module _ (test earlier counts : Task → Bool) where
           → (list_any counts (filter test tasks) ≡ false → list_any counts (filter earlier (others test tasks)) ≡ list_any counts (filter earlier tasks))
           → list_any counts (filter earlier (cond (not passes) (task ∷ others test tasks) (others test tasks))) ≡ list_any counts (cond (earlier task) (task ∷ filter earlier tasks) (filter earlier tasks))
       by_test true none_passes again =
-          let both = neither (counts task) (list_any counts (filter test tasks)) none_passes in
+          let both = or_parts (counts task) (list_any counts (filter test tasks)) none_passes in
           again both.1 ∙ uncounted task (filter earlier tasks) (earlier task) both.0
       by_test false none_passes again = same_behind task (filter earlier (others test tasks)) (filter earlier tasks) (earlier task) (again none_passes)
 
@@ -84,8 +82,8 @@ module _ {V : Type 0} (app : Application V) (basis : Basis app) where
       by_test true again = ap (all_without (filter test tasks)) (itself_gone task tasks ascending) ∙ again
       by_test false again =
           stays task (filter test tasks) tasks
-          (all_kept (λ (other : Task). has_key other.key task ≡ false) test tasks
-          (all_along (λ (other : Task). key_cmp task.key other.key ≡ Less) (λ (other : Task). has_key other.key task ≡ false) (λ other less. ap is_eq less) tasks ascending.0))
+          (All-filter (λ (other : Task). has_key other.key task ≡ false) test tasks
+          (All-weaker (λ (other : Task). key_cmp task.key other.key ≡ Less) (λ (other : Task). has_key other.key task ≡ false) (λ other less. ap is_eq less) tasks ascending.0))
           ∙ ap (λ (rest : List Task). task ∷ rest) again
 
   -- ---- what tasks without children leave
@@ -115,7 +113,7 @@ module _ {V : Type 0} (app : Application V) (basis : Basis app) where
   kept_outside loc (task ∷ tasks) pending cells fit all none other fit_other =
       let now = (app.act task cells).cells in
       let rest = put_all (children_from task.key 0 (app.act task cells).children) (without task.key pending) in
-      let both = neither (writes (set_in app cells task) loc) (any_has app cells tasks loc) none in
+      let both = or_parts (writes (set_in app cells task) loc) (any_has app cells tasks loc) none in
       let one = λ (next : Task) (fit_next : IsFitTask app next). basis.resting.rest_is_kept task next cells loc fit all.0 fit_next both.0 in
       kept_outside loc tasks rest now (basis.lawful.acts_are_fit task cells fit all.0).cells all.1 (same_has loc cells now tasks all.1 one ∙ both.1) other fit_other
       ∙ one other fit_other
@@ -124,7 +122,7 @@ module _ {V : Type 0} (app : Application V) (basis : Basis app) where
 
   module _ (state : State V) (ready : IsReady app state) where
     clear_fit : AreFitTasks app (clear_tasks app state)
-    clear_fit = all_kept (IsFitTask app) (is_clear app state) state.pending ready.tasks
+    clear_fit = All-filter (IsFitTask app) (is_clear app state) state.pending ready.tasks
 
     left_by_round : (after_round app state).pending ≡ blocked app state state.pending
     left_by_round =
@@ -138,7 +136,7 @@ module _ {V : Type 0} (app : Application V) (basis : Basis app) where
         let same = kept_outside loc (clear_tasks app state) state.pending state.cells ready.cells clear_fit none in
         let left = blocked app state state.pending in
         let before = tasks_before task.key left in
-        let before_fit : AreFitTasks app before = all_kept (IsFitTask app) (is_earlier task.key) left (all_kept (IsFitTask app) (λ next. not (is_clear app state next)) state.pending ready.tasks) in
+        let before_fit : AreFitTasks app before = All-filter (IsFitTask app) (is_earlier task.key) left (All-filter (IsFitTask app) (λ next. not (is_clear app state next)) state.pending ready.tasks) in
         record {
           own = same task fit ∙ meets.own;
           others_too =
@@ -168,7 +166,7 @@ module _ {V : Type 0} (app : Application V) (basis : Basis app) where
     go_on_waiting covers found is = record {
       tasks = is.later ∙ sym left_by_round;
       each = all_may_rest (covers found.acting) found.later.items
-          (subst (AreFitTasks app) (sym is.later) (all_kept (IsFitTask app) (λ next. not (is_clear app state next)) state.pending ready.tasks))
+          (subst (AreFitTasks app) (sym is.later) (All-filter (IsFitTask app) (λ next. not (is_clear app state next)) state.pending ready.tasks))
           (λ loc. is.acting loc ∙ ap (λ (tasks : List Task). any_has app state.cells tasks loc) is.clear)
           is.resting;
     }

@@ -1,10 +1,11 @@
 use Rattle.std.proofs.Common.{◌<◌, length, arith, subst, sym}
 use Rattle.std.specs.Prelude.{slice_index_or, take}
+use Rattle.task_order.proofs.Cuts.{All-take}
 use Rattle.cell_store.specs.Values.{values_of}
 use Rattle.app_laws.specs.Applications.{IsFitTask}
 use Rattle.resting_rounds.specs.Sets.{HasSet}
 use Rattle.resting_rounds.specs.Waiting.{tasks_of}
-use Rattle.resting_rounds.proofs.Gathered.{first_hold, holds_there}
+use Rattle.resting_rounds.proofs.Gathered.{holds_there}
 use Rattle.resting_rounds.proofs.Gathering.{not_none, one_set_more, own_tells, task_at}
 use Rattle.resting_rounds.proofs.front.meeting_of_own.Goals as goal
 
@@ -21,7 +22,7 @@ pub gather-requires-clause-others : goal.gather-requires-clause-others
 gather-requires-clause-others g c =
     let tasks = tasks_of c.args.waiting.now in
     let count = c.loop-met.front.sets.count in
-    (take count tasks, first_hold (IsFitTask (g.A.App.meaning c.args.app.now)) tasks count c.requires.fit, c.loop-met.invariant.front.sets.sets)
+    (take count tasks, All-take (IsFitTask (g.A.App.meaning c.args.app.now)) count tasks c.requires.fit, c.loop-met.invariant.front.sets.sets)
 
 pub loop-met-preserved : goal.loop-met-preserved
 loop-met-preserved g c =

@@ -1,8 +1,9 @@
 use Rattle.std.proofs.Common.{arith, sym, ◌∙◌}
+use Rattle.std.proofs.lemmas.Option.{slice_get_within}
 use Rattle.cell_store.specs.Values.{values_of}
 use Rattle.app_laws.specs.Applications.{IsFitTask}
 use Rattle.resting_rounds.specs.Waiting.{tasks_of}
-use Rattle.resting_rounds.proofs.Gathered.{holds_there, within}
+use Rattle.resting_rounds.proofs.Gathered.{holds_there}
 use Rattle.resting_rounds.proofs.Gathering.{as_many_tasks, cores_tell, gathered_tells}
 use Rattle.resting_rounds.proofs.front.quick_meeting.Goals as goal
 
@@ -14,7 +15,7 @@ returns-then-has-clause-met g c =
 
 pub gather_cores-requires-clause-within : goal.gather_cores-requires-clause-within
 gather_cores-requires-clause-within g c =
-    let below = within (tasks_of c.args.waiting.now) c.args.place c.args.task.now c.requires.there in
+    let below = slice_get_within (tasks_of c.args.waiting.now) c.args.place c.args.task.now c.requires.there in
     let many = as_many_tasks c.args.waiting.now in
     omega (arith, below, many)
 

@@ -1,11 +1,12 @@
 use Rattle.std.proofs.Common.{◌≡◌, Some, true, refl}
 use Rattle.std.specs.Prelude.{slice_index_or}
+use Rattle.plain_laws.proofs.Options.{if_some_at}
 use Rattle.cell_store.specs.Values.{values_of}
 use Rattle.commuting.specs.Rounds.{is_clear}
 use Rattle.resting_rounds.specs.declared.waiting.Waiting.{Waiting}
 use Rattle.resting_rounds.specs.Sets.{HasSet}
 use Rattle.resting_rounds.specs.Waiting.{MeetsEarlierAt, state_in}
-use Rattle.resting_rounds.proofs.Finding.{acting_more, clear_more, clear_same, later_more, later_same, resting_more, where_nothing, where_some}
+use Rattle.resting_rounds.proofs.Finding.{acting_more, clear_more, clear_same, later_more, later_same, resting_more, where_nothing}
 use Rattle.resting_rounds.proofs.Gathering.{task_at}
 use Rattle.resting_rounds.proofs.looking.look_at.Goals as goal
 
@@ -22,7 +23,7 @@ returns-in_ok-push-in-Some-clause-found g c =
     let there = task_at waiting place c.index-waiting-place.result c.requires.within in
     let loc = c.in-Some.loc in
     let one : Waiting = record { task = borrowed; watched = Some loc } in
-    let meets = where_some c.in_ok-loc.field-0 loc (MeetsEarlierAt app state task) c.in-Some.is (c.in_ok-loc.ensures.rests task there) in
+    let meets = if_some_at (MeetsEarlierAt app state task) c.in_ok-loc.field-0 loc c.in-Some.is (c.in_ok-loc.ensures.rests task there) in
     let later = c.args.found.now.later.items in
     record {
       clear = clear_same app basis state ready place task there c.args.found.now.clear.items loc c.requires.found.clear meets;
