@@ -8,6 +8,7 @@ use Rattle.cell_store.specs.Cells.{cell_at, part_of}
 use Rattle.cell_store.specs.Laws.{HomesByLocation}
 use Rattle.cell_store.specs.Part.{Part}
 use Rattle.cell_store.specs.Values.{homes}
+use Rattle.cell_store.proofs.Locations.{has_later}
 use Rattle.app_laws.specs.declared.app.Effect.{Effect}
 use Rattle.app_laws.specs.Applications.{Application, IsEffect, IsFitTask, IsTaken, effect_of}
 use Rattle.hook_app.specs.Deeds.{Deeds}
@@ -15,7 +16,7 @@ use Rattle.hook_app.specs.Hooked.{AreFitCells, Hooked, hooked, set_at, start_of_
 use Rattle.hook_app.specs.Kept.{IsAnswered, IsAsked, bundle_with, effect_with}
 use Rattle.hook_app.specs.Lawful.{deed_done, set_in_range, values_taken}
 use Rattle.hook_app.specs.Values.{KeepsRead, put_values, values_at}
-use Rattle.hook_app.specs.ValueLaws.{found, length-put_values, named_first, named_later, values_at-put_values, values_first}
+use Rattle.hook_app.specs.ValueLaws.{found, length-put_values, named_first, values_at-put_values, values_first}
 
 module _ {V : Type 0} where
   cells_at : (set : Accesses) (values : List V) → HomesByLocation V → IsInRange set (length values) → map (λ p. cell_at (homes values) p.0) set ≡ homes (values_at set values)
@@ -23,7 +24,7 @@ module _ {V : Type 0} where
   cells_at (p ∷ ps) values laws below =
       let here = found values p.0 (below p.0 (named_first p ps)) in
       let first : cell_at (homes values) p.0 ≡ Home here.0 = laws.each values p.0 ∙ ap (λ (value : Option V). unwrap_or (option_map Home value) Out) here.1 in
-      let rest = cells_at ps values laws (λ loc named. below loc (named_later p ps loc named)) in
+      let rest = cells_at ps values laws (λ loc named. below loc (has_later p ps loc named)) in
       (λ i. first i ∷ rest i) ∙ sym (ap homes (values_first p ps values here.0 here.1))
 
   -- the part that a set names is the bundle of its values

@@ -8,6 +8,7 @@ use Rattle.std.specs.declared.cmp.Ordering.TheVariants.{Less, Equal, Greater}
 use Rattle.std.proofs.lemmas.Bool.{cases_Bool, false≢true}
 use Rattle.std.proofs.lemmas.Bool.Decides.{nat_tests}
 use Rattle.std.proofs.lemmas.Option.{same_Some}
+use Rattle.plain_laws.proofs.Orderings.{less_from_test}
 use Rattle.task_order.specs.declared.key.Key.{Key}
 use Rattle.task_order.specs.declared.task.Task.{Task}
 use Rattle.task_order.specs.Key.{key_cmp, key_cmp_total}
@@ -15,18 +16,13 @@ use Rattle.task_order.specs.TaskList.{IsAscending, is_earlier, tasks_before}
 use Rattle.hook_app.specs.Hooked.{is_ahead}
 
 -- a key that is not later has no higher priority
-earlier_prio : (a b : Key) → is_lt (key_cmp a b) ≡ true → a.prio ≤ b.prio
+pub earlier_prio : (a b : Key) → is_lt (key_cmp a b) ≡ true → a.prio ≤ b.prio
 earlier_prio a b earlier = elim (cases_Bool (nat_le a.prio b.prio)) [
   | inl low ↦ grind (arith, nat_tests, low)
   | inr high ↦
       let later : nat_cmp a.prio b.prio ≡ Greater = grind (arith, nat_tests, high) in
       absurd (cc (rw later at earlier))
 ]
-
-is_less : (order : Ordering) → is_lt order ≡ true → order ≡ Less
-is_less Less is = refl
-is_less Equal is = absurd (false≢true is)
-is_less Greater is = absurd (false≢true is)
 
 not_less : (order : Ordering) → is_ge order ≡ true → order ≡ Less → ⊥
 not_less Less is e = false≢true is
@@ -58,7 +54,7 @@ late_after ahead task first (other ∷ rest) later far =
 none_before : (task first : Task) (rest : List Task) → AllByRecursion (λ other. key_cmp first.key other.key ≡ Less) rest → (key_cmp first.key task.key ≡ Less → ⊥) → tasks_before task.key rest ≡ []
 none_before task first [] later at_front = refl
 none_before task first (other ∷ rest) later at_front = elim (cases_Bool (is_earlier task.key other)) [
-  | inl earlier ↦ absurd (at_front (key_cmp_total.trans first.key other.key task.key later.0 (is_less (key_cmp other.key task.key) earlier)))
+  | inl earlier ↦ absurd (at_front (key_cmp_total.trans first.key other.key task.key later.0 (less_from_test (key_cmp other.key task.key) earlier)))
   | inr late ↦ rw late (none_before task first rest later.1 at_front)
 ]
 
@@ -68,7 +64,7 @@ first_late ahead task first rest up far = all_late ahead task (first ∷ rest) (
 
 first_not_earlier : (ahead : ℕ) (task first : Task) (rest : List Task) → IsAscending (first ∷ rest) → (key_cmp first.key task.key ≡ Less → ⊥) → is_ahead ahead task (tasks_before task.key (first ∷ rest)) ≡ true
 first_not_earlier ahead task first rest up at_front = elim (cases_Bool (is_earlier task.key first)) [
-  | inl earlier ↦ absurd (at_front (is_less (key_cmp first.key task.key) earlier))
+  | inl earlier ↦ absurd (at_front (less_from_test (key_cmp first.key task.key) earlier))
   | inr late ↦ rw (late, none_before task first rest up.0 at_front) refl
 ]
 

@@ -1,5 +1,5 @@
 -- The laws of hooked applications, from the condition that the parts belong together.
-use Rattle.std.specs.Prelude.{◌≡◌, ◌+◌, ◌<◌, ◌≤◌, ℕ, zero, suc, true, List, [], ◌∷◌, ◌++◌, length, nat_lt, refl}
+use Rattle.std.specs.Prelude.{◌≡◌, ◌+◌, ◌<◌, ◌≤◌, ℕ, suc, true, List, [], ◌∷◌, ◌++◌, length, nat_lt, refl}
 use Rattle.std.specs.List.{AllByRecursion, list_all}
 use Rattle.std.specs.Ordering.{nat_cmp}
 use Rattle.std.specs.declared.cmp.Ordering.TheVariants.{Greater}
@@ -7,10 +7,11 @@ use Rattle.std.proofs.Common.{arith, sym, subst, ◌∙◌, Bool}
 use Rattle.std.proofs.lemmas.Bool.{and_parts, and_from}
 use Rattle.std.proofs.lemmas.Bool.Decides.{nat_tests}
 use Rattle.std.proofs.lemmas.List.Folds.{list_all-append, list_all-map}
+use Rattle.plain_laws.proofs.Lists.{All-get_or, All-middle, All-weaker}
 use Rattle.task_order.specs.declared.key.Key.{Key}
 use Rattle.task_order.specs.declared.start.Start.{Start}
 use Rattle.task_order.specs.declared.task.Task.{Task}
-use Rattle.rw_sets.specs.Accesses.{Accesses, IsInRange as IsBelow}
+use Rattle.rw_sets.specs.Accesses.{Accesses, IsAscending, IsInRange as IsBelow}
 use Rattle.rw_sets.specs.LookupLaws.{merges_hold_both}
 use Rattle.app_laws.specs.Applications.{AgreeOn, IsInRange, IsSameOutcome, tasks_before, CellsAreCounted, SetsAreInRange, ActsAreFit, SetsAreLocal, ActsAreLocal, ActsIgnorePaths, ChildrenComeNoEarlier, SetsStayWithin, WalksAreTrue, FixedSetsAreKnown, IsSafeAlone, SafeTasksStaySafe, SafetyIgnoresPaths, IsLawful, PathsAreIgnored}
 use Rattle.app_laws.specs.Execution.{Outcome, children_from}
@@ -20,16 +21,6 @@ use Rattle.hook_app.specs.Hooked.{AreFitCells, AreValuesOf, IsFitDeed, FitTogeth
 use Rattle.hook_app.specs.Values.{put_values, values_at}
 use Rattle.hook_app.specs.ValueLaws.{length-put_values, length-values_at, put_values-alike, put_values-elsewhere, put_values-fit, values_at-alike, values_at-fit}
 
--- what is so of all sets is so of one of them
-set_has : (P : Accesses → Type 0) (sets : List Accesses) (at : ℕ) → at < length sets → AllByRecursion P sets → P (set_at sets at)
-set_has P [] at below all = absurd (omega arith)
-set_has P (set ∷ sets) zero below all = all.0
-set_has P (set ∷ sets) (suc at) below all = set_has P sets at (omega arith) all.1
-
-none_earlier : (prio ahead : ℕ) (starts : List Start) → AllByRecursion (λ (child : Start). prio + ahead ≤ child.prio) starts → AllByRecursion (λ (child : Start). prio ≤ child.prio) starts
-none_earlier prio ahead [] late = tt
-none_earlier prio ahead (start ∷ starts) late = (omega (arith, late.0), none_earlier prio ahead starts late.1)
-
 -- children that come late enough are after a key
 none_before : (key parent : Key) (ahead number : ℕ) (starts : List Start) → key.prio < parent.prio + ahead
     → AllByRecursion (λ (child : Start). parent.prio + ahead ≤ child.prio) starts → tasks_before key (children_from parent number starts) ≡ []
@@ -38,18 +29,13 @@ none_before key parent ahead number (child ∷ starts) far late =
     let after : nat_cmp child.prio key.prio ≡ Greater = grind (arith, nat_tests, late.0) in
     rw after (none_before key parent ahead (suc number) starts far late.1)
 
--- what holds of each of some tasks holds of the one in the middle
-middle : {X : Type 0} (P : X → Type 0) (before : List X) (x : X) (after : List X) → AllByRecursion P (before ++ x ∷ after) → P x
-middle P [] x after all = all.0
-middle P (first ∷ before) x after all = middle P before x after all.1
-
 module _ {V : Type 0} (deeds : Deeds V) (cells : ℕ) (sets : List Accesses) (ahead : ℕ) where
   -- a set of a fit task names locations that there are, in order
   pub set_in_range : (task : Task) → FitTogether deeds cells sets ahead → deeds.is_fit_task task.key.prio task.body → IsInRange (hooked deeds cells sets ahead) (set_at sets task.body.at)
   set_in_range task together is-task =
       let at = together.at_sets task.key.prio task.body is-task in record {
-        ascending = set_has _ sets task.body.at at together.ascending;
-        below = set_has (λ set. IsBelow set cells) sets task.body.at at together.below;
+        ascending = All-get_or IsAscending sets task.body.at [] at together.ascending;
+        below = All-get_or (λ set. IsBelow set cells) sets task.body.at [] at together.below;
       }
 
   -- its values are what its deed works on
@@ -108,7 +94,8 @@ module _ {V : Type 0} (deeds : Deeds V) (cells : ℕ) (sets : List Accesses) (ah
   }
 
   children_come_no_earlier : ChildrenComeNoEarlier (hooked deeds cells sets ahead)
-  children_come_no_earlier task values fit is-task = none_earlier task.key.prio ahead _ (deed_done task values fit is-task).late
+  children_come_no_earlier task values fit is-task =
+      All-weaker (λ (child : Start). task.key.prio + ahead ≤ child.prio) (λ (child : Start). task.key.prio ≤ child.prio) (λ child late. omega (arith, late)) _ (deed_done task values fit is-task).late
 
   sets_stay_within : SetsStayWithin (hooked deeds cells sets ahead)
   sets_stay_within task other values fit is-task is-other apart =
@@ -132,7 +119,7 @@ module _ {V : Type 0} (deeds : Deeds V) (cells : ℕ) (sets : List Accesses) (ah
       comes_late other = nat_lt task.key.prio (other.key.prio + ahead)
 
       done : IsFitDeed deeds sets ahead (start_of_task acting) (values_at (set_at sets acting.body.at) values) (deeds.deed (start_of_task acting) (values_at (set_at sets acting.body.at) values))
-      done = deed_done acting values fit (middle (λ (other : Task). deeds.is_fit_task other.key.prio other.body) before acting after are-others)
+      done = deed_done acting values fit (All-middle (λ (other : Task). deeds.is_fit_task other.key.prio other.body) before acting after are-others)
 
       parts : (list_all comes_late before ≡ true) × (list_all comes_late (acting ∷ after) ≡ true)
       parts = and_parts (list_all comes_late before) (list_all comes_late (acting ∷ after)) (sym (list_all-append comes_late before (acting ∷ after)) ∙ safe)

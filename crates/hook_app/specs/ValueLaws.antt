@@ -3,11 +3,13 @@ use Rattle.std.specs.Prelude.{◌≡◌, ◌≢◌, ℕ, zero, suc, ◌<◌, Lis
 use Rattle.std.specs.List.{AllByRecursion}
 use Rattle.std.proofs.Common.{arith, inl, inr, ap, sym, subst, ◌∙◌, length-set}
 use Rattle.std.proofs.lemmas.Bool.{cases_eq, false≢true}
-use Rattle.std.proofs.lemmas.Option.{same_Some}
+use Rattle.std.proofs.lemmas.Option.{get_or_from_slice_get, slice_get_within}
+use Rattle.plain_laws.proofs.Lists.{All-get_or, get-set_same}
 use Rattle.rw_sets.specs.declared.access.Access.{Access}
 use Rattle.rw_sets.specs.declared.access.Access.TheVariants.{Read, Write}
 use Rattle.rw_sets.specs.Accesses.{Accesses, IsAscending, IsInRange, access_at, allows_write, writes}
 use Rattle.rw_sets.specs.AccessLaws.{access_first, access_other, absent_beyond, ascending_first, ascending_rest}
+use Rattle.cell_store.proofs.Locations.{has_later}
 use Rattle.hook_app.specs.Values.{values_at, put_values, KeepsRead}
 
 -- ---- sets
@@ -15,13 +17,6 @@ use Rattle.hook_app.specs.Values.{values_at, put_values, KeepsRead}
 -- the first location is one of the set
 pub named_first : (p : ℕ × Access) (ps : Accesses) → IsSome (access_at (p ∷ ps) p.0)
 named_first p ps = rw (access_first p ps p.0 refl) refl
-
--- and so is each of the others
-pub named_later : (p : ℕ × Access) (ps : Accesses) (loc : ℕ) → IsSome (access_at ps loc) → IsSome (access_at (p ∷ ps) loc)
-named_later p ps loc named = elim (cases_eq p.0 loc) [
-  | inl is ↦ rw (access_first p ps loc is) refl
-  | inr differs ↦ rw (access_other p ps loc differs) named
-]
 
 -- where the set doesn't write a location, the others don't either
 unwritten_later : (p : ℕ × Access) (ps : Accesses) (loc : ℕ) → IsAscending (p ∷ ps) → IsFalse (writes (p ∷ ps) loc) → IsFalse (writes ps loc)
@@ -46,11 +41,6 @@ module _ {V : Type 0} where
   get-set_other (x ∷ xs) zero (suc loc) value differs = refl
   get-set_other (x ∷ xs) (suc at) zero value differs = refl
   get-set_other (x ∷ xs) (suc at) (suc loc) value differs = get-set_other xs at loc value (λ e. differs (ap suc e))
-
-  pub get-set_same : (values : List V) (at : ℕ) (value : V) → at < length values → slice_get (slice_set values at value) at ≡ Some value
-  get-set_same [] at value below = absurd (omega arith)
-  get-set_same (x ∷ xs) zero value below = refl
-  get-set_same (x ∷ xs) (suc at) value below = get-set_same xs at value (omega arith)
 
   get-set_alike : (values others : List V) (at loc : ℕ) (value : V) → slice_get values loc ≡ slice_get others loc
       → slice_get (slice_set values at value) loc ≡ slice_get (slice_set others at value) loc
@@ -79,9 +69,7 @@ module _ {V : Type 0} where
 
   -- what is so of all values is so of one that is found
   all_found : (P : V → Type 0) (values : List V) (loc : ℕ) (value : V) → AllByRecursion P values → slice_get values loc ≡ Some value → P value
-  all_found P [] loc value all is = absurd cc
-  all_found P (x ∷ xs) zero value all is = subst P (same_Some x value is) all.0
-  all_found P (x ∷ xs) (suc loc) value all is = all_found P xs loc value all.1 is
+  all_found P values loc value all is = subst P (get_or_from_slice_get values loc value value is) (All-get_or P values loc value (slice_get_within values loc value is) all)
 
   -- ---- the values of a set
 
@@ -93,19 +81,19 @@ module _ {V : Type 0} where
   length-values_at [] values below = refl
   length-values_at (p ∷ ps) values below =
       let here = found values p.0 (below p.0 (named_first p ps)) in
-      ap length (values_first p ps values here.0 here.1) ∙ ap suc (length-values_at ps values (λ loc named. below loc (named_later p ps loc named)))
+      ap length (values_first p ps values here.0 here.1) ∙ ap suc (length-values_at ps values (λ loc named. below loc (has_later p ps loc named)))
 
   pub values_at-fit : (P : V → Type 0) (set : Accesses) (values : List V) → IsInRange set (length values) → AllByRecursion P values → AllByRecursion P (values_at set values)
   values_at-fit P [] values below all = tt
   values_at-fit P (p ∷ ps) values below all =
       let here = found values p.0 (below p.0 (named_first p ps)) in
       subst (AllByRecursion P) (sym (values_first p ps values here.0 here.1))
-      (all_found P values p.0 here.0 all here.1, values_at-fit P ps values (λ loc named. below loc (named_later p ps loc named)) all)
+      (all_found P values p.0 here.0 all here.1, values_at-fit P ps values (λ loc named. below loc (has_later p ps loc named)) all)
 
   pub values_at-alike : (set : Accesses) (values others : List V) → ((loc : ℕ) → IsSome (access_at set loc) → slice_get values loc ≡ slice_get others loc) → values_at set values ≡ values_at set others
   values_at-alike [] values others agree = refl
   values_at-alike (p ∷ ps) values others agree =
-      let rest = values_at-alike ps values others (λ loc named. agree loc (named_later p ps loc named)) in
+      let rest = values_at-alike ps values others (λ loc named. agree loc (has_later p ps loc named)) in
       rw (agree p.0 (named_first p ps), rest) refl
 
   -- ---- new values of a set
@@ -149,7 +137,7 @@ module _ {V : Type 0} where
   values_at-put_values ((at, Read) ∷ ps) (x ∷ xs) values up below one_each kept =
       let here = found values at (below at (named_first (at, Read) ps)) in
       let kept-parts : (x ≡ here.0) × KeepsRead ps (values_at ps values) xs = subst (λ (old : List V). KeepsRead ((at, Read) ∷ ps) old (x ∷ xs)) (values_first (at, Read) ps values here.0 here.1) kept in
-      let rest = values_at-put_values ps xs values (ascending_rest _ _ up) (λ loc named. below loc (named_later (at, Read) ps loc named)) (omega arith) kept-parts.1 in
+      let rest = values_at-put_values ps xs values (ascending_rest _ _ up) (λ loc named. below loc (has_later (at, Read) ps loc named)) (omega arith) kept-parts.1 in
       let first : slice_get (put_values ps xs values) at ≡ Some x = put_values-elsewhere ps xs values at (ascending_rest _ _ up) (first_unwritten (at, Read) ps up) ∙ here.1 ∙ ap Some (sym kept-parts.0) in
       values_first (at, Read) ps (put_values ps xs values) x first ∙ ap (λ (vs : List V). x ∷ vs) rest
   values_at-put_values ((at, Write) ∷ ps) (x ∷ xs) values up below one_each kept =
@@ -159,7 +147,7 @@ module _ {V : Type 0} where
       values_at-alike ps written values (λ loc named. get-set_other values at loc x (λ is. beyond_differs (at, Write) ps loc up named is)) in
       let kept-rest : KeepsRead ps (values_at ps values) xs = subst (λ (old : List V). KeepsRead ((at, Write) ∷ ps) old (x ∷ xs)) (values_first (at, Write) ps values here.0 here.1) kept in
       let rest = values_at-put_values ps xs written (ascending_rest _ _ up)
-      (λ loc named. let e = length-set values at x in omega (arith, e, below loc (named_later (at, Write) ps loc named))) (omega arith)
+      (λ loc named. let e = length-set values at x in omega (arith, e, below loc (has_later (at, Write) ps loc named))) (omega arith)
       (subst (λ (old : List V). KeepsRead ps old xs) (sym old-rest) kept-rest) in
       let first : slice_get (put_values ps xs written) at ≡ Some x =
       put_values-elsewhere ps xs written at (ascending_rest _ _ up) (first_unwritten (at, Write) ps up)
