@@ -1,10 +1,11 @@
 -- The laws of places where tasks leave their paths.
-use Rattle.std.specs.Prelude.{◌≡◌, ◌≢◌, ◌==◌, ℕ, zero, suc, ◌<◌, ◌≤◌, ◌^◌, Bool, List, [], ◌∷◌, length, slice_get, slice_set, IsSome, IsFalse, refl}
-use Rattle.std.specs.List.{AllByRecursion, filter}
+use Rattle.std.specs.Prelude.{◌≡◌, ◌≢◌, ◌==◌, ℕ, zero, suc, ◌<◌, ◌≤◌, ◌^◌, List, [], ◌∷◌, length, slice_get, slice_set, IsSome, IsFalse, refl}
+use Rattle.std.specs.List.{AllByRecursion}
 use Rattle.std.proofs.Common.{arith, lit<, ap, ◌∙◌, subst}
 use Rattle.std.proofs.lemmas.Bool.{cond_both}
 use Rattle.std.proofs.lemmas.Bool.Decides.{nat_tests}
 use Rattle.std.proofs.lemmas.List.{length-set}
+use Rattle.plain_laws.proofs.Lists.{All-filter}
 use Rattle.task_order.specs.declared.start.Start.{Start}
 use Rattle.task_order.specs.declared.task.Body.{Body}
 use Rattle.task_order.specs.declared.task.Task.{Task}
@@ -37,11 +38,6 @@ get-set_alike (cell ∷ cells) (other ∷ others) zero zero trail same = refl
 get-set_alike (cell ∷ cells) (other ∷ others) zero (suc loc) trail same = same
 get-set_alike (cell ∷ cells) (other ∷ others) (suc place) zero trail same = same
 get-set_alike (cell ∷ cells) (other ∷ others) (suc place) (suc loc) trail same = get-set_alike cells others place loc trail same
-
-all_kept : {X : Type 0} (P : X → Type 0) (test : X → Bool) (xs : List X) → AllByRecursion P xs → AllByRecursion P (filter test xs)
-all_kept P test [] all = tt
-all_kept P test (x ∷ xs) all =
-    cond_both (test x) (x ∷ filter test xs) (filter test xs) (AllByRecursion P) (λ kept. (all.0, all_kept P test xs all.1)) (λ dropped. all_kept P test xs all.1)
 
 pub place_of-ascending : (body : Body) → IsAscending (place_of body)
 place_of-ascending body = ascending_cons _ [] tt ascending_none
@@ -109,7 +105,7 @@ followers_apart acted task cells apart =
 
 safe_tasks_stay_safe : SafeTasksStaySafe trails
 safe_tasks_stay_safe task acted before after cells fit below fit-others ascending earlier safe apart = record {
-  apart = all_kept _ _ _ (followers_apart acted task (trails.act acted cells).cells apart);
+  apart = All-filter _ _ _ (followers_apart acted task (trails.act acted cells).cells apart);
   safe = refl;
 }
 
