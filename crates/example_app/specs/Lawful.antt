@@ -1,6 +1,6 @@
 -- The laws of the introductions.
-use Rattle.std.specs.Prelude.{◌≡◌, ◌≢◌, ◌==◌, ◌||◌, ◌<◌, ◌≤◌, ◌^◌, ℕ, Bool, true, List, [], ◌∷◌, ◌++◌, length, slice_get, slice_index, slice_set, Some, IsSome, IsFalse, IsTrue, refl}
-use Rattle.std.specs.List.{AllByRecursion, filter}
+use Rattle.std.specs.Prelude.{◌≡◌, ◌≢◌, ◌==◌, ◌||◌, ◌<◌, ◌≤◌, ◌^◌, ℕ, true, List, [], ◌∷◌, ◌++◌, length, slice_get, slice_index, slice_set, Some, IsSome, IsFalse, IsTrue, refl}
+use Rattle.std.specs.List.{AllByRecursion}
 use Rattle.std.specs.Option.{is_some}
 use Rattle.std.specs.Fmt.{decimal}
 use Rattle.std.proofs.Common.{arith, inl, inr, ◌⊎◌, length-set, lit<, sym, ap, ◌∙◌, subst}
@@ -8,6 +8,7 @@ use Rattle.std.proofs.lemmas.Bool.{cases_Bool, cases_eq, cases_lt, or_cases, or_
 use Rattle.std.proofs.lemmas.List.{get_or-set_same, get_or-set_other, get_or_past, get_or-map}
 use Rattle.std.proofs.lemmas.List.Elements.{All-set, All-get_or}
 use Rattle.std.proofs.lemmas.Option.{slice_get-get_or, slice_get_past, same_Some}
+use Rattle.plain_laws.proofs.Lists.{All-filter, All-middle, All-weaker}
 use Rattle.task_order.specs.declared.key.Key.{Key}
 use Rattle.task_order.specs.declared.start.Start.{Start}
 use Rattle.task_order.specs.declared.task.Body.{Body}
@@ -398,19 +399,6 @@ module _ (people : ℕ) where
       there : (loc : ℕ) → IsSome (access_at (meeting_set host next met-first met-second) loc) → IsSome (access_at (meeting_set first second guest other) loc)
       there loc named = named_from_among first second guest other loc (there-by loc (among_from_named host next met-first met-second loc named))
 
-  all_kept : {X : Type 0} (P : X → Type 0) (test : X → Bool) (xs : List X) → AllByRecursion P xs → AllByRecursion P (filter test xs)
-  all_kept P test [] all = tt
-  all_kept P test (x ∷ xs) all =
-      cond_both (test x) (x ∷ filter test xs) (filter test xs) (AllByRecursion P) (λ kept. (all.0, all_kept P test xs all.1)) (λ dropped. all_kept P test xs all.1)
-
-  all_weaker : {X : Type 0} (P Q : X → Type 0) → ((x : X) → P x → Q x) → (xs : List X) → AllByRecursion P xs → AllByRecursion Q xs
-  all_weaker P Q weaker [] all = tt
-  all_weaker P Q weaker (x ∷ xs) all = (weaker x all.0, all_weaker P Q weaker xs all.1)
-
-  middle : {X : Type 0} (P : X → Type 0) (before : List X) (x : X) (after : List X) → AllByRecursion P (before ++ x ∷ after) → P x
-  middle P [] x after all = all.0
-  middle P (first ∷ before) x after all = middle P before x after all.1
-
   -- the meetings that follow one are of its own people
   following_within : (key : Key) (body : Body) (contacts : List ℕ) → AreContacts people contacts → IsMeeting people key.prio body →
       let guest = slice_index contacts body.at in
@@ -462,12 +450,12 @@ module _ (people : ℕ) where
 
   pub safe_tasks_stay_safe : SafeTasksStaySafe (introductions people)
   safe_tasks_stay_safe task acted before after contacts fit meeting fit-others ascending earlier safe apart = record {
-    apart = all_kept _ _ _ (all_weaker _ _ children-apart _ (following_within acted.key acted.body contacts fit acted-meeting));
+    apart = All-filter _ _ _ (All-weaker _ _ children-apart _ (following_within acted.key acted.body contacts fit acted-meeting));
     safe = refl;
   }
     where
       acted-meeting : IsMeeting people acted.key.prio acted.body
-      acted-meeting = middle (IsFitTask (introductions people)) before acted after fit-others
+      acted-meeting = All-middle (IsFitTask (introductions people)) before acted after fit-others
 
       now : List ℕ
       now = introduced (slice_index contacts acted.body.at) (slice_index contacts acted.body.arg) contacts
