@@ -9,6 +9,7 @@ use Rattle.std.specs.declared.cmp.Ordering.TheVariants.{Less, Equal, Greater}
 use Rattle.std.proofs.Common.{arith, ap, sym, subst, ◌∙◌}
 use Rattle.std.proofs.lemmas.Bool.Decides.{nat_tests}
 use Rattle.std.proofs.lemmas.List.{append-nil, append_assoc}
+use Rattle.plain_laws.proofs.Lists.{All-push, All-weaker}
 use Rattle.task_order.specs.declared.key.Key.{Key}
 use Rattle.task_order.specs.declared.start.Start.{Start}
 use Rattle.task_order.specs.declared.task.Task.{Task}
@@ -16,7 +17,6 @@ use Rattle.task_order.specs.Key.{child_key, key_cmp}
 use Rattle.task_order.specs.TaskList.{IsAscending, put_all}
 use Rattle.output_log.specs.Entries.{Entry}
 use Rattle.app_laws.specs.Execution.{Operator, children_from}
-use Rattle.mtx_reader.specs.Ascending.{all_push}
 use Rattle.mtx_reader.specs.declared.pattern.Pattern.{Pattern}
 use Rattle.level_walk.specs.declared.level.Level.{Level}
 use Rattle.level_walk.specs.Levels.{IsVisit, levelling}
@@ -26,11 +26,6 @@ use Rattle.level_search.specs.Basis.{Basis}
 -- the vertices that tasks visit
 abbrev pub vertices_of : List Task → List ℕ
 vertices_of tasks = map (λ task. suc task.body.at) tasks
-
--- what is so of each is so where it is weaker
-pub all_weaker : {X : Type 0} (P Q : X → Type 0) → ((x : X) → P x → Q x) → (xs : List X) → AllByRecursion P xs → AllByRecursion Q xs
-all_weaker P Q weaker [] all = tt
-all_weaker P Q weaker (x ∷ xs) all = (weaker x all.0, all_weaker P Q weaker xs all.1)
 
 -- the task is earlier than whatever child at the priority a task with the key makes
 abbrev pub IsBeforeChildren : Key → ℕ → Task → Type 0
@@ -77,14 +72,14 @@ module _ (basis : Basis) (key : Key) where
       let child : Task = record { key = child_key key number start.prio; body = start.body } in
       let rest = children_from key (suc number) starts in
       let here : AllByRecursion (λ other. key_cmp other.key child.key ≡ Less) pending =
-      all_weaker (IsBeforeFrom number prio) (λ other. key_cmp other.key child.key ≡ Less) (λ other earlier. subst (λ (p : ℕ). key_cmp other.key (child_key key number p) ≡ Less) (sym same.0) (earlier number (omega arith)))
+      All-weaker (IsBeforeFrom number prio) (λ other. key_cmp other.key child.key ≡ Less) (λ other earlier. subst (λ (p : ℕ). key_cmp other.key (child_key key number p) ≡ Less) (sym same.0) (earlier number (omega arith)))
       pending before in
       let turned : IsBeforeFrom (suc number) prio child =
       λ other above. subst (λ (p : ℕ). key_cmp (child_key key number p) (child_key key other prio) ≡ Less) (sym same.0) (basis.in_turn key number other prio (omega arith)) in
       let still : AllByRecursion (IsBeforeFrom (suc number) prio) pending =
-      all_weaker (IsBeforeFrom number prio) (IsBeforeFrom (suc number) prio) (λ task earlier other above. earlier other (omega arith)) pending before in
+      All-weaker (IsBeforeFrom number prio) (IsBeforeFrom (suc number) prio) (λ task earlier other above. earlier other (omega arith)) pending before in
       ap (put_all rest) (basis.latest_last child pending here)
-      ∙ put_from (suc number) starts prio (pending ++ child ∷ []) same.1 (all_push (IsBeforeFrom (suc number) prio) pending child still turned)
+      ∙ put_from (suc number) starts prio (pending ++ child ∷ []) same.1 (All-push (IsBeforeFrom (suc number) prio) pending child still turned)
       ∙ append_assoc pending (child ∷ []) rest
 
   -- children go behind the tasks that are before each of them, and keep their order
@@ -92,7 +87,7 @@ module _ (basis : Basis) (key : Key) where
       → AllByRecursion (IsBeforeChildren key prio) pending → put_all (children_from key number starts) pending ≡ pending ++ children_from key number starts
   children_last number starts prio pending same before =
       put_from number starts prio pending same
-      (all_weaker (IsBeforeChildren key prio) (IsBeforeFrom number prio) (λ task earlier other above. earlier other) pending before)
+      (All-weaker (IsBeforeChildren key prio) (IsBeforeFrom number prio) (λ task earlier other above. earlier other) pending before)
 
 then_less : (o first second : Ordering) → ordering_then o first ≡ Less → (first ≡ Less → second ≡ Less) → ordering_then o second ≡ Less
 then_less Less first second less goes = refl

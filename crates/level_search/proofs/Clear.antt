@@ -5,10 +5,11 @@ use Rattle.std.specs.declared.cmp.Ordering.TheVariants.{Less}
 use Rattle.std.specs.Ordering.{is_lt, nat_cmp, ordering_then}
 use Rattle.std.specs.Cmp.Lexicographic.{slice_cmp}
 use Rattle.std.proofs.Common.{arith, ap, sym, subst, ◌∙◌, cond, inl, inr, append_assoc, append-nil}
-use Rattle.std.proofs.lemmas.Bool.{and_from, and_left, and_right, cases_eq, cond-true, cond-false}
+use Rattle.std.proofs.lemmas.Bool.{and_from, and_left, and_right, cases_eq, cond-true}
 use Rattle.std.proofs.lemmas.Bool.Decides.{nat_tests}
 use Rattle.std.proofs.lemmas.List.Elements.{filter-append}
 use Rattle.std.proofs.lemmas.List.Folds.{list_any-append}
+use Rattle.plain_laws.proofs.Lists.{All-append, All-weaker, filter-all, filter-none}
 use Rattle.task_order.specs.declared.task.Task.{Task}
 use Rattle.task_order.specs.declared.key.Key.{Key}
 use Rattle.task_order.specs.Key.{key_cmp}
@@ -25,18 +26,10 @@ use Rattle.level_walk.specs.Levels.{levelling}
 use Rattle.level_walk.specs.VisitLaws.{own_at}
 use Rattle.level_walk.specs.Walks.{vertex_count}
 use Rattle.level_search.specs.Basis.{Basis}
-use Rattle.level_search.proofs.Acting.{AreVisitsAt, IsVisitAt, all_weaker}
-use Rattle.level_search.proofs.Firsts.{all_joined, earlier_front, firsts, is_seen, later_behind}
+use Rattle.level_search.proofs.Acting.{AreVisitsAt, IsVisitAt}
+use Rattle.level_search.proofs.Firsts.{earlier_front, firsts, is_seen, later_behind}
 
--- ---- lists
-
-all_pass : {X : Type 0} (test : X → Bool) (xs : List X) → AllByRecursion (λ x. test x ≡ true) xs → filter test xs ≡ xs
-all_pass test [] all = refl
-all_pass test (x ∷ xs) all = cond-true (test x) (x ∷ filter test xs) (filter test xs) all.0 ∙ ap (λ ys. x ∷ ys) (all_pass test xs all.1)
-
-none_passes : {X : Type 0} (test : X → Bool) (xs : List X) → AllByRecursion (λ x. test x ≡ false) xs → filter test xs ≡ []
-none_passes test [] all = refl
-none_passes test (x ∷ xs) all = cond-false (test x) (x ∷ filter test xs) (filter test xs) all.0 ∙ none_passes test xs all.1
+-- ---- truth values
 
 cond_not : {X : Type 0} (test : Bool) (x y : X) → cond (not test) x y ≡ cond test y x
 cond_not true x y = refl
@@ -92,10 +85,10 @@ module _ (pattern : Pattern) (basis : Basis) where
       let Earlier = is_earlier task.key in
       let same : Earlier task ≡ false = ap is_lt (basis.equal task.key) in
       let beyond : AllByRecursion (λ other. Earlier other ≡ false) rest =
-      all_weaker (λ (other : Task). key_cmp task.key other.key ≡ Less) (λ other. Earlier other ≡ false) (λ other less. ap is_lt ((basis.turned task.key other.key).0 less)) rest later in
+      All-weaker (λ (other : Task). key_cmp task.key other.key ≡ Less) (λ other. Earlier other ≡ false) (λ other less. ap is_lt ((basis.turned task.key other.key).0 less)) rest later in
       filter-append Earlier front (task ∷ rest)
-      ∙ (λ i. all_pass Earlier front (all_weaker (λ (other : Task). key_cmp other.key task.key ≡ Less) (λ other. Earlier other ≡ true) (λ other less. ap is_lt less) front earlier) i
-      ++ none_passes Earlier (task ∷ rest) (same, beyond) i)
+      ∙ (λ i. filter-all Earlier front (All-weaker (λ (other : Task). key_cmp other.key task.key ≡ Less) (λ other. Earlier other ≡ true) (λ other less. ap is_lt less) front earlier) i
+      ++ filter-none Earlier (task ∷ rest) (same, beyond) i)
       ∙ append-nil front
 
   module _ (level : ℕ) (cells : List Level) where
@@ -119,7 +112,7 @@ module _ (pattern : Pattern) (basis : Basis) where
     clear_by_seen front task rest seen visits visit earlier later are =
         let Conflict = λ (other : Task). conflicts_with (set_in (levelling pattern) cells other) (set_in (levelling pattern) cells task) in
         ap (λ (ts : List Task). not (list_any Conflict ts) && is_ahead 1 task ts) (before_is_front front task rest earlier later)
-        ∙ (λ i. not ((conflicts task front visit visits ∙ are (suc task.body.at)) i) && same_level_ahead level task front visit.at_level (all_weaker (IsVisitAt pattern level) (λ other. other.key.prio ≡ level) (λ other it. it.at_level) front visits) i)
+        ∙ (λ i. not ((conflicts task front visit visits ∙ are (suc task.body.at)) i) && same_level_ahead level task front visit.at_level (All-weaker (IsVisitAt pattern level) (λ other. other.key.prio ≡ level) (λ other it. it.at_level) front visits) i)
         ∙ and_true (not (is_seen (suc task.body.at) seen))
       where
         and_true : (b : Bool) → (b && true) ≡ b
@@ -134,14 +127,14 @@ module _ (pattern : Pattern) (basis : Basis) where
     firsts_clear later late front (task ∷ tasks) pending seen is up visits-front visits are =
         let seen-next = suc task.body.at ∷ seen in
         let behind : AllByRecursion (λ other. key_cmp task.key other.key ≡ Less) (tasks ++ later) =
-        all_joined (λ (other : Task). key_cmp task.key other.key ≡ Less) tasks later (later_behind front task tasks up)
-        (all_weaker (λ (other : Task). other.key.prio ≡ suc level) (λ other. key_cmp task.key other.key ≡ Less) (λ other at. lower_first task.key other.key (omega (arith, at, visits.0.at_level))) later late) in
+        All-append (λ (other : Task). key_cmp task.key other.key ≡ Less) tasks later (later_behind front task tasks up)
+        (All-weaker (λ (other : Task). other.key.prio ≡ suc level) (λ other. key_cmp task.key other.key ≡ Less) (λ other at. lower_first task.key other.key (omega (arith, at, visits.0.at_level))) later late) in
         let here : is_clear (levelling pattern) (state_of cells pending) task ≡ not (is_seen (suc task.body.at) seen) =
         subst (λ (ts : List Task). is_clear (levelling pattern) (state_of cells ts) task ≡ not (is_seen (suc task.body.at) seen)) is
         (clear_by_seen front task (tasks ++ later) seen visits-front visits.0 (earlier_front front task tasks up) behind are) in
         let rest : filter (is_clear (levelling pattern) (state_of cells pending)) tasks ≡ firsts seen-next tasks =
         firsts_clear later late (front ++ task ∷ []) tasks pending seen-next (append_assoc front (task ∷ []) (tasks ++ later) ∙ is) (subst IsAscending (sym (append_assoc front (task ∷ []) tasks)) up)
-        (all_joined (IsVisitAt pattern level) front (task ∷ []) visits-front (visits.0, tt)) visits.1 (seen_more front seen task are) in
+        (All-append (IsVisitAt pattern level) front (task ∷ []) visits-front (visits.0, tt)) visits.1 (seen_more front seen task are) in
         (λ i. cond (here i) (task ∷ rest i) (rest i)) ∙ cond_not (is_seen (suc task.body.at) seen) (task ∷ firsts seen-next tasks) (firsts seen-next tasks)
 
     -- and a visit at the next level isn't clear where one of this level is pending
@@ -163,7 +156,7 @@ module _ (pattern : Pattern) (basis : Basis) where
         let state = state_of cells (first ∷ tasks ++ later) in
         let Test = is_clear (levelling pattern) state in
         let none : filter Test later ≡ [] =
-        none_passes Test later (all_weaker (λ (other : Task). other.key.prio ≡ suc level) (λ other. Test other ≡ false) (λ other at. later_unclear first (tasks ++ later) other visits.each.0.at_level at) later late) in
+        filter-none Test later (All-weaker (λ (other : Task). other.key.prio ≡ suc level) (λ other. Test other ≡ false) (λ other at. later_unclear first (tasks ++ later) other visits.each.0.at_level at) later late) in
         filter-append Test (first ∷ tasks) later
         ∙ (λ i. firsts_clear later late [] (first ∷ tasks) (first ∷ tasks ++ later) [] refl visits.ascending tt visits.each (λ vertex. refl) i ++ none i)
         ∙ append-nil (firsts [] (first ∷ tasks))

@@ -1,10 +1,10 @@
 -- How far a search has come, beside the execution of its visits as tasks.
-use Rattle.std.specs.Prelude.{◌≡◌, ◌≢◌, ℕ, zero, suc, ◌+◌, ◌-◌, ◌<◌, ◌≤◌, ◌==◌, nat_lt, List, [], ◌∷◌, ◌++◌, length, replicate, None, Some, refl}
+use Rattle.std.specs.Prelude.{◌≡◌, ◌≢◌, ℕ, suc, ◌+◌, ◌-◌, ◌<◌, ◌≤◌, ◌==◌, nat_lt, List, [], ◌∷◌, ◌++◌, length, None, Some, refl}
 use Rattle.std.specs.List.{AllByRecursion}
 use Rattle.std.proofs.Common.{arith, ap, cond, sym, subst, true, false, ◌∙◌, length-append}
 use Rattle.std.proofs.lemmas.Bool.{cond_both}
 use Rattle.std.proofs.lemmas.Bool.Decides.{nat_tests}
-use Rattle.std.proofs.lemmas.List.{length-map}
+use Rattle.std.proofs.lemmas.List.{length-map, length-replicate}
 use Rattle.std.proofs.lemmas.List.Sums.{count_by-le-length}
 use Rattle.task_order.specs.declared.start.Start.{Start}
 use Rattle.task_order.specs.declared.task.Task.{Task}
@@ -44,10 +44,6 @@ pub record HasCome (pattern : Pattern) (from limit level ended rounds : ℕ) (le
   pub few_rounds : rounds ≤ ended
   pub led : (more : ℕ) → TakesRounds (levelling pattern) more (state_of (after pattern from ended).cells (after pattern from ended).pending) → TakesRounds (levelling pattern) (rounds + more) (first_state pattern from)
 
-pub length_unset : (count : ℕ) → length (replicate count Unset) ≡ count
-length_unset zero = refl
-length_unset (suc count) = ap suc (length_unset count)
-
 none_to_visit : (tasks : List Task) → vertices_of tasks ≡ [] → tasks ≡ []
 none_to_visit [] none = refl
 none_to_visit (task ∷ tasks) none = absurd cc
@@ -72,7 +68,7 @@ module _ (pattern : Pattern) (from limit : ℕ) where
     next = cond_both_same;
     levels = refl;
     lines = refl;
-    count = length_unset (vertex_count pattern);
+    count = length-replicate (vertex_count pattern) Unset;
     logged = refl;
     within = omega arith;
     few_rounds = omega arith;

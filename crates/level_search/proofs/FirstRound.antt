@@ -7,6 +7,7 @@ use Rattle.std.proofs.Common.{arith, ap, sym, subst, ◌∙◌, inl, inr, append
 use Rattle.std.proofs.lemmas.Bool.{cases_Bool, cond-false, cond-true, false≢true, or_cases}
 use Rattle.std.proofs.lemmas.Bool.Decides.{nat_tests}
 use Rattle.std.proofs.lemmas.List.Elements.{filter-append}
+use Rattle.plain_laws.proofs.Lists.{All-append, All-joined, All-weaker}
 use Rattle.task_order.specs.declared.key.Key.{Key}
 use Rattle.task_order.specs.declared.start.Start.{Start}
 use Rattle.task_order.specs.declared.task.Task.{Task}
@@ -19,8 +20,8 @@ use Rattle.mtx_reader.specs.Patterns.{IsPattern}
 use Rattle.level_walk.specs.declared.level.Level.{Level}
 use Rattle.level_walk.specs.Walks.{vertex_count}
 use Rattle.level_search.specs.Basis.{Basis}
-use Rattle.level_search.proofs.Acting.{AreVisitsAt, IsBeforeChildren, IsVisitAt, act, all_weaker, before_children, cells_after, children_after, children_last, lower_before}
-use Rattle.level_search.proofs.Firsts.{all_both, all_joined, ascending_without, earlier_front, firsts, is_seen, later_behind, others}
+use Rattle.level_search.proofs.Acting.{AreVisitsAt, IsBeforeChildren, IsVisitAt, act, before_children, cells_after, children_after, children_last, lower_before}
+use Rattle.level_search.proofs.Firsts.{ascending_without, earlier_front, firsts, is_seen, later_behind, others}
 use Rattle.level_search.proofs.OneVisit.{all_children, cells_stay, children_are, prios_are}
 use Rattle.level_search.proofs.Places.{IsSet, idle, keeps_set, sets}
 
@@ -47,17 +48,17 @@ module _ (basis : Basis) where
     pub taken_out : without task.key (skipped ++ (task ∷ tasks ++ later)) ≡ skipped ++ (tasks ++ later)
     taken_out =
         let new-front : IsNewKey task.key skipped =
-        all_weaker (λ (other : Task). key_cmp other.key task.key ≡ Less) (λ other. other.key ≢ task.key) (λ other less. basis.irreflexive other.key task.key less) skipped (earlier_front skipped task tasks under_way.ascending) in
+        All-weaker (λ (other : Task). key_cmp other.key task.key ≡ Less) (λ other. other.key ≢ task.key) (λ other less. basis.irreflexive other.key task.key less) skipped (earlier_front skipped task tasks under_way.ascending) in
         let new-tasks : IsNewKey task.key tasks =
-        all_weaker (λ (other : Task). key_cmp task.key other.key ≡ Less) (λ other. other.key ≢ task.key) (λ other less same. basis.irreflexive task.key other.key less (sym same)) tasks (later_behind skipped task tasks under_way.ascending) in
+        All-weaker (λ (other : Task). key_cmp task.key other.key ≡ Less) (λ other. other.key ≢ task.key) (λ other less same. basis.irreflexive task.key other.key less (sym same)) tasks (later_behind skipped task tasks under_way.ascending) in
         let new-later : IsNewKey task.key later =
-        all_weaker (λ (other : Task). other.key.prio ≡ suc level) (λ other. other.key ≢ task.key) (λ other at same. let e = ap (λ (key : Key). key.prio) same in absurd (omega (arith, at, e, under_way.visits.0.at_level))) later under_way.late in
-        without_task skipped task (tasks ++ later) new-front (all_joined (λ (other : Task). other.key ≢ task.key) tasks later new-tasks new-later)
+        All-weaker (λ (other : Task). other.key.prio ≡ suc level) (λ other. other.key ≢ task.key) (λ other at same. let e = ap (λ (key : Key). key.prio) same in absurd (omega (arith, at, e, under_way.visits.0.at_level))) later under_way.late in
+        without_task skipped task (tasks ++ later) new-front (All-append (λ (other : Task). other.key ≢ task.key) tasks later new-tasks new-later)
 
     -- where the first of them is skipped
     pub skips : IsUnderWay pattern level (skipped ++ task ∷ []) tasks later
     skips = record {
-      skipped_at = all_joined (λ (other : Task). other.key.prio ≡ level) skipped (task ∷ []) under_way.skipped_at (under_way.visits.0.at_level, tt);
+      skipped_at = All-append (λ (other : Task). other.key.prio ≡ level) skipped (task ∷ []) under_way.skipped_at (under_way.visits.0.at_level, tt);
       visits = under_way.visits.1;
       late = under_way.late;
       ascending = subst IsAscending (sym (append_assoc skipped (task ∷ []) tasks)) under_way.ascending;
@@ -77,7 +78,7 @@ module _ (basis : Basis) where
     leaves_for children next = record {
       skipped_at = leaves.skipped_at;
       visits = leaves.visits;
-      late = all_joined (λ (other : Task). other.key.prio ≡ suc level) later children under_way.late next;
+      late = All-append (λ (other : Task). other.key.prio ≡ suc level) later children under_way.late next;
       ascending = leaves.ascending;
     }
 
@@ -141,22 +142,22 @@ module _ (pattern : Pattern) (is-pattern : IsPattern pattern) (basis : Basis) (l
         let next-children : AllByRecursion (λ child. child.key.prio ≡ suc level) children =
         all_children task.key (λ (child : Task). child.key.prio ≡ suc level) (λ (start : Start). start.prio ≡ suc level) (λ number start at. at) 0 starts next in
         let low : AllByRecursion (IsBeforeChildren task.key (suc level)) skipped =
-        all_weaker (λ (other : Task). other.key.prio ≡ level) (IsBeforeChildren task.key (suc level)) (λ other at. lower_before task.key (suc level) other (omega (arith, at))) skipped under_way.skipped_at in
+        All-weaker (λ (other : Task). other.key.prio ≡ level) (IsBeforeChildren task.key (suc level)) (λ other at. lower_before task.key (suc level) other (omega (arith, at))) skipped under_way.skipped_at in
         let low-too : AllByRecursion (IsBeforeChildren task.key (suc level)) tasks =
-        all_weaker (IsVisitAt pattern level) (IsBeforeChildren task.key (suc level)) (λ other it. lower_before task.key (suc level) other (omega (arith, it.at_level))) tasks under_way.visits.1 in
+        All-weaker (IsVisitAt pattern level) (IsBeforeChildren task.key (suc level)) (λ other it. lower_before task.key (suc level) other (omega (arith, it.at_level))) tasks under_way.visits.1 in
         let all-before : AllByRecursion (IsBeforeChildren task.key (suc level)) (skipped ++ (tasks ++ later)) =
-        all_joined (IsBeforeChildren task.key (suc level)) skipped (tasks ++ later) low (all_joined (IsBeforeChildren task.key (suc level)) tasks later low-too before.0) in
+        All-append (IsBeforeChildren task.key (suc level)) skipped (tasks ++ later) low (All-append (IsBeforeChildren task.key (suc level)) tasks later low-too before.0) in
         let pending : put_all children (without task.key (skipped ++ (task ∷ tasks ++ later))) ≡ skipped ++ (tasks ++ (later ++ children)) =
         ap (put_all children) (taken_out basis pattern level skipped task tasks later under_way)
         ∙ children_last basis task.key 0 starts (suc level) (skipped ++ (tasks ++ later)) next all-before
         ∙ append_assoc skipped (tasks ++ later) children ∙ ap (λ (ts : List Task). skipped ++ ts) (append_assoc tasks later children) in
         let children-before : AllByRecursion (λ other. AllByRecursion (IsBeforeChildren other.key (suc level)) children) tasks =
-        all_both (λ (other : Task). key_cmp task.key other.key ≡ Less) (IsVisitAt pattern level) (λ other. AllByRecursion (IsBeforeChildren other.key (suc level)) children)
+        All-joined (λ (other : Task). key_cmp task.key other.key ≡ Less) (IsVisitAt pattern level) (λ other. AllByRecursion (IsBeforeChildren other.key (suc level)) children)
         (λ other less it. children_before level task.key other.key (visit.at_level ∙ sym it.at_level) (visit.deep ∙ sym it.deep) less 0 starts next)
         tasks (later_behind skipped task tasks under_way.ascending) under_way.visits.1 in
         let before-next : AllByRecursion (λ other. AllByRecursion (IsBeforeChildren other.key (suc level)) (later ++ children)) tasks =
-        all_both (λ (other : Task). AllByRecursion (IsBeforeChildren other.key (suc level)) later) (λ other. AllByRecursion (IsBeforeChildren other.key (suc level)) children)
-        (λ other. AllByRecursion (IsBeforeChildren other.key (suc level)) (later ++ children)) (λ other old new. all_joined (IsBeforeChildren other.key (suc level)) later children old new) tasks before.1 children-before in
+        All-joined (λ (other : Task). AllByRecursion (IsBeforeChildren other.key (suc level)) later) (λ other. AllByRecursion (IsBeforeChildren other.key (suc level)) children)
+        (λ other. AllByRecursion (IsBeforeChildren other.key (suc level)) (later ++ children)) (λ other old new. All-append (IsBeforeChildren other.key (suc level)) later children old new) tasks before.1 children-before in
         let rest = after_firsts seen-next skipped tasks (later ++ children) cells-next (leaves_for basis pattern level skipped task tasks later under_way children next-children) before-next
         (cells_stay pattern is-pattern task cells ∙ count)
         (seen_more seen task.body.at cells cells-next set (keeps_set pattern task cells visit.visit count) (sets pattern task cells visit.visit count)) in

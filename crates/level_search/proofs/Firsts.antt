@@ -3,6 +3,7 @@ use Rattle.std.specs.Prelude.{◌≡◌, ℕ, suc, ◌==◌, if◌then◌else◌
 use Rattle.std.specs.List.{AllByRecursion, list_any}
 use Rattle.std.specs.declared.cmp.Ordering.TheVariants.{Less}
 use Rattle.std.proofs.lemmas.Bool.{cond_both}
+use Rattle.plain_laws.proofs.Lists.{All-append, All-behind, All-front}
 use Rattle.task_order.specs.declared.task.Task.{Task}
 use Rattle.task_order.specs.Key.{key_cmp}
 use Rattle.task_order.specs.TaskList.{IsAscending}
@@ -23,30 +24,12 @@ others seen [] = []
 others seen (task ∷ tasks) =
     if is_seen (suc task.body.at) seen then task ∷ others (suc task.body.at ∷ seen) tasks else others (suc task.body.at ∷ seen) tasks
 
--- ---- what is so of each
-
-pub all_both : {X : Type 0} (P Q R : X → Type 0) → ((x : X) → P x → Q x → R x) → (xs : List X) → AllByRecursion P xs → AllByRecursion Q xs → AllByRecursion R xs
-all_both P Q R join [] p q = tt
-all_both P Q R join (x ∷ xs) p q = (join x p.0 q.0, all_both P Q R join xs p.1 q.1)
-
-pub all_joined : {X : Type 0} (P : X → Type 0) (xs ys : List X) → AllByRecursion P xs → AllByRecursion P ys → AllByRecursion P (xs ++ ys)
-all_joined P [] ys all more = more
-all_joined P (x ∷ xs) ys all more = (all.0, all_joined P xs ys all.1 more)
-
-pub all_front : {X : Type 0} (P : X → Type 0) (xs ys : List X) → AllByRecursion P (xs ++ ys) → AllByRecursion P xs
-all_front P [] ys all = tt
-all_front P (x ∷ xs) ys all = (all.0, all_front P xs ys all.1)
-
-pub all_behind : {X : Type 0} (P : X → Type 0) (xs ys : List X) → AllByRecursion P (xs ++ ys) → AllByRecursion P ys
-all_behind P [] ys all = all
-all_behind P (x ∷ xs) ys all = all_behind P xs ys all.1
-
 -- ---- tasks in order
 
 -- the tasks in front of one are earlier, and those behind it are later
 pub earlier_front : (front : List Task) (task : Task) (rest : List Task) → IsAscending (front ++ task ∷ rest) → AllByRecursion (λ other. key_cmp other.key task.key ≡ Less) front
 earlier_front [] task rest up = tt
-earlier_front (first ∷ front) task rest up = ((all_behind (λ other. key_cmp first.key other.key ≡ Less) front (task ∷ rest) up.0).0, earlier_front front task rest up.1)
+earlier_front (first ∷ front) task rest up = ((All-behind (λ other. key_cmp first.key other.key ≡ Less) front (task ∷ rest) up.0).0, earlier_front front task rest up.1)
 
 pub later_behind : (front : List Task) (task : Task) (rest : List Task) → IsAscending (front ++ task ∷ rest) → AllByRecursion (λ other. key_cmp task.key other.key ≡ Less) rest
 later_behind [] task rest up = up.0
@@ -57,7 +40,7 @@ pub ascending_without : (front : List Task) (task : Task) (rest : List Task) →
 ascending_without [] task rest up = up.1
 ascending_without (first ∷ front) task rest up =
     let Later = λ (other : Task). key_cmp first.key other.key ≡ Less in
-    (all_joined Later front rest (all_front Later front (task ∷ rest) up.0) (all_behind Later front (task ∷ rest) up.0).1, ascending_without front task rest up.1)
+    (All-append Later front rest (All-front Later front (task ∷ rest) up.0) (All-behind Later front (task ∷ rest) up.0).1, ascending_without front task rest up.1)
 
 -- ---- the other visits, which are some of all
 

@@ -2,6 +2,7 @@
 use Rattle.std.specs.Prelude.{◌≡◌, ◌≢◌, ℕ, zero, suc, ◌+◌, List, [], ◌∷◌, ◌++◌, length, refl}
 use Rattle.std.specs.List.{AllByRecursion}
 use Rattle.std.proofs.Common.{arith, ap, sym, subst, ◌∙◌, append-nil}
+use Rattle.plain_laws.proofs.Lists.{All-weaker}
 use Rattle.task_order.specs.declared.task.Task.{Task}
 use Rattle.commuting.specs.Rounds.{TakesRounds, after_round, clear_tasks}
 use Rattle.commuting.specs.States.{after_tasks, state_of}
@@ -12,7 +13,7 @@ use Rattle.level_walk.specs.Levels.{levelling}
 use Rattle.level_walk.specs.Walks.{vertex_count}
 use Rattle.level_search.specs.Basis.{Basis}
 use Rattle.level_search.specs.Counts.{IsMost}
-use Rattle.level_search.proofs.Acting.{AreVisitsAt, IsVisitAt, act, all_weaker, cells_after, children_after, vertices_of}
+use Rattle.level_search.proofs.Acting.{AreVisitsAt, IsVisitAt, act, cells_after, children_after, vertices_of}
 use Rattle.level_search.proofs.Clear.{clear_are_firsts}
 use Rattle.level_search.proofs.Counts.{most_less, none_visits, some_visits}
 use Rattle.level_search.proofs.FirstRound.{after_first_round}
@@ -73,7 +74,7 @@ module _ (pattern : Pattern) (is-pattern : IsPattern pattern) (basis : Basis) wh
       let round : after_round (levelling pattern) state ≡ state_of after (others [] tasks ++ children) =
       ap (λ (ts : List Task). after_tasks (act pattern) ts state) clear ∙ after_first_round pattern is-pattern basis level tasks cells visits count in
       let late : AllByRecursion (λ child. child.key.prio ≡ suc level) children =
-      all_weaker (IsVisitAt pattern (suc level)) (λ child. child.key.prio ≡ suc level) (λ child it. it.at_level) children (children_visit pattern is-pattern basis level tasks cells visits count).each in
+      All-weaker (IsVisitAt pattern (suc level)) (λ child. child.key.prio ≡ suc level) (λ child it. it.at_level) children (children_visit pattern is-pattern basis level tasks cells visits count).each in
       let set = all_others (λ (task : Task). IsSet after task.body.at) [] tasks (all_set pattern is-pattern level tasks cells visits.each count) in
       let rest = idle_in_rounds level most more (others [] tasks) children after (others_visit pattern level tasks visits) late set (most_less most tasks is) takes in
       subst (λ (n : ℕ). TakesRounds (levelling pattern) n state) one

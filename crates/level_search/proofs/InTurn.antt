@@ -4,6 +4,7 @@ use Rattle.std.specs.List.{AllByRecursion}
 use Rattle.std.specs.declared.cmp.Ordering.TheVariants.{Less}
 use Rattle.std.proofs.Common.{arith, ap, sym, subst, ◌∙◌, length-append}
 use Rattle.std.proofs.lemmas.List.{append-nil, append_assoc, map-append}
+use Rattle.plain_laws.proofs.Lists.{All-weaker}
 use Rattle.task_order.specs.declared.start.Start.{Start}
 use Rattle.task_order.specs.declared.task.Task.{Task}
 use Rattle.task_order.specs.Key.{child_key, key_cmp}
@@ -16,7 +17,7 @@ use Rattle.level_walk.specs.declared.level.Level.{Level}
 use Rattle.level_walk.specs.Walks.{vertex_count}
 use Rattle.level_search.specs.Basis.{Basis}
 use Rattle.level_search.specs.Turns.{Left, visited}
-use Rattle.level_search.proofs.Acting.{AreVisitsAt, IsBeforeChildren, IsVisitAt, act, all_weaker, before_children, cells_after, children_after, children_last, entries_after, lower_before, vertices_of}
+use Rattle.level_search.proofs.Acting.{AreVisitsAt, IsBeforeChildren, IsVisitAt, act, before_children, cells_after, children_after, children_last, entries_after, lower_before, vertices_of}
 use Rattle.level_search.proofs.OneVisit.{IsNext, all_children, cells_stay, children_are, children_ascend, prios_are, visit_leaves, visited_by_children}
 
 -- ---- lists of tasks
@@ -65,7 +66,7 @@ module _ (pattern : Pattern) (is-pattern : IsPattern pattern) (level : ℕ) wher
       → AllByRecursion (IsVisitAt pattern (suc level)) (children_after pattern tasks cells)
   next_each tasks cells visits count =
       all_after (IsVisitAt pattern (suc level)) tasks cells visits
-      (all_weaker (IsVisitAt pattern level) (λ task. (number : ℕ) (start : Start) → IsNext pattern level start → IsVisitAt pattern (suc level) (record { key = child_key task.key number start.prio; body = start.body })) (λ task visit number start next. record { visit = next.visit; at_level = next.prio; deep = let long = length-append task.key.path (number ∷ []) in omega (arith, long, visit.deep) })
+      (All-weaker (IsVisitAt pattern level) (λ task. (number : ℕ) (start : Start) → IsNext pattern level start → IsVisitAt pattern (suc level) (record { key = child_key task.key number start.prio; body = start.body })) (λ task visit number start next. record { visit = next.visit; at_level = next.prio; deep = let long = length-append task.key.path (number ∷ []) in omega (arith, long, visit.deep) })
       tasks visits)
       count
 
@@ -83,7 +84,7 @@ module _ (pattern : Pattern) (is-pattern : IsPattern pattern) (level : ℕ) wher
       (next_ascend basis tasks outcome.cells visits.1 up.1 still)
       (all_children task.key (λ child. AllByRecursion (λ other. key_cmp child.key other.key ≡ Less) rest) (IsNext pattern level)
       (λ number start next. all_after (λ other. key_cmp (child_key task.key number start.prio) other.key ≡ Less) tasks outcome.cells visits.1
-      (all_weaker (λ other. IsBeforeChildren other.key (suc level) (record { key = child_key task.key number start.prio; body = start.body }))
+      (All-weaker (λ other. IsBeforeChildren other.key (suc level) (record { key = child_key task.key number start.prio; body = start.body }))
       (λ other. (second : ℕ) (next_start : Start) → IsNext pattern level next_start → key_cmp (child_key task.key number start.prio) (child_key other.key second next_start.prio) ≡ Less) (λ other before second next_start is. subst (λ (p : ℕ). key_cmp (child_key task.key number start.prio) (child_key other.key second p) ≡ Less) (sym is.prio) (before second))
       tasks
       (later_are pattern level task tasks visits.0 visits.1 up.0 number start next))
@@ -138,7 +139,7 @@ module _ (pattern : Pattern) (is-pattern : IsPattern pattern) (basis : Basis) wh
       let one : suc (length tasks) ≡ 1 + length tasks = omega arith in
       let are : AllByRecursion (IsNext pattern level) outcome.children = children_are pattern is-pattern level task e.cells visits.0 count in
       let here : AllByRecursion (IsBeforeChildren task.key (suc level)) tasks =
-      all_weaker (IsVisitAt pattern level) (IsBeforeChildren task.key (suc level)) (λ other visit. lower_before task.key (suc level) other (omega (arith, visit.at_level))) tasks visits.1 in
+      All-weaker (IsVisitAt pattern level) (IsBeforeChildren task.key (suc level)) (λ other visit. lower_before task.key (suc level) other (omega (arith, visit.at_level))) tasks visits.1 in
       let pending : after.pending ≡ tasks ++ (later ++ children) =
       children_last basis task.key 0 outcome.children (suc level) (tasks ++ later) (prios_are pattern level outcome.children are)
       (all_append (IsBeforeChildren task.key (suc level)) tasks later here before.0)

@@ -3,11 +3,12 @@ use Rattle.std.specs.Prelude.{◌≡◌, ℕ, ◌<◌, List, [], ◌∷◌, leng
 use Rattle.std.specs.List.{AllByRecursion}
 use Rattle.std.proofs.Common.{arith, ap, sym, subst, ◌∙◌, inl, inr}
 use Rattle.std.proofs.lemmas.Bool.{cases_eq}
+use Rattle.plain_laws.proofs.Lists.{get-set_same}
 use Rattle.task_order.specs.declared.task.Task.{Task}
 use Rattle.app_laws.specs.Execution.{Outcome}
 use Rattle.mtx_reader.specs.declared.pattern.Pattern.{Pattern}
 use Rattle.mtx_reader.specs.Patterns.{IsPattern}
-use Rattle.hook_app.specs.ValueLaws.{found, get-set_other, get-set_same}
+use Rattle.hook_app.specs.ValueLaws.{found, get-set_other}
 use Rattle.level_walk.specs.declared.level.Level.{Level}
 use Rattle.level_walk.specs.declared.level.Level.TheVariants.{Unset, At}
 use Rattle.level_walk.specs.Levels.{IsVisit}

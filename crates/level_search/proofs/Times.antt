@@ -1,19 +1,14 @@
 -- How often each vertex stands in the beginning of a list.
-use Rattle.std.specs.Prelude.{◌≡◌, ◌≢◌, ℕ, zero, suc, ◌+◌, ◌-◌, ◌<◌, ◌≤◌, ◌==◌, List, [], ◌∷◌, length, take, slice_set, refl}
+use Rattle.std.specs.Prelude.{◌≡◌, ◌≢◌, ℕ, suc, ◌+◌, ◌-◌, ◌<◌, ◌≤◌, ◌==◌, List, length, take, slice_set, refl}
 use Rattle.std.specs.List.{AllByRecursion}
 use Rattle.std.proofs.Common.{arith, ap, max, sym, ◌∙◌, inl, inr, get_or, length-set, get_or-set_other, get_or-set_same}
 use Rattle.std.proofs.lemmas.Grind.{get_or_default_zero}
 use Rattle.std.proofs.lemmas.List.{length-take}
 use Rattle.std.proofs.lemmas.Bool.{cases_eq, cases_lt, eq-eqb, ne_eqb}
 use Rattle.std.proofs.lemmas.List.Sums.{count_by-le-length, count_by_more_no, count_by_more_yes}
+use Rattle.plain_laws.proofs.Lists.{All-get_or}
 use Rattle.level_search.specs.Counts.{IsMost, times}
 use Rattle.level_search.specs.Turns.{IsVertexOf}
-
--- what stands at a place holds what all hold
-pub holds_at : {X : Type 0} (P : X → Type 0) (xs : List X) (i : ℕ) (d : X) → i < length xs → AllByRecursion P xs → P (get_or xs i d)
-holds_at P [] i d within all = absurd (omega (arith, within))
-holds_at P (x ∷ xs) zero d within all = all.0
-holds_at P (x ∷ xs) (suc i) d within all = holds_at P xs i d (omega (arith, within)) all.1
 
 -- the count at each place is how often the vertex of the place stands in the list
 pub record AreCounts (count : ℕ) (counts numbers : List ℕ) : Type 0 where
@@ -31,7 +26,7 @@ module _ (numbers : List ℕ) (i : ℕ) (within : i < length numbers) where
   module _ (count : ℕ) (counts : List ℕ) (all : AllByRecursion (IsVertexOf count) numbers) (are : AreCounts count counts (take i numbers))
       (old : ℕ) (old_is : old ≡ get_or counts (get_or numbers i 0 - 1) old) where
     vertex : IsVertexOf count (get_or numbers i 0)
-    vertex = holds_at (IsVertexOf count) numbers i 0 within all
+    vertex = All-get_or (IsVertexOf count) numbers i 0 within all
 
     next_is : get_or numbers i 0 ≡ suc (get_or numbers i 0 - 1)
     next_is = omega (arith, vertex.some)

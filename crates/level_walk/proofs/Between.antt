@@ -7,15 +7,10 @@ use Rattle.std.proofs.Common.{arith, ap, sym, subst, ◌∙◌, inl, inr, get_or
 use Rattle.std.proofs.lemmas.Bool.{cases_lt, cases_eq, cond-true, cond-false, cond_both}
 use Rattle.std.proofs.lemmas.Bool.Decides.{nat_tests}
 use Rattle.std.proofs.lemmas.List.FromFn.{get_or-map-range_with_len}
+use Rattle.plain_laws.proofs.Lists.{All-get_or, All-weaker, filter-none, length-filter_le}
 use Rattle.mtx_reader.specs.Ascending.{IsAscendingBy}
 use Rattle.mtx_reader.specs.Places.{Place, place_cmp, IsWithin}
 use Rattle.level_walk.specs.Edges.{edge_ends, edges_to}
-
--- what is so of each item is so of that at an index
-all_index : {X : Type 0} (P : X → Type 0) (xs : List X) (i : ℕ) (d : X) → i < length xs → AllByRecursion P xs → P (get_or xs i d)
-all_index P [] i d below all = absurd (omega arith)
-all_index P (x ∷ xs) zero d below all = all.0
-all_index P (x ∷ xs) (suc i) d below all = all_index P xs i d (omega arith) all.1
 
 -- a place that comes before another is in no later row, and in the same row in an earlier column
 earlier_row : (place other : Place) → place_cmp place other ≡ Less → place.0 ≤ other.0
@@ -28,7 +23,7 @@ earlier_column place other before same = grind (arith, nat_tests)
 pub rows_in_order : (places : List Place) → IsAscendingBy place_cmp places → IsNonDecreasingBy (λ (place : Place). place.0) places
 rows_in_order [] up i j d within below = absurd (omega arith)
 rows_in_order (place ∷ places) up zero zero d within below = omega arith
-rows_in_order (place ∷ places) up zero (suc j) d within below = earlier_row place (get_or places j d) (all_index (λ other. place_cmp place other ≡ Less) places j d (omega arith) up.0)
+rows_in_order (place ∷ places) up zero (suc j) d within below = earlier_row place (get_or places j d) (All-get_or (λ other. place_cmp place other ≡ Less) places j d (omega arith) up.0)
 rows_in_order (place ∷ places) up (suc i) zero d within below = absurd (omega arith)
 rows_in_order (place ∷ places) up (suc i) (suc j) d within below = rows_in_order places up.1 i j d (omega arith) (omega arith)
 
@@ -43,18 +38,9 @@ point_is p (x ∷ xs) (suc i) within at =
     let rest : i ≡ length (filter p xs) = point_is p xs i (omega arith) ((λ k d from below. at.0 (suc k) d (omega arith) (omega arith)), (λ k d from below. at.1 (suc k) d (omega arith) (omega arith))) in
     ap suc rest ∙ sym (ap length (cond-true (p x) (x ∷ filter p xs) (filter p xs) (at.0 zero x (omega arith) (omega arith))))
 
--- nothing passes a test that fails at each item
-none_pass : {X : Type 0} (p : X → Bool) (xs : List X) → AllByRecursion (λ x. p x ≡ false) xs → filter p xs ≡ []
-none_pass p [] all = refl
-none_pass p (x ∷ xs) all = cond-false (p x) (x ∷ filter p xs) (filter p xs) all.0 ∙ none_pass p xs all.1
-
-all_weaker : {X : Type 0} (P Q : X → Type 0) (xs : List X) → ((x : X) → P x → Q x) → AllByRecursion P xs → AllByRecursion Q xs
-all_weaker P Q [] weaker all = tt
-all_weaker P Q (x ∷ xs) weaker all = (weaker x all.0, all_weaker P Q xs weaker all.1)
-
 -- behind an edge at a vertex all others are at that vertex or a later one
 from_here : (edge : Place) (edges : List Place) (vertex : ℕ) → vertex < edge.0 → IsAscendingBy place_cmp (edge ∷ edges) → AllByRecursion (λ (other : Place). vertex < other.0) edges
-from_here edge edges vertex high up = all_weaker (λ other. place_cmp edge other ≡ Less) (λ other. vertex < other.0) edges (λ other before. omega (arith, earlier_row edge other before)) up.0
+from_here edge edges vertex high up = All-weaker (λ other. place_cmp edge other ≡ Less) (λ other. vertex < other.0) (λ other before. omega (arith, earlier_row edge other before)) edges up.0
 
 beyond : (vertex : ℕ) (edge : Place) → vertex < edge.0 → nat_le edge.0 vertex ≡ false
 beyond vertex edge high = grind (arith, nat_tests)
@@ -63,7 +49,7 @@ other_vertex : (vertex : ℕ) (edge : Place) → vertex < edge.0 → (edge.0 == 
 other_vertex vertex edge high = grind (arith, nat_tests)
 
 none_to : (edges : List Place) (vertex : ℕ) → AllByRecursion (λ (edge : Place). vertex < edge.0) edges → edges_to edges vertex ≡ 0
-none_to edges vertex high = ap length (none_pass (λ edge. nat_le edge.0 vertex) edges (all_weaker (λ edge. vertex < edge.0) (λ edge. nat_le edge.0 vertex ≡ false) edges (beyond vertex) high))
+none_to edges vertex high = ap length (filter-none (λ edge. nat_le edge.0 vertex) edges (All-weaker (λ edge. vertex < edge.0) (λ edge. nat_le edge.0 vertex ≡ false) (beyond vertex) edges high))
 
 -- the first edges are those that begin at the lowest vertex
 edges_first : (edges : List Place) (vertex : ℕ) → IsAscendingBy place_cmp edges → AllByRecursion (λ (edge : Place). vertex < edge.0) edges
@@ -78,7 +64,7 @@ edges_first (edge ∷ edges) vertex up high = elim (cases_eq edge.0 (suc vertex)
       let further : suc vertex < edge.0 = omega (arith, high.0, differs) in
       let all_further : AllByRecursion (λ (other : Place). suc vertex < other.0) (edge ∷ edges) = (further, from_here edge edges (suc vertex) further up) in
       ap (λ n. take n (edge ∷ edges)) (none_to (edge ∷ edges) (suc vertex) all_further)
-      ∙ sym (none_pass (λ other. other.0 == suc vertex) (edge ∷ edges) (all_weaker (λ other. suc vertex < other.0) (λ other. (other.0 == suc vertex) ≡ false) (edge ∷ edges) (other_vertex (suc vertex)) all_further))
+      ∙ sym (filter-none (λ other. other.0 == suc vertex) (edge ∷ edges) (All-weaker (λ other. suc vertex < other.0) (λ other. (other.0 == suc vertex) ≡ false) (other_vertex (suc vertex)) (edge ∷ edges) all_further))
 ]
 
 -- the edges that begin at a vertex are those between the ends of the vertex before it and of its own
@@ -146,10 +132,6 @@ few_from rows columns place (other ∷ places) few-rows few-columns within up = 
 pub few_places : (rows columns : ℕ) (places : List Place) → rows ≤ 4096 → columns ≤ 4096 → AllByRecursion (IsWithin rows columns) places → IsAscendingBy place_cmp places → length places ≤ 16_785_409
 few_places rows columns [] few-rows few-columns within up = omega arith
 few_places rows columns (place ∷ places) few-rows few-columns within up = omega (arith, few_from rows columns place places few-rows few-columns within up)
-
-pub length-filter_le : {X : Type 0} (p : X → Bool) (xs : List X) → length (filter p xs) ≤ length xs
-length-filter_le p [] = omega arith
-length-filter_le p (x ∷ xs) = cond_both (p x) (x ∷ filter p xs) (filter p xs) (λ ys. length ys ≤ length (x ∷ xs)) (λ kept. omega (arith, length-filter_le p xs)) (λ dropped. omega (arith, length-filter_le p xs))
 
 -- ---- the part of one vertex
 

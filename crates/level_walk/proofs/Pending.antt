@@ -1,16 +1,19 @@
 -- Pending tasks by their priorities alone.
-use Rattle.std.specs.Prelude.{◌≡◌, ℕ, suc, ◌≤◌, true, false, List, [], ◌∷◌, refl}
+use Rattle.std.specs.Prelude.{◌≡◌, ℕ, suc, ◌≤◌, false, List, [], ◌∷◌, refl}
 use Rattle.std.specs.List.{AllByRecursion}
 use Rattle.std.specs.Ordering.{is_lt}
 use Rattle.std.proofs.Common.{arith, ap, inl, inr, ◌⊎◌}
 use Rattle.std.proofs.lemmas.Bool.{cond_both}
 use Rattle.std.proofs.lemmas.Bool.Decides.{nat_tests}
+use Rattle.plain_laws.proofs.Lists.{All-weaker}
 use Rattle.task_order.specs.declared.key.Key.{Key}
 use Rattle.task_order.specs.declared.start.Start.{Start}
 use Rattle.task_order.specs.declared.task.Task.{Task}
 use Rattle.task_order.specs.Key.{key_cmp}
 use Rattle.task_order.specs.TaskList.{put_in, put_all}
+use Rattle.task_order.proofs.TaskLists.{AllByRecursion-put_in}
 use Rattle.app_laws.specs.Execution.{children_from}
+use Rattle.hook_app.proofs.SafeTasks.{earlier_prio}
 use Rattle.mtx_reader.specs.Ascending.{IsIn}
 
 -- priorities don't fall
@@ -18,27 +21,10 @@ abbrev pub IsByPriority : List Task → Type 0
 IsByPriority [] = Unit {0}
 IsByPriority (task ∷ tasks) = AllByRecursion (λ other. task.key.prio ≤ other.key.prio) tasks × IsByPriority tasks
 
-earlier_low : (a b : Key) → is_lt (key_cmp a b) ≡ true → a.prio ≤ b.prio
-earlier_low a b before = grind (arith, nat_tests)
-
 later_high : (a b : Key) → is_lt (key_cmp a b) ≡ false → b.prio ≤ a.prio
 later_high a b after = grind (arith, nat_tests)
 
 -- ---- what is so of each
-
-pub all_put : (P : Task → Type 0) (task : Task) (tasks : List Task) → P task → AllByRecursion P tasks → AllByRecursion P (put_in task tasks)
-all_put P task [] here all = (here, tt)
-all_put P task (other ∷ tasks) here all =
-    cond_both (is_lt (key_cmp other.key task.key)) (other ∷ put_in task tasks) (task ∷ other ∷ tasks) (AllByRecursion P)
-    (λ before. (all.0, all_put P task tasks here all.1)) (λ after. (here, all))
-
-pub all_put_all : (P : Task → Type 0) (new tasks : List Task) → AllByRecursion P new → AllByRecursion P tasks → AllByRecursion P (put_all new tasks)
-all_put_all P [] tasks fresh all = all
-all_put_all P (task ∷ new) tasks fresh all = all_put_all P new (put_in task tasks) fresh.1 (all_put P task tasks fresh.0 all)
-
-pub weaker_all : (P Q : Task → Type 0) (tasks : List Task) → ((task : Task) → P task → Q task) → AllByRecursion P tasks → AllByRecursion Q tasks
-weaker_all P Q [] weaker all = tt
-weaker_all P Q (task ∷ tasks) weaker all = (weaker task all.0, weaker_all P Q tasks weaker all.1)
 
 pub all_children : (P : Task → Type 0) (parent : Key) (number : ℕ) (starts : List Start) → ((task : Task) → IsIn starts (record { prio = task.key.prio; body = task.body }) → P task) → AllByRecursion P (children_from parent number starts)
 all_children P parent number [] each = tt
@@ -50,9 +36,9 @@ pub put_by_priority : (task : Task) (tasks : List Task) → IsByPriority tasks �
 put_by_priority task [] up = (tt, tt)
 put_by_priority task (other ∷ tasks) up =
     cond_both (is_lt (key_cmp other.key task.key)) (other ∷ put_in task tasks) (task ∷ other ∷ tasks) IsByPriority
-    (λ before. (all_put (λ (t : Task). other.key.prio ≤ t.key.prio) task tasks (earlier_low other.key task.key before) up.0, put_by_priority task tasks up.1))
+    (λ before. (AllByRecursion-put_in (λ (t : Task). other.key.prio ≤ t.key.prio) task tasks (earlier_prio other.key task.key before) up.0, put_by_priority task tasks up.1))
     (λ after. let low : task.key.prio ≤ other.key.prio = later_high other.key task.key after in
-    ((low, weaker_all (λ (t : Task). other.key.prio ≤ t.key.prio) (λ (t : Task). task.key.prio ≤ t.key.prio) tasks (λ t above. omega (arith, low, above)) up.0), up))
+    ((low, All-weaker (λ (t : Task). other.key.prio ≤ t.key.prio) (λ (t : Task). task.key.prio ≤ t.key.prio) (λ t above. omega (arith, low, above)) tasks up.0), up))
 
 pub put_all_by_priority : (new tasks : List Task) → IsByPriority tasks → IsByPriority (put_all new tasks)
 put_all_by_priority [] tasks up = up

@@ -5,21 +5,23 @@ use Rattle.std.proofs.Common.{arith, ap, sym, subst, ◌∙◌, inl, inr, ◌⊎
 use Rattle.std.proofs.lemmas.Bool.{cases_eq, cond-true, cond_both}
 use Rattle.std.proofs.lemmas.Bool.Decides.{nat_tests}
 use Rattle.std.proofs.lemmas.Option.{same_Some, slice_get_within}
+use Rattle.plain_laws.proofs.Lists.{All-weaker, get-set_same}
 use Rattle.task_order.specs.declared.start.Start.{Start}
 use Rattle.task_order.specs.declared.task.Task.{Task}
 use Rattle.task_order.specs.TaskList.{put_all}
+use Rattle.task_order.proofs.TaskLists.{AllByRecursion-put_all}
 use Rattle.app_laws.specs.Execution.{Execution, Outcome, acts, after_steps, children_from}
 use Rattle.mtx_reader.specs.declared.pattern.Pattern.{Pattern}
 use Rattle.mtx_reader.specs.Ascending.{IsIn, all_in, from_filter, from_map, in_filter, in_map}
 use Rattle.mtx_reader.specs.Patterns.{IsPattern}
 use Rattle.mtx_reader.specs.Places.{Place, IsWithin}
-use Rattle.hook_app.specs.ValueLaws.{found, get-set_other, get-set_same}
+use Rattle.hook_app.specs.ValueLaws.{found, get-set_other}
 use Rattle.level_walk.specs.declared.level.Level.{Level}
 use Rattle.level_walk.specs.declared.level.Level.TheVariants.{Unset, At}
 use Rattle.level_walk.specs.Levels.{IsVisit, levelling, most_level, next_visits, visit_of}
 use Rattle.level_walk.specs.VisitLaws.{act_is, set_again, visit_at}
 use Rattle.level_walk.specs.Walks.{HasEdge, HasWalk, IsWalk, edges_from, vertex_count}
-use Rattle.level_walk.proofs.Pending.{IsByPriority, all_children, all_put_all, child_there, comes_there, put_all_by_priority, stays_there, weaker_all}
+use Rattle.level_walk.proofs.Pending.{IsByPriority, all_children, child_there, comes_there, put_all_by_priority, stays_there}
 
 -- ---- cells
 
@@ -55,10 +57,6 @@ pub none_set : (count loc level : ℕ) → slice_get (replicate count Unset) loc
 none_set zero loc level is = cc
 none_set (suc count) zero level is = cc
 none_set (suc count) (suc loc) level is = none_set count loc level is
-
-pub length_unset : (count : ℕ) → length (replicate count Unset) ≡ count
-length_unset zero = refl
-length_unset (suc count) = ap suc (length_unset count)
 
 -- ---- walks
 
@@ -254,17 +252,17 @@ module _ (pattern : Pattern) (is-pattern : IsPattern pattern) (from : ℕ) where
     sets_level = record {
       count = length-set cells task.body.at (At task.key.prio) ∙ at.count;
       by_priority = put_all_by_priority (children_from task.key 0 visits_then) others at.by_priority.1;
-      due = all_put_all (IsDue pattern from cells_then) (children_from task.key 0 visits_then) others (all_children (IsDue pattern from cells_then) task.key 0 visits_then child_due)
-          (weaker_all (IsDue pattern from cells) (IsDue pattern from cells_then) others (λ other due. record { visit = due.visit; walk = due.walk; few = omega (arith, due.few, one_more) }) at.due.1);
+      due = AllByRecursion-put_all (IsDue pattern from cells_then) (children_from task.key 0 visits_then) others (all_children (IsDue pattern from cells_then) task.key 0 visits_then child_due)
+          (All-weaker (IsDue pattern from cells) (IsDue pattern from cells_then) (λ other due. record { visit = due.visit; walk = due.walk; few = omega (arith, due.few, one_more) }) others at.due.1);
       walked = λ loc l is. elim (set_then loc l is) [
         | inl here ↦ subst (λ (v : ℕ). HasWalk pattern from (suc v) l) (sym here.0) (subst (HasWalk pattern from (suc task.body.at)) (sym here.1) at.due.0.walk)
         | inr there ↦ at.walked loc l there.1
       ];
       no_higher = λ loc l is. elim (set_then loc l is) [
-        | inl here ↦ all_put_all (λ (t : Task). l ≤ t.key.prio) (children_from task.key 0 visits_then) others
+        | inl here ↦ AllByRecursion-put_all (λ (t : Task). l ≤ t.key.prio) (children_from task.key 0 visits_then) others
             (all_children (λ (t : Task). l ≤ t.key.prio) task.key 0 visits_then (λ child there. omega (arith, child_late child there, here.1)))
-            (weaker_all (λ (t : Task). task.key.prio ≤ t.key.prio) (λ (t : Task). l ≤ t.key.prio) others (λ t above. omega (arith, above, here.1)) at.by_priority.0)
-        | inr there ↦ all_put_all (λ (t : Task). l ≤ t.key.prio) (children_from task.key 0 visits_then) others
+            (All-weaker (λ (t : Task). task.key.prio ≤ t.key.prio) (λ (t : Task). l ≤ t.key.prio) (λ t above. omega (arith, above, here.1)) others at.by_priority.0)
+        | inr there ↦ AllByRecursion-put_all (λ (t : Task). l ≤ t.key.prio) (children_from task.key 0 visits_then) others
             (all_children (λ (t : Task). l ≤ t.key.prio) task.key 0 visits_then (λ child here. omega (arith, child_late child here, (at.no_higher loc l there.1).0)))
             (at.no_higher loc l there.1).1
       ];

@@ -5,7 +5,9 @@ use Rattle.std.specs.Option.{option_map}
 use Rattle.std.proofs.Common.{arith, sym, subst, ◌∙◌, inl, inr}
 use Rattle.std.proofs.lemmas.Bool.{cond_both}
 use Rattle.std.proofs.lemmas.Bool.Decides.{nat_tests}
+use Rattle.std.proofs.lemmas.List.{length-replicate}
 use Rattle.std.proofs.lemmas.Option.{same_Some, slice_get_within}
+use Rattle.plain_laws.proofs.Lists.{All-push}
 use Rattle.task_order.specs.declared.start.Start.{Start}
 use Rattle.task_order.specs.declared.task.Task.{Task}
 use Rattle.task_order.specs.Key.{end as never, is_before}
@@ -13,7 +15,6 @@ use Rattle.task_order.specs.TaskList.{put_all}
 use Rattle.app_laws.specs.Execution.{Execution, acts, after_steps, first_from, is_clear_before, start_of, steps_until}
 use Rattle.app_laws.specs.Laws.{IsFirstClear, StopsWhenClear}
 use Rattle.mtx_reader.specs.declared.pattern.Pattern.{Pattern}
-use Rattle.mtx_reader.specs.Ascending.{all_push}
 use Rattle.mtx_reader.specs.Patterns.{IsPattern}
 use Rattle.hook_app.specs.Hooked.{set_at, start_of_task}
 use Rattle.hook_app.specs.Values.{values_at}
@@ -23,7 +24,7 @@ use Rattle.level_walk.specs.declared.level.Level.TheVariants.{Unset, At}
 use Rattle.level_walk.specs.Laws.{IsVisitText, LevelsAreShortest, LogsAreVisits}
 use Rattle.level_walk.specs.Levels.{first_visits, levelling, start_levels, vertex_sets, visit_deed, visit_of}
 use Rattle.level_walk.specs.Walks.{HasEdge, HasWalk, IsShortest, IsWalk, vertex_count}
-use Rattle.level_walk.proofs.Searching.{IsComing, IsSearched, begins_within, edge_within, length_unset, none_set, steps_kept}
+use Rattle.level_walk.proofs.Searching.{IsComing, IsSearched, begins_within, edge_within, none_set, steps_kept}
 
 module _ (pattern : Pattern) (is-pattern : IsPattern pattern) (from : ℕ) (from-one : 1 ≤ from) where
   -- ---- the start
@@ -32,7 +33,7 @@ module _ (pattern : Pattern) (is-pattern : IsPattern pattern) (from : ℕ) (from
   start_searched =
       cond_both (nat_lt (vertex_count pattern) from) [] (visit_of 0 from ∷ []) (λ (first : List Start). IsSearched pattern from (start_levels pattern) (put_all (first_from 0 first) []))
       (λ beyond. record {
-        count = length_unset (vertex_count pattern);
+        count = length-replicate (vertex_count pattern) Unset;
         by_priority = tt;
         due = tt;
         walked = λ loc level is. absurd (none_set (vertex_count pattern) loc level is);
@@ -42,7 +43,7 @@ module _ (pattern : Pattern) (is-pattern : IsPattern pattern) (from : ℕ) (from
       })
       (λ among. let near : from ≤ vertex_count pattern = grind (arith, nat_tests, among) in
       let back : suc (from - 1) ≡ from = omega (arith, from-one) in record {
-        count = length_unset (vertex_count pattern);
+        count = length-replicate (vertex_count pattern) Unset;
         by_priority = (tt, tt);
         due = (
           record {
@@ -146,7 +147,7 @@ visits_logged : (pattern : Pattern) (e : Execution Level) (pending : List Task) 
     → AllByRecursion (λ (entry : Entry). IsVisitText entry.1) (acts (levelling pattern).act e pending).log
 visits_logged pattern e [] all = all
 visits_logged pattern e (task ∷ others) all =
-    all_push (λ (entry : Entry). IsVisitText entry.1) e.log (task.key, ((levelling pattern).act task e.cells).text) all (visit_texts pattern (start_of_task task) (values_at (set_at (vertex_sets (vertex_count pattern)) task.body.at) e.cells))
+    All-push (λ (entry : Entry). IsVisitText entry.1) e.log (task.key, ((levelling pattern).act task e.cells).text) all (visit_texts pattern (start_of_task task) (values_at (set_at (vertex_sets (vertex_count pattern)) task.body.at) e.cells))
 
 steps_logged : (pattern : Pattern) (steps : ℕ) (e : Execution Level) → AllByRecursion (λ (entry : Entry). IsVisitText entry.1) e.log
     → AllByRecursion (λ (entry : Entry). IsVisitText entry.1) (after_steps (levelling pattern).act steps e).log

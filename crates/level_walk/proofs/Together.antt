@@ -1,12 +1,14 @@
 -- That the deeds of a search belong together with its sets, and its start with both.
-use Rattle.std.specs.Prelude.{◌≡◌, ℕ, zero, suc, ◌+◌, ◌<◌, ◌≤◌, ◌==◌, ◌^◌, nat_lt, List, [], ◌∷◌, ◌++◌, length, map, replicate, codes, refl, Result, Ok, Err, IfOk}
+use Rattle.std.specs.Prelude.{◌≡◌, ℕ, zero, suc, ◌+◌, ◌<◌, ◌≤◌, ◌==◌, ◌^◌, nat_lt, List, [], ◌∷◌, ◌++◌, length, map, replicate, codes, refl}
 use Rattle.std.specs.Fmt.{decimal}
-use Rattle.std.specs.List.{AllByRecursion, range_with_len}
+use Rattle.std.specs.List.{AllByRecursion}
 use Rattle.std.proofs.Common.{arith, ap, sym, subst, lit<}
 use Rattle.std.proofs.lemmas.Bool.{cond_both}
 use Rattle.std.proofs.lemmas.Bool.Decides.{nat_tests}
-use Rattle.std.proofs.lemmas.List.{length-map}
+use Rattle.std.proofs.lemmas.List.{length-map, length-replicate}
 use Rattle.std.proofs.lemmas.List.FromFn.{get_or-map-range_with_len, length-map-range_with_len}
+use Rattle.plain_laws.proofs.Lists.{length-filter_le}
+use Rattle.plain_laws.proofs.Ranges.{All-map-range}
 use Rattle.task_order.specs.declared.start.Start.{Start}
 use Rattle.rw_sets.specs.Accesses.{Accesses, IsAscending, IsInRange}
 use Rattle.app_laws.specs.Applications.{AreFitStarts, IsWholeLines}
@@ -22,13 +24,8 @@ use Rattle.level_walk.specs.declared.level.Level.TheVariants.{Unset, At}
 use Rattle.level_walk.specs.Levels.{IsVisit, first_visits, levelling, most_level, start_levels, vertex_sets, visit_of, visited, walking}
 use Rattle.level_walk.specs.VisitLaws.{own_at}
 use Rattle.level_walk.specs.Walks.{edges_from, vertex_count}
-use Rattle.level_walk.proofs.Between.{few_places, length-filter_le}
-use Rattle.level_walk.proofs.Searching.{edge_within, length_unset}
-
--- what is so of each number of a range is so of what they are mapped to
-each_mapped : {X : Type 0} (P : X → Type 0) (f : ℕ → X) (first count : ℕ) → ((n : ℕ) → n < first + count → P (f n)) → AllByRecursion P (map f (range_with_len first count))
-each_mapped P f first zero each = tt
-each_mapped P f first (suc count) each = (each first (omega arith), each_mapped P f (first + 1) count (λ n below. each n (omega arith)))
+use Rattle.level_walk.proofs.Between.{few_places}
+use Rattle.level_walk.proofs.Searching.{edge_within}
 
 ends_with_line_feed : (text : List ℕ) → IsWholeLines (text ++ 10 ∷ [])
 ends_with_line_feed [] = refl
@@ -89,8 +86,8 @@ module _ (pattern : Pattern) (is-pattern : IsPattern pattern) where
 
   pub walking_together : FitTogether (walking pattern) (vertex_count pattern) (vertex_sets (vertex_count pattern)) 1
   walking_together = record {
-    ascending = each_mapped IsAscending own_set 0 (vertex_count pattern) (λ n below. own_ascending n);
-    below = each_mapped (λ (set : Accesses). IsInRange set (vertex_count pattern)) own_set 0 (vertex_count pattern) (λ n below. own_in_range n (vertex_count pattern) (omega (arith, below)));
+    ascending = All-map-range IsAscending own_set 0 (vertex_count pattern) (λ n below. own_ascending n);
+    below = All-map-range (λ (set : Accesses). IsInRange set (vertex_count pattern)) own_set 0 (vertex_count pattern) (λ n below. own_in_range n (vertex_count pattern) (omega (arith, below)));
     at_sets = λ prio body visit. let e = length-map-range_with_len own_set 0 (vertex_count pattern) in omega (arith, e, visit.vertex);
     deeds_fit = λ start values visit are.
         let one = one_value (walking pattern) (vertex_sets (vertex_count pattern)) start.body.at values (own_at (vertex_count pattern) start.body.at visit.vertex) are in
@@ -108,12 +105,7 @@ all_unset zero = tt
 all_unset (suc count) = (tt, all_unset count)
 
 pub start_fit : (pattern : Pattern) → FitTogether (walking pattern) (vertex_count pattern) (vertex_sets (vertex_count pattern)) 1 → (levelling pattern).is_fit_cells (start_levels pattern)
-start_fit pattern together = record { together = together; count = length_unset (vertex_count pattern); fit = all_unset (vertex_count pattern) }
+start_fit pattern together = record { together = together; count = length-replicate (vertex_count pattern) Unset; fit = all_unset (vertex_count pattern) }
 
 pub first_few : (pattern : Pattern) (from : ℕ) → length (first_visits pattern from) < 2 ^ 32
 first_few pattern from = cond_both (nat_lt (vertex_count pattern) from) [] (visit_of 0 from ∷ []) (λ (first : List Start). length first < 2 ^ 32) (λ beyond. lit< tt) (λ among. lit< tt)
-
--- what is so of a value follows from what else is so of it
-pub ok_then : {T E : Type 0} (result : Result T E) (P Q : T → Type 0) → ((value : T) → P value → Q value) → IfOk result P → IfOk result Q
-ok_then (Ok value) P Q implies is = implies value is
-ok_then (Err fault) P Q implies is = tt

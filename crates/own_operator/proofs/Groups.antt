@@ -1,12 +1,13 @@
 -- The deed of the operator, and what it leaves.
-use Rattle.std.proofs.Common.{◌≡◌, ◌+◌, ◌*◌, ◌/◌, ◌%◌, ◌<◌, ◌≤◌, ◌^◌, ℕ, zero, suc, true, false, cond, List, [], ◌∷◌, length, map, refl, sym, ap, subst, ◌∙◌, arith, lit<, add-one}
+use Rattle.std.proofs.Common.{◌≡◌, ◌+◌, ◌*◌, ◌/◌, ◌%◌, ◌<◌, ◌≤◌, ◌^◌, ℕ, true, false, cond, List, [], ◌∷◌, length, map, refl, sym, ap, subst, ◌∙◌, arith, lit<, add-one}
 use Rattle.std.specs.Prelude.{Result, nat_lt}
-use Rattle.std.specs.List.{AllByRecursion, range_with_len}
+use Rattle.std.specs.List.{AllByRecursion}
 use Rattle.std.proofs.Math.Nat.{mod-eq_of_lt, mul_assoc, pow-suc}
 use Rattle.std.proofs.lemmas.Bool.{cond_both}
 use Rattle.std.proofs.lemmas.Bool.Decides.{nat_tests}
 use Rattle.std.proofs.lemmas.List.FromFn.{get_or-map-range_with_len, length-map-range_with_len}
 use Rattle.std.proofs.lemmas.Nat.{le-div, mod_below, mul-le, mul-mod_first}
+use Rattle.plain_laws.proofs.Ranges.{All-map-range}
 use Rattle.task_order.specs.declared.start.Start.{Start}
 use Rattle.task_order.specs.declared.task.Body.{Body}
 use Rattle.task_order.specs.declared.task.Task.{Task}
@@ -39,11 +40,6 @@ multiplied_more value times =
     ∙ ap (multiplied value) (sym (add-one times))
 
 -- ---- the sets and the first tasks
-
--- what is so of each number of a range is so of what they are mapped to
-each_mapped : {X : Type 0} (P : X → Type 0) (f : ℕ → X) (first count : ℕ) → ((n : ℕ) → n < first + count → P (f n)) → AllByRecursion P (map f (range_with_len first count))
-each_mapped P f first zero each = tt
-each_mapped P f first (suc count) each = (each first (omega arith), each_mapped P f (first + 1) count (λ n below. each n (omega arith)))
 
 pub own_at : (groups at : ℕ) → at < groups → set_at (group_sets groups) at ≡ own_set at
 own_at groups at below = get_or-map-range_with_len own_set 0 groups at at [] below (omega arith)
@@ -86,8 +82,8 @@ mixed_fit mixer start values below are =
 -- the sets, the deed and the lookahead belong together
 pub mixing_together : (mixer : Mixer) → FitTogether (mixing mixer) mixer.groups (group_sets mixer.groups) mixer.lookahead
 mixing_together mixer = record {
-  ascending = each_mapped IsAscending own_set 0 mixer.groups (λ n below. own_ascending n);
-  below = each_mapped (λ (set : Accesses). IsInRange set mixer.groups) own_set 0 mixer.groups (λ n below. own_in_range n mixer.groups (omega (arith, below)));
+  ascending = All-map-range IsAscending own_set 0 mixer.groups (λ n below. own_ascending n);
+  below = All-map-range (λ (set : Accesses). IsInRange set mixer.groups) own_set 0 mixer.groups (λ n below. own_in_range n mixer.groups (omega (arith, below)));
   at_sets = λ prio body fit. let e = length-map-range_with_len own_set 0 mixer.groups in omega (arith, fit.0, e);
   deeds_fit = λ start values fit are. mixed_fit mixer start values fit.0 are;
 }
@@ -106,7 +102,7 @@ pub first_fit : (mixer does : Mixer) (tasks : List Start) → IsMixer mixer → 
 first_fit mixer does tasks is same are =
     subst (λ (m : Mixer). AllByRecursion (λ (start : Start). (start.body.at < m.groups) × (start.prio < end_of m)) tasks) (sym same)
     (subst (AllByRecursion (λ (start : Start). (start.body.at < mixer.groups) × (start.prio < end_of mixer))) (sym are)
-    (each_mapped (λ (start : Start). (start.body.at < mixer.groups) × (start.prio < end_of mixer)) (first_at mixer.lookahead) 0 mixer.groups
+    (All-map-range (λ (start : Start). (start.body.at < mixer.groups) × (start.prio < end_of mixer)) (first_at mixer.lookahead) 0 mixer.groups
     (λ n below. (omega (arith, below), first_before_end mixer n is))))
 
 pub first_few : (mixer : Mixer) (tasks : List Start) → IsMixer mixer → tasks ≡ group_tasks mixer.lookahead mixer.groups → length tasks < 2 ^ 32
