@@ -59,13 +59,13 @@ module _ (find : LookupsFindPairs) (set : Accesses) where
 
   free : (count base : ℕ) (sets : List Accesses) → AllByRecursion IsAscending sets → AllByRecursion (λ earlier. ¬ Conflicts earlier set) (take count sets)
       → (mark : Mark) → Contains (marks_from base sets) mark → Bars mark (base + count) set → ⊥
-  free count base [] ascending none mark has bars = none mark has
-  free zero base (s ∷ sets) ascending none mark has bars = let from = from_rank base (s ∷ sets) mark has in let low = bars.lower in omega (arith, from, low)
-  free (suc count) base (s ∷ sets) ascending none mark has bars = ⊎_elim
+  free count base [] ascending apart mark has bars = none mark has
+  free zero base (s ∷ sets) ascending apart mark has bars = let from = from_rank base (s ∷ sets) mark has in let low = bars.lower in omega (arith, from, low)
+  free (suc count) base (s ∷ sets) ascending apart mark has bars = ⊎_elim
       (λ first.
       let found : access_at s mark.loc ≡ Some mark.access = (find s mark.loc mark.access ascending.0).1 (to_pair base s mark first).0 in
-      none.0 (mark.loc, subst (λ (access : Option Access). IsTrue (clash access (access_at set mark.loc))) (sym found) bars.clashes))
-      (λ later. free count (suc base) sets ascending.1 none.1 mark later (record { lower = let low = bars.lower in omega (arith, low); clashes = bars.clashes }))
+      apart.0 (mark.loc, subst (λ (access : Option Access). IsTrue (clash access (access_at set mark.loc))) (sym found) bars.clashes))
+      (λ later. free count (suc base) sets ascending.1 apart.1 mark later (record { lower = let low = bars.lower in omega (arith, low); clashes = bars.clashes }))
       (Contains-append_cases (marks_of base s) (marks_from (suc base) sets) mark has)
 
 pub free_ranks : LookupsFindPairs → FreeRanksAreUnbarred
