@@ -1,7 +1,7 @@
 -- The claims of a worker, one after the other in a turn.
 use Rattle.std.proofs.Common.{◌≡◌, ◌≢◌, ◌==◌, Bool, true, false, ℕ, suc, List, [], ◌∷◌, length, refl, sym, ap, subst, ◌∙◌, eqb-true, true≢false}
 use Rattle.std.specs.List.{AllByRecursion}
-use Rattle.plain_laws.proofs.Lists.{empty_from_length}
+use Rattle.plain_laws.specs.Lists.{empty_from_length}
 use Rattle.app_laws.specs.Applications.{Application}
 use Rattle.crew.specs.Jobs.{MayRun}
 use Rattle.run_laws.specs.Jobs.{Job}

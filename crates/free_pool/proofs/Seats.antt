@@ -2,7 +2,7 @@
 use Rattle.std.proofs.Common.{get_or, ◌≡◌, ◌==◌, not, ℕ, suc, ◌<◌, List, [], ◌∷◌, ◌++◌, map, length, refl, sym, ap, subst, ◌∙◌, arith}
 use Rattle.std.specs.Prelude.{Contains, filter}
 use Rattle.std.specs.List.{AllByRecursion, AllZip}
-use Rattle.plain_laws.proofs.Lists.{All-push, All-pushed}
+use Rattle.plain_laws.specs.Lists.{All-push, All-pushed}
 use Rattle.graph_update.specs.Engine.{EngineState}
 use Rattle.worker_gate.specs.Steps.{both_views, first_half, second_half}
 use Rattle.worker_gate.specs.Turns.{HallState, SeatState}

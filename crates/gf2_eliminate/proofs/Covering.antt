@@ -3,7 +3,7 @@ use Rattle.std.specs.Prelude.{◌≡◌, ℕ, suc, ◌+◌, ◌-◌, ◌*◌, �
 use Rattle.std.proofs.Common.{◌⊎◌, inl, inr, arith, sym, ap, ◌∙◌, subst}
 use Rattle.std.proofs.lemmas.Bool.{cases_lt, eq-eqb, eqb-true, false_from_ne_true, le-ltb, lt-ltb, or_cases, or_from, or_left, or_right, true≢false}
 use Rattle.std.proofs.lemmas.List.{get_or-map}
-use Rattle.plain_laws.proofs.Bools.{same_tests}
+use Rattle.plain_laws.specs.Bools.{same_tests}
 use Rattle.rw_sets.specs.Accesses.{writes}
 use Rattle.cell_store.specs.declared.cell.Cell.{Cell}
 use Rattle.cell_store.specs.declared.cell.Cell.TheVariants.{Home, Out}

@@ -8,7 +8,7 @@ use Rattle.std.proofs.Common.{arith, sym, ap, ◌∙◌, subst, append_assoc}
 use Rattle.std.proofs.lemmas.Bool.Decides.{nat_tests}
 use Rattle.std.proofs.lemmas.Cmp.{nat_cmp_total, on_total, then_total}
 use Rattle.std.proofs.lemmas.List.Concat.{flat_map-append}
-use Rattle.plain_laws.proofs.Lists.{All-append, All-push}
+use Rattle.plain_laws.specs.Lists.{All-append, All-push}
 use Rattle.mtx_reader.specs.Ascending.{IsAscendingBy, all_in, all_from_in, ascending_push, nat_less, numbers_from}
 use Rattle.mtx_reader.specs.Patterns.{IsPattern}
 use Rattle.mtx_reader.specs.Places.{IsWithin, Place, place_cmp}

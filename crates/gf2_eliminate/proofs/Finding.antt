@@ -5,7 +5,7 @@ use Rattle.std.specs.Ordering.{nat_cmp}
 use Rattle.std.proofs.Common.{◌⊎◌, inl, inr, arith, sym, ap, ◌∙◌, append_assoc, get_or}
 use Rattle.std.proofs.lemmas.List.{map-append, map_more}
 use Rattle.std.proofs.lemmas.Bool.{eqb-true, eq-eqb, or_cases}
-use Rattle.plain_laws.proofs.Bools.{same_tests}
+use Rattle.plain_laws.specs.Bools.{same_tests}
 use Rattle.rw_sets.specs.declared.access.Access.TheVariants.{Write}
 use Rattle.cell_store.specs.declared.cell.Cell.{Cell}
 use Rattle.mtx_reader.specs.Ascending.{IsAscendingBy, all_in, all_from_in}

@@ -8,7 +8,7 @@ use Rattle.std.proofs.Common.{◌⊎◌, inl, inr, arith, sym, ap, ◌∙◌, su
 use Rattle.std.proofs.lemmas.Bool.{and_parts, and_from, cases_lt, cases_eq, eqb-true, eq-eqb, ne_eqb, lt-ltb, le-ltb}
 use Rattle.std.proofs.lemmas.List.{get_or-set_same, get_or-set_other, map-append, take_more, take-append-drop}
 use Rattle.std.proofs.lemmas.List.Elements.{filter-append}
-use Rattle.plain_laws.proofs.Bools.{same_tests}
+use Rattle.plain_laws.specs.Bools.{same_tests}
 use Rattle.task_order.specs.declared.start.Start.{Start}
 use Rattle.app_laws.specs.Applications.{AreFitStarts}
 use Rattle.mtx_reader.specs.declared.pattern.Pattern.{Pattern}

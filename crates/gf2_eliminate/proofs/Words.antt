@@ -8,7 +8,7 @@ use Rattle.std.proofs.Common.{◌⊎◌, inl, inr, arith, sym, ap, ◌∙◌, ge
 use Rattle.std.proofs.lemmas.Bool.{and_parts, and_from, and_right, cases_eq, cases_lt, eq-eqb, ne_eqb, or_right, true≢false, false_from_ne_true}
 use Rattle.std.proofs.lemmas.List.{get_or-set_other, get_or-set_same, get_or-take, get_or_past, length-take}
 use Rattle.std.proofs.lemmas.Nat.Bits.{bit_at-lt, bit_at-zero, bit_at_clear_other, bit_at_clear_same, bit_at_or, bit_at_set_other, bit_at_set_same, bit_at_xor, same_from_bits}
-use Rattle.plain_laws.proofs.Bools.{same_tests}
+use Rattle.plain_laws.specs.Bools.{same_tests}
 use Rattle.mtx_reader.specs.Ascending.{IsAscendingBy, numbers_from, all_in, all_from_in, in_filter, from_filter, in_numbers, ascending_filter, ascending_numbers, ascending_push, nat_less, same_numbers}
 use Rattle.gf2_eliminate.specs.Ones.{has_bit, places_of}
 use Rattle.gf2_eliminate.specs.Lines.{has, IsListTo}

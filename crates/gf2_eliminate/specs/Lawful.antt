@@ -7,7 +7,7 @@ use Rattle.std.proofs.Common.{◌⊎◌, inl, inr, arith, sym, ap, ◌∙◌, su
 use Rattle.std.proofs.lemmas.Bool.{and_parts, and_from, or_cases, or_left, or_right, eqb-true, eq-eqb, ne_eqb, lt-ltb, le-ltb, cases_Bool, cases_lt, true≢false, false_from_ne_true}
 use Rattle.std.proofs.lemmas.List.{get_or-map}
 use Rattle.std.proofs.lemmas.Option.{slice_get-get_or, slice_get_past}
-use Rattle.plain_laws.proofs.Bools.{and_false}
+use Rattle.plain_laws.specs.Bools.{and_false}
 use Rattle.rw_sets.specs.Accesses.{Accesses, IsAscending, access_at, writes, allows_write, merged, Conflicts, IsWithin}
 use Rattle.rw_sets.specs.declared.access.Access.{Access}
 use Rattle.rw_sets.specs.declared.access.Access.TheVariants.{Write}

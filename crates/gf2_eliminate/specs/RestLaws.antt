@@ -2,7 +2,7 @@
 use Rattle.std.specs.Prelude.{◌≡◌, ℕ, ◌<◌, false, not, ◌&&◌, ◌==◌, List, Option, Some, None, IsTrue, refl}
 use Rattle.std.proofs.Common.{◌⊎◌, inl, inr, sym, ap, ◌∙◌}
 use Rattle.std.proofs.lemmas.Bool.{true≢false, false_from_ne_true}
-use Rattle.plain_laws.proofs.Bools.{same_tests}
+use Rattle.plain_laws.specs.Bools.{same_tests}
 use Rattle.rw_sets.specs.Accesses.{writes}
 use Rattle.resting_tasks.specs.Resting.{SetsAreWritten, NoneHasChildren, EachIsSafe, RestIsKept, IsResting}
 use Rattle.gf2_eliminate.specs.declared.line.Line2.{Line2}

@@ -7,7 +7,7 @@ use Rattle.std.proofs.Common.{arith, sym, subst, ◌∙◌, Bool}
 use Rattle.std.proofs.lemmas.Bool.{and_parts, and_from}
 use Rattle.std.proofs.lemmas.Bool.Decides.{nat_tests}
 use Rattle.std.proofs.lemmas.List.Folds.{list_all-append, list_all-map}
-use Rattle.plain_laws.proofs.Lists.{All-get_or, All-middle, All-weaker}
+use Rattle.plain_laws.specs.Lists.{All-get_or, All-middle, All-weaker}
 use Rattle.task_order.specs.declared.key.Key.{Key}
 use Rattle.task_order.specs.declared.start.Start.{Start}
 use Rattle.task_order.specs.declared.task.Task.{Task}

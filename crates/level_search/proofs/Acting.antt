@@ -9,7 +9,7 @@ use Rattle.std.specs.declared.cmp.Ordering.TheVariants.{Less, Equal, Greater}
 use Rattle.std.proofs.Common.{arith, ap, sym, subst, ◌∙◌}
 use Rattle.std.proofs.lemmas.Bool.Decides.{nat_tests}
 use Rattle.std.proofs.lemmas.List.{append-nil, append_assoc}
-use Rattle.plain_laws.proofs.Lists.{All-push, All-weaker}
+use Rattle.plain_laws.specs.Lists.{All-push, All-weaker}
 use Rattle.task_order.specs.declared.key.Key.{Key}
 use Rattle.task_order.specs.declared.start.Start.{Start}
 use Rattle.task_order.specs.declared.task.Task.{Task}

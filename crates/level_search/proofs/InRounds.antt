@@ -2,7 +2,7 @@
 use Rattle.std.specs.Prelude.{◌≡◌, ◌≢◌, ℕ, zero, suc, ◌+◌, List, [], ◌∷◌, ◌++◌, length, refl}
 use Rattle.std.specs.List.{AllByRecursion}
 use Rattle.std.proofs.Common.{arith, ap, sym, subst, ◌∙◌, append-nil}
-use Rattle.plain_laws.proofs.Lists.{All-weaker}
+use Rattle.plain_laws.specs.Lists.{All-weaker}
 use Rattle.task_order.specs.declared.task.Task.{Task}
 use Rattle.commuting.specs.Rounds.{TakesRounds, after_round, clear_tasks}
 use Rattle.commuting.specs.States.{after_tasks, state_of}

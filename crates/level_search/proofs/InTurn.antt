@@ -4,7 +4,7 @@ use Rattle.std.specs.List.{AllByRecursion}
 use Rattle.std.specs.declared.cmp.Ordering.TheVariants.{Less}
 use Rattle.std.proofs.Common.{arith, ap, sym, subst, ◌∙◌, length-append}
 use Rattle.std.proofs.lemmas.List.{append-nil, append_assoc, map-append}
-use Rattle.plain_laws.proofs.Lists.{All-weaker}
+use Rattle.plain_laws.specs.Lists.{All-weaker}
 use Rattle.task_order.specs.declared.start.Start.{Start}
 use Rattle.task_order.specs.declared.task.Task.{Task}
 use Rattle.task_order.specs.Key.{child_key, key_cmp}

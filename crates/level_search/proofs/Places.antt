@@ -3,7 +3,7 @@ use Rattle.std.specs.Prelude.{◌≡◌, ℕ, ◌<◌, List, [], ◌∷◌, leng
 use Rattle.std.specs.List.{AllByRecursion}
 use Rattle.std.proofs.Common.{arith, ap, sym, subst, ◌∙◌, inl, inr}
 use Rattle.std.proofs.lemmas.Bool.{cases_eq}
-use Rattle.plain_laws.proofs.Lists.{get-set_same}
+use Rattle.plain_laws.specs.Lists.{get-set_same}
 use Rattle.task_order.specs.declared.task.Task.{Task}
 use Rattle.app_laws.specs.Execution.{Outcome}
 use Rattle.mtx_reader.specs.declared.pattern.Pattern.{Pattern}

@@ -6,7 +6,7 @@ use Rattle.std.proofs.lemmas.Grind.{get_or_default_zero}
 use Rattle.std.proofs.lemmas.List.{length-take}
 use Rattle.std.proofs.lemmas.Bool.{cases_eq, cases_lt, eq-eqb, ne_eqb}
 use Rattle.std.proofs.lemmas.List.Sums.{count_by-le-length, count_by_more_no, count_by_more_yes}
-use Rattle.plain_laws.proofs.Lists.{All-get_or}
+use Rattle.plain_laws.specs.Lists.{All-get_or}
 use Rattle.level_search.specs.Counts.{IsMost, times}
 use Rattle.level_search.specs.Turns.{IsVertexOf}
 

@@ -7,7 +7,7 @@ use Rattle.std.proofs.Common.{arith, ap, sym, subst, ◌∙◌, inl, inr, get_or
 use Rattle.std.proofs.lemmas.Bool.{cases_lt, cases_eq, cond-true, cond-false, cond_both}
 use Rattle.std.proofs.lemmas.Bool.Decides.{nat_tests}
 use Rattle.std.proofs.lemmas.List.FromFn.{get_or-map-range_with_len}
-use Rattle.plain_laws.proofs.Lists.{All-get_or, All-weaker, filter-none, length-filter_le}
+use Rattle.plain_laws.specs.Lists.{All-get_or, All-weaker, filter-none, length-filter_le}
 use Rattle.mtx_reader.specs.Ascending.{IsAscendingBy}
 use Rattle.mtx_reader.specs.Places.{Place, place_cmp, IsWithin}
 use Rattle.level_walk.specs.Edges.{edge_ends, edges_to}

@@ -7,8 +7,8 @@ use Rattle.std.proofs.lemmas.Bool.{cond_both}
 use Rattle.std.proofs.lemmas.Bool.Decides.{nat_tests}
 use Rattle.std.proofs.lemmas.List.{length-map, length-replicate}
 use Rattle.std.proofs.lemmas.List.FromFn.{get_or-map-range_with_len, length-map-range_with_len}
-use Rattle.plain_laws.proofs.Lists.{length-filter_le}
-use Rattle.plain_laws.proofs.Ranges.{All-map-range}
+use Rattle.plain_laws.specs.Lists.{length-filter_le}
+use Rattle.plain_laws.specs.Ranges.{All-map-range}
 use Rattle.task_order.specs.declared.start.Start.{Start}
 use Rattle.rw_sets.specs.Accesses.{Accesses, IsAscending, IsInRange}
 use Rattle.app_laws.specs.Applications.{AreFitStarts, IsWholeLines}

@@ -2,8 +2,8 @@
 use Rattle.std.proofs.Common.{◌≡◌, false, ℕ, ◌+◌, ◌-◌, ◌<◌, ◌≤◌, List, [], ◌∷◌, ◌++◌, length, Option, Some, None, refl, sym, ap, ◌∙◌, subst, arith, append-nil, append_assoc}
 use Rattle.std.specs.Prelude.{Contains, IsSomeAnd}
 use Rattle.std.specs.List.{AllByRecursion}
-use Rattle.plain_laws.proofs.Lists.{All-behind}
-use Rattle.plain_laws.proofs.Members.{all_at}
+use Rattle.plain_laws.specs.Lists.{All-behind}
+use Rattle.plain_laws.specs.Members.{all_at}
 use Rattle.task_order.specs.declared.key.Key.{Key}
 use Rattle.task_order.specs.declared.start.Start.{Start}
 use Rattle.task_order.specs.declared.task.Task.{Task}

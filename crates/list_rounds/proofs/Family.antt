@@ -4,8 +4,8 @@ use Rattle.std.specs.Prelude.{Contains}
 use Rattle.std.specs.List.{AllByRecursion}
 use Rattle.std.proofs.lemmas.List.{length-map}
 use Rattle.std.proofs.lemmas.List.Sorted.{IsPermutation-sym}
-use Rattle.plain_laws.proofs.Lists.{All-filter}
-use Rattle.plain_laws.proofs.Members.{all_at}
+use Rattle.plain_laws.specs.Lists.{All-filter}
+use Rattle.plain_laws.specs.Members.{all_at}
 use Rattle.task_order.specs.declared.key.Key.{Key}
 use Rattle.task_order.specs.declared.start.Start.{Start}
 use Rattle.task_order.specs.declared.task.Task.{Task}

@@ -5,8 +5,8 @@ use Rattle.std.specs.List.{AllByRecursion}
 use Rattle.std.specs.Ordering.{is_lt}
 use Rattle.std.specs.declared.cmp.Ordering.TheVariants.{Less}
 use Rattle.std.proofs.lemmas.List.Elements.{filter-append, filter_passes, recursion_from_All}
-use Rattle.plain_laws.proofs.Lists.{All-append, All-behind, All-weaker, filter-all, filter-none}
-use Rattle.plain_laws.proofs.Orderings.{less_from_test}
+use Rattle.plain_laws.specs.Lists.{All-append, All-behind, All-weaker, filter-all, filter-none}
+use Rattle.plain_laws.specs.Orderings.{less_from_test}
 use Rattle.task_order.specs.declared.key.Key.{Key}
 use Rattle.task_order.specs.declared.task.Task.{Task}
 use Rattle.task_order.specs.Key.{at_key, key_cmp}

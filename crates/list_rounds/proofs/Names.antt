@@ -5,8 +5,8 @@ use Rattle.std.specs.List.{AllByRecursion, flat_map}
 use Rattle.std.specs.declared.cmp.Ordering.TheVariants.{Less}
 use Rattle.std.proofs.lemmas.List.{length-map}
 use Rattle.std.proofs.lemmas.List.Folds.{flat_map-map}
-use Rattle.plain_laws.proofs.Lists.{All-behind, All-shuffled}
-use Rattle.plain_laws.proofs.Members.{all_at, all_from}
+use Rattle.plain_laws.specs.Lists.{All-behind, All-shuffled}
+use Rattle.plain_laws.specs.Members.{all_at, all_from}
 use Rattle.task_order.specs.declared.start.Start.{Start}
 use Rattle.task_order.specs.declared.task.Task.{Task}
 use Rattle.task_order.specs.Key.{end, key_cmp}

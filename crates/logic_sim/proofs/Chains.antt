@@ -3,7 +3,7 @@ use Rattle.std.proofs.Common.{◌≡◌, ◌∙◌, ℕ, zero, suc, replicate, l
 use Rattle.std.specs.List.{All, AllZip, range_with_len}
 use Rattle.std.proofs.lemmas.List.Elements.{All-nil, All-cons, All-map, All-weaker}
 use Rattle.std.proofs.lemmas.List.FromFn.{length-map-range_with_len, map-range_with_len_more}
-use Rattle.plain_laws.proofs.Ranges.{range-below}
+use Rattle.plain_laws.specs.Ranges.{range-below}
 use Rattle.bench_reader.specs.declared.deck.Signal.{Signal}
 use Rattle.bench_reader.specs.declared.deck.Stim.{Stim}
 use Rattle.bench_reader.specs.Decks.{IsDelayOf, IsSoundlyWired, IsStimFor, IsWired, inputs_of}

@@ -9,7 +9,7 @@ use Rattle.std.proofs.lemmas.List.Elements.{All-from_get_or}
 use Rattle.std.proofs.lemmas.List.Folds.{list_any-append, list_any_more}
 use Rattle.std.proofs.lemmas.Map.Keys.{IsDistinct-head, IsDistinct-push, IsDistinct-tail}
 use Rattle.std.proofs.lemmas.Map.Steps.{length-le_from_distinct_below}
-use Rattle.plain_laws.proofs.Bools.{or_true}
+use Rattle.plain_laws.specs.Bools.{or_true}
 use Rattle.logic_sim.specs.Queue.{AreAdded, IsQueue}
 use Rattle.logic_sim.specs.Wiring.{is_among}
 

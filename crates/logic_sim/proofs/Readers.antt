@@ -7,7 +7,7 @@ use Rattle.std.proofs.lemmas.List.{append-nil, get_or_read, get_or-replicate, ge
 use Rattle.std.proofs.lemmas.List.Elements.{All-from_get_or, All-from_recursion, All-same}
 use Rattle.std.proofs.lemmas.List.Folds.{list_any_more}
 use Rattle.std.proofs.lemmas.Option.{slice_get-get_or}
-use Rattle.plain_laws.proofs.Bools.{or_true}
+use Rattle.plain_laws.specs.Bools.{or_true}
 use Rattle.bench_reader.specs.Decks.{IsWired}
 use Rattle.bench_reader.specs.declared.deck.Form.{Form}
 use Rattle.bench_reader.specs.declared.deck.Form.TheVariants.{Input, Gate, Dff}

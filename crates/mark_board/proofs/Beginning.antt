@@ -3,7 +3,7 @@ use Rattle.std.proofs.Common.{◌≡◌, inr, ℕ, zero, suc, ◌+◌, ◌*◌, 
 use Rattle.std.specs.Prelude.{slice_index, slice_set}
 use Rattle.std.proofs.lemmas.List.{get_or-replicate, length-replicate}
 use mathlib.Core.Option.{some-injective, some-ne-none}
-use Rattle.plain_laws.proofs.Members.{none}
+use Rattle.plain_laws.specs.Members.{none}
 use Rattle.atomic_table.specs.Table.{opening}
 use Rattle.mark_board.specs.declared.view.View.{View}
 use Rattle.mark_board.specs.Board.{AreNumbered, BoardRule, IsAt, IsMarker, first_view}

@@ -8,8 +8,8 @@ use mathlib.Core.Option.{some}
 use lib.ListN.{get_elem?}
 use lib.Dec.{leb}
 use native.Mathlib.Decide.{ℕ_discrete}
-use Rattle.plain_laws.proofs.Members.{cases, here, none, there}
-use Rattle.plain_laws.proofs.Places.{at_inside}
+use Rattle.plain_laws.specs.Members.{cases, here, none, there}
+use Rattle.plain_laws.specs.Places.{at_inside}
 use Rattle.rw_sets.specs.declared.access.Access.{Access}
 use Rattle.rw_sets.specs.declared.access.Access.TheVariants.{Read, Write}
 use Rattle.rw_sets.specs.Accesses.{Accesses, IsAscending, IsInRange, access_at, clash, excludes}

@@ -1,7 +1,7 @@
 -- Where all markers are joined, the first one has the marks of all.
 use Rattle.std.proofs.Common.{◌≡◌, ⊎_elim, ℕ, zero, suc, ◌<◌, List, [], length, set, refl, sym, ap, subst, ◌∙◌, arith, false}
 use Rattle.std.specs.Prelude.{Contains, slice_index}
-use Rattle.plain_laws.proofs.Members.{none}
+use Rattle.plain_laws.specs.Members.{none}
 use Rattle.atomic_table.specs.Table.{Final, Seen, State}
 use Rattle.mark_board.specs.declared.view.View.{View}
 use Rattle.mark_board.specs.Board.{BoardRule, IsAt, IsMarker, spent_view}

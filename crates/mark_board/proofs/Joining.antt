@@ -2,8 +2,8 @@
 use Rattle.std.proofs.Common.{◌≡◌, ◌≢◌, ◌⊎◌, inl, inr, ⊎_elim, ◌==◌, not, cond, true, false, ℕ, zero, suc, ◌<◌, List, [], ◌∷◌, refl, sym, ap, subst, ◌∙◌, arith, length-set}
 use Rattle.std.specs.Prelude.{◌↔◌, Contains, slice_set}
 use mathlib.Core.Option.{some-injective}
-use Rattle.plain_laws.proofs.Lists.{All-filter}
-use Rattle.plain_laws.proofs.Without.{kept_from, kept_in}
+use Rattle.plain_laws.specs.Lists.{All-filter}
+use Rattle.plain_laws.specs.Without.{kept_from, kept_in}
 use Rattle.atomic_table.specs.Table.{Joins, State}
 use Rattle.atomic_table.proofs.Lists.{at_set, set_else}
 use Rattle.mark_board.specs.declared.view.View.{View}

@@ -4,7 +4,7 @@ use Rattle.std.specs.Prelude.{◌↔◌, Contains}
 use Rattle.std.proofs.lemmas.Bool.{true≢false}
 use mathlib.Core.Logic.{dite}
 use native.Mathlib.Decide.{ℕ_discrete}
-use Rattle.plain_laws.proofs.Places.{at_inside, at_one}
+use Rattle.plain_laws.specs.Places.{at_inside, at_one}
 use Rattle.atomic_table.proofs.Lists.{at_set, set_else, set_here}
 use Rattle.mark_board.specs.declared.view.View.{View}
 use Rattle.mark_board.specs.Board.{AreNumbered, EachOnce, IsAt, IsMarker, IsUnjoined, spent_view}

@@ -4,7 +4,7 @@ use Rattle.std.specs.Prelude.{Contains}
 use Rattle.std.specs.List.{AllByRecursion}
 use Rattle.std.proofs.lemmas.Bool.{false≢true}
 use Rattle.std.proofs.lemmas.List.Elements.{Contains-append_cases, Contains-append_left, Contains-append_right}
-use Rattle.plain_laws.proofs.Members.{cases, here, none, there}
+use Rattle.plain_laws.specs.Members.{cases, here, none, there}
 use Rattle.rw_sets.specs.declared.access.Access.{Access}
 use Rattle.rw_sets.specs.Accesses.{Accesses, Conflicts, IsAscending, access_at, clash}
 use Rattle.rw_sets.specs.Laws.{LookupsFindPairs}

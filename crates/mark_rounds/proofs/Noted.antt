@@ -4,8 +4,8 @@ use Rattle.std.specs.Prelude.{Contains, IsSome, slice_get, slice_set}
 use Rattle.std.proofs.lemmas.Bool.{cases_eq, true≢false}
 use Rattle.std.proofs.lemmas.List.{length-set}
 use Rattle.std.proofs.lemmas.List.Elements.{Contains-get_or}
-use Rattle.plain_laws.proofs.Lists.{get-set_same}
-use Rattle.plain_laws.proofs.Members.{cases, none}
+use Rattle.plain_laws.specs.Lists.{get-set_same}
+use Rattle.plain_laws.specs.Members.{cases, none}
 use Rattle.rw_sets.specs.declared.access.Access.{Access}
 use Rattle.rw_sets.specs.declared.access.Access.TheVariants.{Read, Write}
 use Rattle.rw_sets.specs.Accesses.{Accesses, access_at, allows_write, is_write, IsAscending, IsInRange, writes}

@@ -4,7 +4,7 @@ use Rattle.std.specs.List.{AllByRecursion}
 use Rattle.std.specs.Option.{option_or, option_map}
 use Rattle.std.proofs.Common.{arith, ap, sym, ◌∙◌, subst, append_assoc, append-nil, length-append, zero-add}
 use Rattle.std.proofs.lemmas.Bool.{cond_both, eqb-true, lt-ltb, le-ltb, ltb-false}
-use Rattle.plain_laws.proofs.Lists.{All-append}
+use Rattle.plain_laws.specs.Lists.{All-append}
 use Rattle.kdg_text.specs.declared.fault.LineFault.{LineFault}
 use Rattle.kdg_text.specs.Faults.{Numbered, fault_on, first_fault_after}
 use Rattle.mtx_reader.specs.declared.banner.Banner.{Banner}

@@ -9,7 +9,7 @@ use Rattle.std.proofs.Common.{◌⊎◌, inl, inr, arith, sym, ap, ◌∙◌, su
 use Rattle.std.proofs.lemmas.Bool.{cond_both, cond-true, cases_eq}
 use Rattle.std.proofs.lemmas.Bool.Decides.{nat_tests}
 use Rattle.std.proofs.lemmas.Cmp.{ranked, tied_itself, nat_cmp_total}
-use Rattle.plain_laws.proofs.Lists.{All-push}
+use Rattle.plain_laws.specs.Lists.{All-push}
 
 -- each item comes before each after it
 abbrev pub IsAscendingBy : {X : Type 0} → (X → X → Ordering) → List X → Type 0

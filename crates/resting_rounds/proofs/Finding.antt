@@ -4,7 +4,7 @@ use Rattle.std.specs.Prelude.{slice_get, IfSome, IfNone}
 use Rattle.std.specs.List.{AllByRecursion, filter}
 use Rattle.std.proofs.lemmas.List.Elements.{filter-append}
 use Rattle.std.proofs.lemmas.List.Folds.{list_any-append}
-use Rattle.plain_laws.proofs.Lists.{All-push}
+use Rattle.plain_laws.specs.Lists.{All-push}
 use Rattle.task_order.specs.declared.task.Task.{Task}
 use Rattle.task_order.specs.TaskList.{tasks_before}
 use Rattle.rw_sets.specs.Accesses.{writes}

@@ -5,7 +5,7 @@ use Rattle.std.proofs.Common.{arith, lit<, ap, ◌∙◌, subst}
 use Rattle.std.proofs.lemmas.Bool.{cond_both}
 use Rattle.std.proofs.lemmas.Bool.Decides.{nat_tests}
 use Rattle.std.proofs.lemmas.List.{length-set}
-use Rattle.plain_laws.proofs.Lists.{All-filter}
+use Rattle.plain_laws.specs.Lists.{All-filter}
 use Rattle.task_order.specs.declared.start.Start.{Start}
 use Rattle.task_order.specs.declared.task.Body.{Body}
 use Rattle.task_order.specs.declared.task.Task.{Task}

@@ -9,9 +9,9 @@ use Rattle.std.proofs.lemmas.Bool.{true≢false}
 use Rattle.std.proofs.lemmas.List.{length-map}
 use Rattle.std.proofs.lemmas.List.Elements.{filter-append}
 use Rattle.std.proofs.lemmas.Option.{same_Some}
-use Rattle.plain_laws.proofs.Orderings.{not_less}
+use Rattle.plain_laws.specs.Orderings.{not_less}
 use Rattle.kdg_graph.proofs.Marks.{filter_again}
-use Rattle.plain_laws.proofs.Lists.{filter-none}
+use Rattle.plain_laws.specs.Lists.{filter-none}
 use Rattle.task_order.specs.declared.key.Key.{Key}
 use Rattle.task_order.specs.declared.task.Task.{Task}
 use Rattle.task_order.specs.Key.{Bound, at_key, end, is_before, key_cmp}

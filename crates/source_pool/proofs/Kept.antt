@@ -7,7 +7,7 @@ use Rattle.std.specs.declared.cmp.Ordering.TheVariants.{Less}
 use Rattle.std.proofs.lemmas.List.{length-map}
 use Rattle.std.proofs.lemmas.Option.{same_Some}
 use Rattle.kdg_graph.proofs.KeyOrder.{turned}
-use Rattle.plain_laws.proofs.Orderings.{not_less}
+use Rattle.plain_laws.specs.Orderings.{not_less}
 use Rattle.task_order.specs.declared.key.Key.{Key}
 use Rattle.task_order.specs.declared.task.Task.{Task}
 use Rattle.task_order.specs.Key.{Bound, at_key, is_before, key_cmp}

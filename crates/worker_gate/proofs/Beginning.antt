@@ -3,7 +3,7 @@ use Rattle.std.proofs.Common.{◌≡◌, inr, ℕ, zero, suc, [], ◌∷◌, Som
 use Rattle.std.specs.declared.alloc.Global.{Global}
 use Rattle.std.specs.declared.boxed.Box.{Box}
 use mathlib.Core.Option.{some-injective, some-ne-none}
-use Rattle.plain_laws.proofs.Members.{none}
+use Rattle.plain_laws.specs.Members.{none}
 use Rattle.atomic_table.specs.Table.{opening}
 use Rattle.app_laws.specs.Applications.{Application}
 use Rattle.run_laws.specs.Rest.{IdleIsSound, NoneRuns}

@@ -8,8 +8,8 @@ use Rattle.std.specs.declared.boxed.Box.{Box}
 use mathlib.Core.Option as optional
 use mathlib.Core.Option.{some, some-injective, some-ne-none}
 use lib.ListN.{get_elem?}
-use Rattle.plain_laws.proofs.Members.{none}
-use Rattle.plain_laws.proofs.Places.{at_one}
+use Rattle.plain_laws.specs.Members.{none}
+use Rattle.plain_laws.specs.Places.{at_one}
 use Rattle.atomic_table.specs.Table.{Final, Seen as SeesView, State}
 use Rattle.app_laws.specs.Applications.{Application}
 use Rattle.crew.specs.declared.answers.OverCause.{OverCause}

@@ -6,7 +6,7 @@ use Rattle.std.specs.Option.{option_or}
 use mathlib.Core.Option.{some, some-injective}
 use lib.ListN.{get_elem?}
 use Rattle.run_laws.specs.Lists.{pairwise-filter}
-use Rattle.plain_laws.proofs.Without.{kept_from, kept_in}
+use Rattle.plain_laws.specs.Without.{kept_from, kept_in}
 use Rattle.atomic_table.specs.Table.{Joins, State}
 use Rattle.atomic_table.proofs.Lists.{at_set, set_else}
 use Rattle.std.proofs.lemmas.List.Sorted.{IsPermutation-append_right, IsPermutation-trans}

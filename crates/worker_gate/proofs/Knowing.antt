@@ -6,7 +6,7 @@ use Rattle.std.specs.Option.{option_or}
 use Rattle.std.specs.Ordering.{is_lt}
 use Rattle.std.proofs.lemmas.Bool.{and_parts, true≢false}
 use Rattle.std.specs.declared.cmp.Ordering.TheVariants.{Less}
-use Rattle.plain_laws.proofs.Lists.{All-front, All-map, All-shuffled}
+use Rattle.plain_laws.specs.Lists.{All-front, All-map, All-shuffled}
 use Rattle.task_order.specs.declared.key.Key.{Key}
 use Rattle.task_order.specs.Key.{key_cmp}
 use Rattle.rw_sets.specs.Accesses.{Conflicts, conflicts_with}

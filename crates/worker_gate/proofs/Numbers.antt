@@ -3,7 +3,7 @@ use Rattle.std.proofs.Common.{◌≡◌, ◌≢◌, ◌⊎◌, inr, ⊎_elim, �
 use Rattle.std.specs.Prelude.{◌↔◌, Contains}
 use mathlib.Core.Logic.{dite}
 use native.Mathlib.Decide.{ℕ_discrete}
-use Rattle.plain_laws.proofs.Places.{at_inside, at_one}
+use Rattle.plain_laws.specs.Places.{at_inside, at_one}
 use Rattle.atomic_table.proofs.Lists.{at_set, set_else, set_here}
 use Rattle.app_laws.specs.Order.{Pairwise}
 use Rattle.worker_gate.specs.declared.view.View.{View}

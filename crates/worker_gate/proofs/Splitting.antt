@@ -1,9 +1,9 @@
 -- Where a seat is split from the first one, the rule is kept: the new seat has the next number.
 use Rattle.std.proofs.Common.{◌≡◌, ◌≢◌, ◌⊎◌, inr, ⊎_elim, ℕ, suc, ◌+◌, ◌<◌, ◌^◌, List, [], ◌∷◌, ◌++◌, Some, None, length, refl, sym, ap, subst, ◌∙◌, arith, length-set}
 use Rattle.std.specs.Prelude.{◌↔◌, Contains, slice_set}
-use Rattle.plain_laws.proofs.Without.{all_apart}
-use Rattle.plain_laws.proofs.Members.{cases, here, there}
-use Rattle.plain_laws.proofs.Places.{at_end, at_inside}
+use Rattle.plain_laws.specs.Without.{all_apart}
+use Rattle.plain_laws.specs.Members.{cases, here, there}
+use Rattle.plain_laws.specs.Places.{at_end, at_inside}
 use Rattle.atomic_table.specs.Table.{Splits, State}
 use Rattle.atomic_table.proofs.Lists.{at_last, at_longer}
 use Rattle.app_laws.specs.Applications.{Application}

@@ -6,7 +6,7 @@ use Rattle.std.specs.Option.{option_or}
 use Rattle.std.proofs.lemmas.List.Sorted.{IsPermutation-append_comm, IsPermutation-append_left, IsPermutation-append_right, IsPermutation-refl, IsPermutation-sym, IsPermutation-trans}
 use mathlib.Core.Option.{some, some-injective, some-ne-none}
 use lib.ListN.{get_elem?}
-use Rattle.plain_laws.proofs.Places.{at_inside, set_twice}
+use Rattle.plain_laws.specs.Places.{at_inside, set_twice}
 use Rattle.atomic_table.proofs.Lists.{set_here}
 use Rattle.crew.specs.declared.answers.OverCause.{OverCause}
 use Rattle.worker_gate.specs.declared.view.View.{View}

@@ -6,7 +6,7 @@ use Rattle.std.specs.declared.boxed.Box.{Box}
 use mathlib.Core.Option.{none, some}
 use mathlib.Core.Option as optional
 use prog.Atomic.{either}
-use Rattle.plain_laws.proofs.Places.{at_inside}
+use Rattle.plain_laws.specs.Places.{at_inside}
 use Rattle.atomic_table.proofs.Lists.{exchanged}
 use lib.ListN.{get_elem?}
 use Rattle.atomic_table.specs.Table.{Act, Allows, Me, State, Valid, carried_after, homes_after, step}

@@ -1,5 +1,5 @@
 use Rattle.std.proofs.Common.{arith}
-use Rattle.plain_laws.proofs.Lists.{nothing_left}
+use Rattle.plain_laws.specs.Lists.{nothing_left}
 use Rattle.worker_gate.specs.declared.post.Post.{Post}
 use Rattle.free_pool.proofs.Seats.{joining_begins, joining_ends, joining_goes_on, last_here, last_unjoined}
 use Rattle.free_pool.proofs.team.joined.Goals as goal

@@ -1,5 +1,5 @@
 use Rattle.std.proofs.Common.{◌≡◌, ◌-◌, Option, Some, rules}
-use Rattle.plain_laws.proofs.Options.{if_some_at}
+use Rattle.plain_laws.specs.Options.{if_some_at}
 use Rattle.worker_gate.specs.declared.post.Post.{Post}
 use Rattle.free_pool.proofs.Seats.{team_after}
 use Rattle.free_pool.proofs.team.work_together.Goals as goal

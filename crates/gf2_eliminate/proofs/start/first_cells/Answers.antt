@@ -1,7 +1,7 @@
 use Rattle.std.specs.Prelude.{◌≡◌, ◌+◌, ◌-◌, ◌++◌, [], ◌∷◌, List, length, take}
 use Rattle.std.proofs.Common.{arith, sym, ap, ◌∙◌, subst, get_or, length-set}
 use Rattle.std.proofs.lemmas.List.{take_all, take_more}
-use Rattle.plain_laws.proofs.Lists.{All-get_or}
+use Rattle.plain_laws.specs.Lists.{All-get_or}
 use Rattle.mtx_reader.specs.Ascending.{IsAscendingBy}
 use Rattle.mtx_reader.specs.Places.{Place, place_cmp, IsWithin}
 use Rattle.gf2_eliminate.specs.Lines.{line_at}

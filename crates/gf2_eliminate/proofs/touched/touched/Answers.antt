@@ -2,7 +2,7 @@ use Rattle.std.specs.Prelude.{◌≡◌, ◌+◌, ◌-◌, ◌≤◌, ◌++◌, 
 use Rattle.std.specs.List.{AllByRecursion}
 use Rattle.std.proofs.Common.{arith, sym, ap, ◌∙◌, subst, append-nil, get_or}
 use Rattle.std.proofs.lemmas.List.{take_all}
-use Rattle.plain_laws.proofs.Lists.{All-get_or}
+use Rattle.plain_laws.specs.Lists.{All-get_or}
 use Rattle.rw_sets.specs.Accesses.{Accesses}
 use Rattle.rw_sets.specs.declared.access.Access.TheVariants.{Write}
 use Rattle.mtx_reader.specs.Ascending.{numbers_from}

@@ -1,6 +1,6 @@
 use Rattle.std.proofs.Common.{◌≡◌, Some, true, refl}
 use Rattle.std.specs.Prelude.{slice_index_or}
-use Rattle.plain_laws.proofs.Options.{if_some_at}
+use Rattle.plain_laws.specs.Options.{if_some_at}
 use Rattle.cell_store.specs.Values.{values_of}
 use Rattle.commuting.specs.Rounds.{is_clear}
 use Rattle.resting_rounds.specs.declared.waiting.Waiting.{Waiting}

@@ -1,6 +1,6 @@
 use Rattle.std.proofs.Common.{◌≡◌, sym, ap, subst, ◌∙◌}
 use Rattle.std.specs.List.{AllByRecursion}
-use Rattle.plain_laws.proofs.Lists.{All-push}
+use Rattle.plain_laws.specs.Lists.{All-push}
 use Rattle.run_laws.specs.Answers.{IsClaimAnswer}
 use Rattle.graph_update.specs.Engine.{IsToRun}
 use Rattle.crew.specs.Jobs.{MayRun}

@@ -1,6 +1,6 @@
 use Rattle.std.proofs.Common.{refl, sym, subst, ◌∙◌, arith}
 use Rattle.std.proofs.lemmas.Result.{err_from_is_err_and}
-use Rattle.plain_laws.proofs.Lists.{nothing_left}
+use Rattle.plain_laws.specs.Lists.{nothing_left}
 use Rattle.run_laws.specs.Answers.{IsFinishRefusal}
 use Rattle.run_laws.specs.Events.{IsFinished, IsOverLimit}
 use Rattle.run_laws.specs.Laws.{IsDone}

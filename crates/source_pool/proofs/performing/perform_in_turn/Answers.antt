@@ -1,6 +1,6 @@
 use Rattle.std.proofs.Common.{◌∙◌, List, arith, refl, subst}
 use Rattle.std.specs.List.{AllByRecursion}
-use Rattle.plain_laws.proofs.Lists.{nothing_left}
+use Rattle.plain_laws.specs.Lists.{nothing_left}
 use Rattle.run_laws.specs.Jobs.{Done, Job}
 use Rattle.crew.specs.Jobs.{MayRun}
 use Rattle.source_pool.specs.Course.{IsJobDone}

@@ -1,6 +1,6 @@
 use Rattle.std.specs.Prelude.{◌≡◌}
 use Rattle.std.proofs.Common.{◌∙◌, ap, sym, subst}
-use Rattle.plain_laws.proofs.Options.{if_ok-weaker}
+use Rattle.plain_laws.specs.Options.{if_ok-weaker}
 use Rattle.gf2_eliminate.specs.Lines.{AreLines}
 use Rattle.gf2_eliminate.specs.Start.{start_cells}
 use Rattle.gf2_eliminate.proofs.FirstCells.{start_fit}

@@ -1,6 +1,6 @@
 use Rattle.std.specs.Prelude.{◌≡◌, ◌<◌, ◌^◌, length, map}
 use Rattle.std.proofs.Common.{◌∙◌, arith, ap, sym, subst}
-use Rattle.plain_laws.proofs.Options.{if_ok-weaker}
+use Rattle.plain_laws.specs.Options.{if_ok-weaker}
 use Rattle.app_laws.specs.Applications.{AreFitStarts}
 use Rattle.mtx_reader.specs.Ascending.{numbers_from}
 use Rattle.mtx_reader.specs.declared.pattern.Pattern.{Pattern}

@@ -1,6 +1,6 @@
 use Rattle.std.proofs.Common.{◌≡◌, ap, subst, sym, ◌∙◌, ℕ}
 use Rattle.std.specs.Prelude.{replicate}
-use Rattle.plain_laws.proofs.Options.{if_ok-weaker}
+use Rattle.plain_laws.specs.Options.{if_ok-weaker}
 use Rattle.level_walk.specs.declared.level.Level.TheVariants.{Unset}
 use Rattle.level_walk.specs.Levels.{levelling}
 use Rattle.level_walk.proofs.Together.{start_fit}

@@ -1,6 +1,6 @@
 use Rattle.std.proofs.Common.{◌≡◌, ◌≢◌, ◌+◌, List, [], ◌∷◌, length, drop, sym, ap, ◌∙◌, subst, arith}
 use Rattle.std.proofs.lemmas.Result.{err_from_is_err_and}
-use Rattle.plain_laws.proofs.Lists.{nothing_left}
+use Rattle.plain_laws.specs.Lists.{nothing_left}
 use Rattle.task_order.specs.declared.task.Task.{Task}
 use Rattle.commuting.specs.Rounds.{after_round, clear_tasks}
 use Rattle.list_rounds.specs.Course.{IsActing, state_in}

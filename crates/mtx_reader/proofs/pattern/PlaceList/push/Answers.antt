@@ -1,5 +1,5 @@
 use Rattle.std.specs.Prelude.{◌≤◌}
-use Rattle.plain_laws.proofs.Lists.{All-push}
+use Rattle.plain_laws.specs.Lists.{All-push}
 use Rattle.mtx_reader.specs.Ascending.{ascending_push}
 use Rattle.mtx_reader.specs.Places.{Place, place_cmp}
 use Rattle.mtx_reader.proofs.pattern.PlaceList.push.Goals as goal

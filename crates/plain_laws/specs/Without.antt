@@ -3,7 +3,7 @@ use Rattle.std.proofs.Common.{◌≡◌, ◌≢◌, ◌==◌, eq-eqb, ne_eqb, no
 use Rattle.std.specs.Prelude.{Contains, filter}
 use Rattle.std.specs.List.{AllByRecursion}
 use Rattle.std.proofs.lemmas.Bool.{true≢false}
-use Rattle.plain_laws.proofs.Members.{from_filter, here, in_filter, there}
+use Rattle.plain_laws.specs.Members.{from_filter, here, in_filter, there}
 
 pub stays : (y gone : ℕ) → y ≢ gone → not (y == gone) ≡ true
 stays y gone other = ap not (ne_eqb y gone other)
