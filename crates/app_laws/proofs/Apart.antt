@@ -1,20 +1,14 @@
 -- Paths of which none is a prefix of another.
-use Rattle.std.proofs.Common.{◌≡◌, ◌≢◌, ℕ, suc, ◌<◌, true, false, nat_eq, List, [], ◌∷◌, ◌++◌, length, refl, sym, ap, ◌∙◌, ⊎_elim, arith, eq-eqb}
+use Rattle.std.proofs.Common.{◌≡◌, ◌≢◌, ℕ, suc, ◌<◌, true, false, nat_eq, List, [], ◌∷◌, ◌++◌, refl, sym, ◌∙◌, ⊎_elim, arith, eq-eqb}
 use Rattle.std.specs.List.{AllByRecursion}
-use Rattle.std.proofs.lemmas.Bool.{true≢false, ne_eqb, and_from, and_cases, and_left, and_right, cases_eq}
+use Rattle.std.proofs.lemmas.Bool.{true≢false, ne_eqb, and_cases, and_left, and_right, cases_eq}
 use Rattle.task_order.specs.declared.key.Key.{Key}
 use Rattle.task_order.specs.declared.start.Start.{Start}
 use Rattle.task_order.specs.declared.task.Task.{Task}
 use Rattle.task_order.specs.Key.{child_key}
 use Rattle.app_laws.specs.Execution.{children_from, first_from}
 use Rattle.app_laws.specs.Order.{is_prefix, AreApart, Pairwise}
-
-is_prefix-same : (path : List ℕ) → is_prefix path path ≡ true
-is_prefix-same [] = refl
-is_prefix-same (n ∷ path) = and_from (nat_eq n n) (is_prefix path path) (eq-eqb n n refl) (is_prefix-same path)
-
-pub differ_from_no_prefix : (path other : List ℕ) → is_prefix path other ≡ false → path ≢ other
-differ_from_no_prefix path other none same = true≢false (sym (is_prefix-same path) ∙ ap (is_prefix path) same ∙ none)
+use Rattle.app_laws.specs.ApartLaws.{TasksApart}
 
 -- what goes on from a path is a prefix of no more than the path is
 pub is_prefix-longer : (path other : List ℕ) (number : ℕ) → is_prefix path other ≡ false → is_prefix (path ++ number ∷ []) other ≡ false
@@ -63,12 +57,6 @@ apart_longer path other number apart = record {
   not_after = is_prefix-of_longer path other number apart.not_before apart.not_after;
 }
 
-abbrev pub TasksApart : Task → Task → Type 0
-TasksApart task other = AreApart task.key.path other.key.path
-
-pub TasksApart-turned : (task other : Task) → TasksApart task other → TasksApart other task
-TasksApart-turned task other apart = record { not_before = apart.not_after; not_after = apart.not_before }
-
 -- what is true of each child of a list
 pub All-children : (P : Task → Type 0) (Q : Start → Type 0) (parent : Key)
     → ((number : ℕ) (child : Start) → Q child → P (record { key = child_key parent number child.prio; body = child.body }))
@@ -104,11 +92,3 @@ pub first_apart : (number : ℕ) (first : List Start) → Pairwise TasksApart (f
 first_apart number [] = tt
 first_apart number (start ∷ first) =
     (first_apart_from number start.prio (record { key = record { prio = start.prio; path = number ∷ [] }; body = start.body }) refl (suc number) (omega arith) first, first_apart (suc number) first)
-
-pub length-children_from : (parent : Key) (number : ℕ) (children : List Start) → length (children_from parent number children) ≡ length children
-length-children_from parent number [] = refl
-length-children_from parent number (child ∷ children) = ap suc (length-children_from parent (suc number) children)
-
-pub length-first_from : (number : ℕ) (first : List Start) → length (first_from number first) ≡ length first
-length-first_from number [] = refl
-length-first_from number (start ∷ first) = ap suc (length-first_from (suc number) first)

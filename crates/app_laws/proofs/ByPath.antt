@@ -13,10 +13,10 @@ use Rattle.std.proofs.lemmas.List.MinMax.{ranks_by}
 use Rattle.std.proofs.lemmas.List.Sorted.{sorted_far}
 use Rattle.std.proofs.lemmas.Map.Keys.{IsDistinct-IsPermutation, apart_from_distinct}
 use Rattle.std.proofs.lemmas.Map.Lookups.{exact_bytes}
+use Rattle.plain_laws.specs.Lists.{All-weaker}
 use Rattle.task_order.specs.declared.task.Task.{Task}
 use Rattle.app_laws.specs.Order.{Pairwise}
-use Rattle.app_laws.proofs.Apart.{TasksApart, differ_from_no_prefix}
-use Rattle.app_laws.proofs.Lists.{All-weaker}
+use Rattle.app_laws.specs.ApartLaws.{differ_from_no_prefix, TasksApart}
 
 -- how tasks compare by their paths alone
 abbrev path_cmp : Task → Task → Ordering

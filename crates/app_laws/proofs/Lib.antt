@@ -1,4 +1,3 @@
-pub mod Acting
 pub mod Apart
 pub mod ByPath
 pub mod Listed

@@ -5,8 +5,8 @@ use Rattle.std.specs.List.{AllByRecursion}
 use Rattle.std.specs.List.Sorted.{IsPermutation}
 use Rattle.std.specs.Ordering.{nat_cmp}
 use Rattle.std.specs.declared.cmp.Ordering.TheVariants.{Less}
-use Rattle.std.proofs.lemmas.List.Elements.{All-from_recursion, recursion_from_All}
-use Rattle.std.proofs.lemmas.List.Sorted.{All-permutation, IsPermutation-sym, IsPermutation-trans}
+use Rattle.std.proofs.lemmas.List.Sorted.{IsPermutation-sym, IsPermutation-trans}
+use Rattle.plain_laws.specs.Lists.{All-weaker, All-joined, All-shuffled}
 use Rattle.task_order.specs.declared.task.Task.{Task}
 use Rattle.task_order.specs.Laws.{AscendingKeysAreDistinct, DistinctInAnyOrder, TasksDetermineAscending, PutAllKeepsAscending, PutAllKeepsTasks}
 use Rattle.task_order.specs.TaskList.{IsAscending, HasDistinctKeys, put_all}
@@ -15,10 +15,9 @@ use Rattle.app_laws.specs.Names.{renamed}
 use Rattle.app_laws.specs.Order.{is_prefix, Pairwise}
 use Rattle.app_laws.specs.Renaming.{ListedTasksAreNamed}
 use Rattle.app_laws.specs.RenamingLaws.{put_all-renamed}
-use Rattle.app_laws.proofs.Apart.{TasksApart}
-use Rattle.app_laws.proofs.Lists.{All-joined, All-weaker}
 use Rattle.app_laws.proofs.Prefixes.{below_from_earlier, not_below_itself}
 use Rattle.app_laws.proofs.Naming.{TasksBelow, has_new_name, is_naming, new_name, numbered_are_first, numbered_have_names}
+use Rattle.app_laws.specs.ApartLaws.{TasksApart}
 
 -- the task is earlier than the other by their paths alone
 abbrev IsEarlierByPath : Task → Task → Type 0
@@ -37,10 +36,6 @@ none_go_on (task ∷ tasks) apart = (
       tasks apart.0 (none_go_on tasks apart.1),
 )
 
--- what holds of tasks holds of them in another order
-all_in_any_order : (P : Task → Type 0) (tasks others : List Task) → IsPermutation tasks others → AllByRecursion P tasks → AllByRecursion P others
-all_in_any_order P tasks others same all = recursion_from_All P others (All-permutation P tasks others same (All-from_recursion P tasks all))
-
 below_in_order : (tasks : List Task) → Pairwise IsEarlierByPath tasks → AllByRecursion (λ task. AllByRecursion (NoneGoOn task) tasks) tasks → Pairwise TasksBelow tasks
 below_in_order [] by_path none = tt
 below_in_order (task ∷ tasks) by_path none = (
@@ -53,9 +48,9 @@ below_in_order (task ∷ tasks) by_path none = (
 listed_below : (pending tasks : List Task) → Pairwise TasksApart pending → IsPermutation pending tasks → Pairwise IsEarlierByPath tasks → Pairwise TasksBelow tasks
 listed_below pending tasks apart same by_path =
     below_in_order tasks by_path
-    (all_in_any_order (λ task. AllByRecursion (NoneGoOn task) tasks) pending tasks same
+    (All-shuffled (λ task. AllByRecursion (NoneGoOn task) tasks) pending tasks same
     (All-weaker (λ task. AllByRecursion (NoneGoOn task) pending) (λ task. AllByRecursion (NoneGoOn task) tasks)
-    (λ task. all_in_any_order (NoneGoOn task) pending tasks same)
+    (λ task. All-shuffled (NoneGoOn task) pending tasks same)
     pending (none_go_on pending apart)))
 
 module _ (distinct : AscendingKeysAreDistinct) (any_order : DistinctInAnyOrder) (determined : TasksDetermineAscending) (ascends : PutAllKeepsAscending) (keeps : PutAllKeepsTasks) where
@@ -77,7 +72,7 @@ module _ (distinct : AscendingKeysAreDistinct) (any_order : DistinctInAnyOrder) 
         name = new_name 0 tasks;
         has_name = has_new_name 0 tasks;
         naming = naming;
-        have_names = all_in_any_order (λ task. has_new_name 0 tasks task.key.path ≡ true) tasks pending (IsPermutation-sym pending tasks listed.same) have_names;
+        have_names = All-shuffled (λ task. has_new_name 0 tasks task.key.path ≡ true) tasks pending (IsPermutation-sym pending tasks listed.same) have_names;
         are_first =
             ap (map (renamed (new_name 0 tasks))) (put_back pending tasks ascending listed.same)
             ∙ sym (put_all-renamed naming tasks [] have_names tt)

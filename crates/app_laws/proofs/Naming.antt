@@ -6,14 +6,15 @@ use Rattle.std.specs.Option.{is_some, unwrap_or}
 use Rattle.std.specs.Ordering.{nat_cmp, ordering_reverse}
 use Rattle.std.proofs.lemmas.Bool.{true≢false, cases_Bool}
 use Rattle.std.proofs.Math.Seq.{drop-append_seam}
+use Rattle.plain_laws.specs.Lists.{All-joined}
 use Rattle.task_order.specs.declared.task.Task.{Task}
 use Rattle.task_order.specs.Comparing.{IsBelow, IsBelow-first, slice_cmp-behind}
 use Rattle.app_laws.specs.Execution.{first_from}
 use Rattle.app_laws.specs.Names.{IsNaming, renamed, start_of_task, with_path}
 use Rattle.app_laws.specs.Order.{is_prefix, Pairwise}
 use Rattle.app_laws.specs.Renaming.{HaveNames}
-use Rattle.app_laws.proofs.Lists.{All-joined}
-use Rattle.app_laws.proofs.Prefixes.{is_prefix-joined, joined_from_prefix, no_prefix_of_above}
+use Rattle.app_laws.proofs.Prefixes.{joined_from_prefix, no_prefix_of_above}
+use Rattle.app_laws.specs.ApartLaws.{is_prefix-joined}
 
 -- The name of a path that goes on from a task's: the task's number, and then what is behind the task's path. The tasks
 -- are numbered from a number on.

@@ -1,30 +1,23 @@
 -- Executions stay orderly and fit.
-use Rattle.std.proofs.Common.{◌≡◌, ◌≢◌, ℕ, zero, suc, ◌≤◌, false, List, [], ◌∷◌, ◌++◌, refl, sym, ap, subst}
+use Rattle.std.proofs.Common.{◌≡◌, ◌≢◌, ℕ, zero, suc, ◌≤◌, false, List, [], ◌∷◌, ◌++◌, refl, sym, subst}
 use Rattle.std.specs.List.{AllByRecursion}
 use Rattle.std.specs.declared.cmp.Ordering.TheVariants.{Less}
+use Rattle.plain_laws.specs.Lists.{All-weaker, All-joined, All-push}
 use Rattle.task_order.specs.declared.key.Key.{Key}
 use Rattle.task_order.specs.declared.start.Start.{Start}
 use Rattle.task_order.specs.declared.task.Body.{Body}
 use Rattle.task_order.specs.declared.task.Task.{Task}
 use Rattle.task_order.specs.Key.{key_cmp, key_cmp_total, child_key}
-use Rattle.task_order.specs.TaskList.{IsAscending, IsNewKey, put_in, put_all}
+use Rattle.task_order.specs.TaskList.{IsAscending, put_in, put_all}
+use Rattle.task_order.specs.TaskListLaws.{All-put_in, All-put_all}
 use Rattle.app_laws.specs.Execution.{Operator, Execution, children_from, first_from, start_of, acts, after_steps}
 use Rattle.app_laws.specs.Laws.{AllFit, NoneEarlier, IsFitOutcome, IsFit}
 use Rattle.app_laws.specs.Lower.{LowerLaws}
 use Rattle.app_laws.specs.Order.{is_prefix, Pairwise, IsOrderly}
-use Rattle.app_laws.proofs.Apart.{TasksApart, TasksApart-turned, apart_longer, is_prefix-longer, is_prefix-longer_self, differ_from_no_prefix, All-children, All-first, children_apart, first_apart}
-use Rattle.app_laws.proofs.Lists.{All-weaker, All-joined, All-push, All-put_in, All-put_all, Pairwise-push, Pairwise-put_in}
-use Rattle.app_laws.proofs.Steps.{after_none, after_one_more}
-
--- tasks that are apart have other keys
-pub new_key_from_apart : (task : Task) (tasks : List Task) → AllByRecursion (TasksApart task) tasks → IsNewKey task.key tasks
-new_key_from_apart task =
-    All-weaker (TasksApart task) (λ other. other.key ≢ task.key) (λ other apart same. differ_from_no_prefix other.key.path task.key.path apart.not_after (ap (λ (key : Key). key.path) same))
-
--- in ascending order, and apart
-pub record IsSpread (tasks : List Task) : Type 0 where
-  pub ascending : IsAscending tasks
-  pub apart : Pairwise TasksApart tasks
+use Rattle.app_laws.proofs.Apart.{apart_longer, is_prefix-longer, is_prefix-longer_self, All-children, All-first, children_apart, first_apart}
+use Rattle.app_laws.proofs.Lists.{Pairwise-push, Pairwise-put_in}
+use Rattle.app_laws.specs.ApartLaws.{differ_from_no_prefix, TasksApart, TasksApart-turned, new_key_from_apart, IsSpread}
+use Rattle.app_laws.specs.StepLaws.{after_none, after_one_more}
 
 spread-put_in : LowerLaws → (task : Task) (tasks : List Task) → AllByRecursion (TasksApart task) tasks → IsSpread tasks → IsSpread (put_in task tasks)
 spread-put_in lower task tasks apart spread = record {

@@ -3,14 +3,10 @@ use Rattle.std.proofs.Common.{◌≡◌, ◌≢◌, ℕ, true, false, nat_eq, Li
 use Rattle.std.specs.Cmp.Lexicographic.{slice_cmp}
 use Rattle.std.specs.declared.cmp.Ordering.TheVariants.{Less}
 use Rattle.std.specs.Ordering.{is_lt, nat_cmp}
-use Rattle.std.proofs.lemmas.Bool.{true≢false, and_from, and_parts, eqb-true, false_from_ne_true, cases_order}
-use Rattle.task_order.specs.Comparing.{IsBelow, IsBelow-first, IsBelow-behind, nat_cmp-same, nat_cmp-above, slice_cmp-same}
+use Rattle.std.proofs.lemmas.Bool.{true≢false, and_parts, eqb-true, false_from_ne_true, cases_order}
+use Rattle.plain_laws.specs.Orderings.{nat_cmp-same, nat_cmp-above}
+use Rattle.task_order.specs.Comparing.{IsBelow, IsBelow-first, IsBelow-behind, slice_cmp-same}
 use Rattle.app_laws.specs.Order.{is_prefix}
-
--- a path is a prefix of what goes on from it
-pub is_prefix-joined : (path rest : List ℕ) → is_prefix path (path ++ rest) ≡ true
-is_prefix-joined [] rest = refl
-is_prefix-joined (n ∷ path) rest = and_from (nat_eq n n) (is_prefix path (path ++ rest)) (eq-eqb n n refl) (is_prefix-joined path rest)
 
 -- what goes on from a path is the path and what is behind it
 pub joined_from_prefix : (path other : List ℕ) → is_prefix path other ≡ true → other ≡ path ++ drop (length path) other

@@ -2,16 +2,18 @@
 use Rattle.std.proofs.Common.{◌≡◌, ◌≢◌, ℕ, suc, ◌+◌, ◌<◌, List, [], ◌∷◌, length, drop, get_or, sym, ap, ◌∙◌, subst, arith, add-one, drop-cons}
 use Rattle.std.specs.List.{AllByRecursion}
 use Rattle.std.proofs.lemmas.List.{get_or-map, length-map}
+use Rattle.plain_laws.specs.Lists.{All-joined}
 use Rattle.task_order.specs.declared.key.Key.{Key}
 use Rattle.task_order.specs.declared.start.Start.{Start}
 use Rattle.task_order.specs.declared.task.Task.{Task}
 use Rattle.task_order.specs.Key.{child_key}
 use Rattle.task_order.specs.TaskList.{IsNewKey, put_in, put_all}
+use Rattle.task_order.specs.TaskListLaws.{All-put_in}
 use Rattle.app_laws.specs.declared.child.Child.{Child}
 use Rattle.app_laws.specs.Applications.{starts_of}
 use Rattle.app_laws.specs.Execution.{children_from, first_from}
-use Rattle.app_laws.proofs.Apart.{TasksApart, differ_from_no_prefix, children_apart, first_apart}
-use Rattle.app_laws.proofs.Lists.{All-joined, All-put_in}
+use Rattle.app_laws.proofs.Apart.{children_apart, first_apart}
+use Rattle.app_laws.specs.ApartLaws.{differ_from_no_prefix, TasksApart}
 
 -- tasks whose keys are new among the pending ones, and that give the whole when they are put in
 pub record IsLeft (tasks pending whole : List Task) : Type 0 where

@@ -9,13 +9,14 @@ use Rattle.task_order.specs.declared.start.Start.{Start}
 use Rattle.task_order.specs.declared.task.Task.{Task}
 use Rattle.task_order.specs.Key.{end, is_before}
 use Rattle.task_order.specs.TaskList.{put_all}
+use Rattle.task_order.specs.TaskListLaws.{length-put_all}
 use Rattle.output_log.specs.Entries.{Entry, joined_texts}
 use Rattle.app_laws.specs.Execution.{Operator, Execution, children_from, first_from, start_of, acts, after_steps, is_clear_before, steps_until, run_to_end, created_by, created_after}
 use Rattle.app_laws.specs.Laws.{IsFirstClear}
 use Rattle.app_laws.specs.Serial.{IsOverBudget}
-use Rattle.app_laws.proofs.Apart.{length-first_from}
-use Rattle.app_laws.proofs.Lists.{length-put_all}
-use Rattle.app_laws.proofs.Steps.{after_none, after_one_more, stops_when_clear, none_before_end, created_by_task, logs_while_pending, created_never_falls, ends_within_limit}
+use Rattle.app_laws.proofs.Steps.{stops_when_clear, created_by_task, logs_while_pending, created_never_falls, ends_within_limit}
+use Rattle.app_laws.specs.TaskLaws.{length-first_from}
+use Rattle.app_laws.specs.StepLaws.{after_none, after_one_more, none_before_end}
 
 -- the execution after count steps, each of which had a task to run
 pub record IsReached {V : Type 0} (act : Operator V) (budget : ℕ) (start : Execution V) (cells : List V) (count : ℕ) : Type 0 where
@@ -35,7 +36,7 @@ reached_at_start act budget cells first within =
     }
 
 not_empty : (task : Task) (tasks : List Task) → task ∷ tasks ≢ []
-not_empty task tasks same = absurd (cc)
+not_empty task tasks same = absurd cc
 
 module _ {V : Type 0} {act : Operator V} {budget : ℕ} {start : Execution V} {cells : List V} {count : ℕ} (reached : IsReached act budget start cells count) where
   -- the task that acts next

@@ -7,13 +7,13 @@ use Rattle.task_order.specs.declared.start.Start.{Start}
 use Rattle.task_order.specs.declared.task.Task.{Task}
 use Rattle.task_order.specs.Key.{end}
 use Rattle.task_order.specs.TaskList.{put_all}
+use Rattle.task_order.specs.TaskListLaws.{All-put_all}
 use Rattle.app_laws.specs.Applications.{ActsIgnorePaths, Application, IsLawful, IsFitTask}
 use Rattle.app_laws.specs.Execution.{Outcome, Execution, children_from, acts, is_clear_before, run_to_end}
 use Rattle.app_laws.specs.Laws.{IsFitExecution}
 use Rattle.app_laws.specs.Names.{IsNaming, renamed}
 use Rattle.app_laws.specs.Renaming.{HaveNames, renamed_entry, renamed_execution, NamesChangeNoRun}
 use Rattle.app_laws.specs.RenamingLaws.{put_all-renamed, children-named, children-renamed}
-use Rattle.app_laws.proofs.Lists.{All-put_all}
 use Rattle.app_laws.proofs.Ordered.{acts_fit, fit_first}
 use Rattle.app_laws.proofs.Running.{keeps_fit}
 use Rattle.app_laws.proofs.Runs.{runs_begin, busy_before_end, clear_before_end}

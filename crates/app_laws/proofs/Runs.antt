@@ -1,26 +1,25 @@
 -- Runs, by their first step, and what they log.
 use Rattle.std.proofs.Common.{◌≡◌, inl, inr, arith, ℕ, zero, suc, ◌+◌, ◌≤◌, Bool, true, false, not, cond, List, [], ◌∷◌, ◌++◌, Option, Some, None, refl, sym, ap, ◌∙◌, subst, append_assoc, append-nil, add-zero, add-suc}
-use Rattle.std.specs.List.{AllByRecursion, list_any, filter}
+use Rattle.std.specs.List.{AllByRecursion, list_any}
 use Rattle.std.specs.Option.{option_map, option_or}
-use Rattle.std.specs.declared.cmp.Ordering.{Ordering}
-use Rattle.std.specs.declared.cmp.Ordering.TheVariants.{Less, Equal, Greater}
-use Rattle.std.specs.Ordering.{is_lt}
-use Rattle.std.proofs.lemmas.List.Elements.{filter-append}
-use Rattle.std.proofs.lemmas.Bool.{true≢false, or_parts, or_from, cases_Bool, not-true, false_from_ne_true}
-use Rattle.task_order.specs.declared.key.Key.{Key}
+use Rattle.std.specs.declared.cmp.Ordering.TheVariants.{Less}
+use Rattle.std.proofs.lemmas.Bool.{true≢false, or_parts, or_from, cases_Bool, not-true}
+use Rattle.plain_laws.specs.Lists.{All-push, filter-all, filter-none}
 use Rattle.task_order.specs.declared.task.Body.{Body}
 use Rattle.task_order.specs.declared.task.Task.{Task}
-use Rattle.task_order.specs.Key.{Bound, at_key, end, key_cmp, key_cmp_total, is_before, child_key}
+use Rattle.task_order.specs.Key.{Bound, end, key_cmp, is_before, child_key}
 use Rattle.task_order.specs.TaskList.{IsAscending}
+use Rattle.task_order.specs.TaskListLaws.{All-put_all}
+use Rattle.task_order.specs.KeyLaws.{not_before_later}
 use Rattle.output_log.specs.Entries.{Entry, is_entry_before, entries_before}
+use Rattle.output_log.specs.EntryLaws.{front_is_before}
 use Rattle.app_laws.specs.Execution.{Operator, Execution, children_from, acts, step, after_steps, is_clear_before, steps_until, run_until, run_to_end}
 use Rattle.app_laws.specs.Laws.{RunsBeginWithAStep, GreaterLimitsAgree, LogsGrowAtTheEnd, BoundedRunsLogAPart, IsFit}
 use Rattle.app_laws.specs.Lower.{LowerLaws}
 use Rattle.app_laws.specs.Order.{IsOrderly}
 use Rattle.app_laws.proofs.Apart.{All-children}
-use Rattle.app_laws.proofs.Lists.{All-put_all, All-push}
 use Rattle.app_laws.proofs.Ordered.{KeepsFit, ChildrenNotEarlier, fit_first, acts_fit, acts_orderly}
-use Rattle.app_laws.proofs.Steps.{after_one_more}
+use Rattle.app_laws.specs.StepLaws.{after_one_more}
 
 after_first : {V : Type 0} (act : Operator V) (steps : ℕ) (e : Execution V) → after_steps act (suc steps) e ≡ after_steps act steps (step act e)
 unfolding after_steps
@@ -126,26 +125,10 @@ clear_from_none bound [] all = refl
 clear_from_none bound (task ∷ tasks) all =
     ap not (or_from (is_before task.key bound) (list_any (λ t. is_before t.key bound) tasks) all.0 (not-true _ (clear_from_none bound tasks all.1)))
 
-less_from_lt : (o : Ordering) → is_lt o ≡ true → o ≡ Less
-less_from_lt Less lt = refl
-less_from_lt Equal lt = absurd (true≢false (sym lt))
-less_from_lt Greater lt = absurd (true≢false (sym lt))
-
--- what is later than a key that is not before a bound is not before it either
-later_not_before : (bound : Bound) (key later : Key) → key_cmp key later ≡ Less → is_before key bound ≡ false → is_before later bound ≡ false
-later_not_before (at_key limit) key later less not-before = false_from_ne_true _ (λ before.
-    let less-limit = key_cmp_total.trans key later limit less (less_from_lt (key_cmp later limit) before) in
-    true≢false (sym (ap is_lt less-limit) ∙ not-before))
-later_not_before end key later less not-before = absurd (true≢false not-before)
-
-earlier_before : (bound : Bound) (key later : Key) → key_cmp key later ≡ Less → is_before later bound ≡ true → is_before key bound ≡ true
-earlier_before (at_key limit) key later less before = ap is_lt (key_cmp_total.trans key later limit less (less_from_lt (key_cmp later limit) before))
-earlier_before end key later less before = refl
-
 -- the first of tasks in order is before a bound where one of them is
 none_later : (bound : Bound) (task : Task) (tasks : List Task) → is_before task.key bound ≡ false → AllByRecursion (λ other. key_cmp task.key other.key ≡ Less) tasks → AllByRecursion (λ other. is_before other.key bound ≡ false) tasks
 none_later bound task [] not-before all = tt
-none_later bound task (other ∷ tasks) not-before all = (later_not_before bound task.key other.key all.0 not-before, none_later bound task tasks not-before all.1)
+none_later bound task (other ∷ tasks) not-before all = (not_before_later task.key other.key bound all.0 not-before, none_later bound task tasks not-before all.1)
 
 first_is_before : (bound : Bound) (task : Task) (others : List Task) → AllByRecursion (λ other. key_cmp task.key other.key ≡ Less) others
     → not (list_any (λ t. is_before t.key bound) (task ∷ others)) ≡ false → is_before task.key bound ≡ true
@@ -153,21 +136,6 @@ first_is_before bound task others later busy = elim (cases_Bool (is_before task.
   | inl before ↦ before
   | inr not-before ↦ absurd (true≢false (sym (clear_from_none bound (task ∷ others) (not-before, none_later bound task others not-before later)) ∙ busy))
 ]
-
-kept_all : (test : Entry → Bool) (entries : List Entry) → AllByRecursion (λ entry. test entry ≡ true) entries → filter test entries ≡ entries
-kept_all test [] all = refl
-kept_all test (entry ∷ entries) all = rw all.0 (ap (λ rest. entry ∷ rest) (kept_all test entries all.1))
-
-dropped_all : (test : Entry → Bool) (entries : List Entry) → AllByRecursion (λ entry. test entry ≡ false) entries → filter test entries ≡ []
-dropped_all test [] all = refl
-dropped_all test (entry ∷ entries) all = rw all.0 (dropped_all test entries all.1)
-
-part_of_joined : (bound : Bound) (first rest : List Entry) → AllByRecursion (λ entry. is_entry_before bound entry ≡ true) first → AllByRecursion (λ entry. is_entry_before bound entry ≡ false) rest
-    → entries_before bound (first ++ rest) ≡ first
-part_of_joined bound first rest all none =
-    filter-append (is_entry_before bound) first rest
-    ∙ ap (λ entries. entries ++ filter (is_entry_before bound) rest) (kept_all (is_entry_before bound) first all)
-    ∙ ap (λ entries. first ++ entries) (dropped_all (is_entry_before bound) rest none) ∙ append-nil first
 
 pub busy_before_end : {V : Type 0} (e : Execution V) (task : Task) (others : List Task) → e.pending ≡ task ∷ others → is_clear_before end e ≡ false
 busy_before_end e task others is = ap (λ tasks. not (list_any (λ (t : Task). is_before t.key end) tasks)) is
@@ -189,7 +157,7 @@ module _ {V : Type 0} (is_fit_cells : List V → Type 0) (is_fit_task : ℕ → 
   children_not_before bound e task others is fit none =
       All-put_all (λ t. is_before t.key bound ≡ false) (children_from task.key 0 (act task e.cells).children) others
       (All-children (λ t. is_before t.key bound ≡ false) (λ start. task.key.prio ≤ start.prio) task.key
-      (λ number child up_to. later_not_before bound task.key (child_key task.key number child.prio) (lower.children_later task.key number child.prio up_to) none.0)
+      (λ number child up_to. not_before_later task.key (child_key task.key number child.prio) bound (lower.children_later task.key number child.prio up_to) none.0)
       0 (act task e.cells).children (not_earlier task e.cells fit.cells (fit_first is_fit_cells is_fit_task e task others is fit)))
       none.1
 
@@ -222,7 +190,7 @@ module _ {V : Type 0} (is_fit_cells : List V → Type 0) (is_fit_task : ℕ → 
       let none = none_is_before bound e.pending clear-is in
       let found = rest_logged total bound e whole e.pending refl fit none ends in
       ap (λ x. x.log) (one_answer part e (run_until act limit bound e) stops (run_clear act limit bound e clear-is))
-      ∙ sym (part_of_joined bound e.log found.rest before found.none) ∙ sym (ap (entries_before bound) found.is)
+      ∙ front_is_before bound e.log found.rest before found.none ∙ sym (ap (entries_before bound) found.is)
   logs_a_part limit total bound e part whole [] is fit orderly before false clear-is stops ends = absurd (true≢false (sym (clear_before_end e is bound) ∙ clear-is))
   logs_a_part zero total bound e part whole (task ∷ others) is fit orderly before false clear-is stops ends = absurd (never_some part (run_until act 0 bound e) (run_refused act bound e clear-is) stops)
   logs_a_part (suc limit) zero bound e part whole (task ∷ others) is fit orderly before false clear-is stops ends = absurd (never_some whole (run_to_end act 0 e) (run_refused act end e (busy_before_end e task others is)) ends)

@@ -1,8 +1,8 @@
 -- What a serial run of an application meets at each of its steps, where its pending tasks are under names.
-use Rattle.std.proofs.Common.{◌≡◌, ℕ, ◌+◌, ◌<◌, ◌≤◌, List, [], ◌∷◌, ◌++◌, length, Option, Some, None, refl, sym, ap, ◌∙◌, subst, arith}
-use Rattle.std.specs.Prelude.{IfNone}
+use Rattle.std.proofs.Common.{◌≡◌, ℕ, ◌+◌, ◌<◌, ◌≤◌, List, [], ◌∷◌, ◌++◌, length, Some, refl, sym, ap, ◌∙◌, subst, arith}
 use Rattle.std.specs.List.{AllByRecursion}
 use Rattle.std.proofs.lemmas.List.{length-map}
+use Rattle.plain_laws.specs.Lists.{All-weaker}
 use Rattle.task_order.specs.declared.start.Start.{Start}
 use Rattle.task_order.specs.declared.task.Body.{Body}
 use Rattle.task_order.specs.declared.task.Task.{Task}
@@ -13,17 +13,11 @@ use Rattle.app_laws.specs.Laws.{AllFit, NoneEarlier, IsFit}
 use Rattle.app_laws.specs.Lower.{LowerLaws}
 use Rattle.app_laws.specs.Names.{renamed}
 use Rattle.app_laws.specs.Serial.{IsOverBudget}
-use Rattle.app_laws.proofs.Apart.{TasksApart}
-use Rattle.app_laws.proofs.Lists.{All-weaker}
-use Rattle.app_laws.proofs.Ordered.{KeepsFit, ChildrenNotEarlier, IsSpread, children_apart_from_others, new_key_from_apart, spread_at_start, start_fit, stays_fit}
+use Rattle.app_laws.proofs.Ordered.{KeepsFit, ChildrenNotEarlier, children_apart_from_others, spread_at_start, start_fit, stays_fit}
 use Rattle.app_laws.proofs.Reached.{IsReached, count_below, count_within, created_is, ends_here, over_budget, pending_next, reached_next, text_next}
-use Rattle.app_laws.proofs.Steps.{after_none}
 use Rattle.app_laws.proofs.UnderNames.{AreUnderNames, IsNamedFirst, exact_first, none_under, under_next, under_own_names}
-
--- what holds where no task was taken
-pub at_none : (taken : Option Task) (P : Type 0) → ((task : Task) → taken ≡ Some task → ⊥) → IfNone taken P → P
-at_none None P never here = here
-at_none (Some task) P never here = absurd (never task refl)
+use Rattle.app_laws.specs.ApartLaws.{IsSpread, TasksApart, new_key_from_apart}
+use Rattle.app_laws.specs.StepLaws.{after_none}
 
 -- a fit task does the same under its name
 abbrev pub SameUnder : {V : Type 0} → (List V → Type 0) → (ℕ → Body → Type 0) → Operator V → (List ℕ → List ℕ) → Type 0

@@ -4,20 +4,14 @@ use Rattle.std.specs.Prelude.{IfSome, MatchOption, ◌↔◌}
 use Rattle.std.specs.List.{list_any}
 use Rattle.std.specs.Option.{option_map, option_or}
 use Rattle.std.proofs.lemmas.Bool.{cases_lt, true≢false}
+use Rattle.plain_laws.specs.Lists.{some_in}
 use Rattle.task_order.specs.declared.task.Task.{Task}
 use Rattle.task_order.specs.Key.{Bound, end, is_before}
+use Rattle.task_order.specs.TaskListLaws.{length-put_all}
 use Rattle.app_laws.specs.Execution.{Operator, Execution, children_from, acts, step, after_steps, is_clear_before, steps_until, created_by, created_after}
 use Rattle.app_laws.specs.Laws.{IsFirstClear, StopsWhenClear, LogsEachStep, CreatedNeverFalls, EndsWithinLimit, StepsAdd}
-use Rattle.app_laws.proofs.Apart.{length-children_from}
-use Rattle.app_laws.proofs.Lists.{length-put_all}
-
-pub after_none : {V : Type 0} (act : Operator V) (e : Execution V) → after_steps act 0 e ≡ e
-unfolding after_steps
-after_none act e = refl
-
-pub after_one_more : {V : Type 0} (act : Operator V) (steps : ℕ) (e : Execution V) → after_steps act (suc steps) e ≡ step act (after_steps act steps e)
-unfolding after_steps
-after_one_more act steps e = refl
+use Rattle.app_laws.specs.TaskLaws.{length-children_from}
+use Rattle.app_laws.specs.StepLaws.{after_none, after_one_more, ended_stays, none_before_end}
 
 pub steps_add : {V : Type 0} (act : Operator V) (e : Execution V) → StepsAdd act e
 unfolding after_steps
@@ -76,10 +70,6 @@ pending_from_not_clear : {V : Type 0} (bound : Bound) (e : Execution V) → is_c
 pending_from_not_clear bound e busy none =
     true≢false (sym (ap (λ tasks. not (list_any (λ (task : Task). is_before task.key bound) tasks)) none) ∙ busy)
 
-pub none_before_end : (tasks : List Task) → not (list_any (λ (task : Task). is_before task.key end) tasks) ≡ true → tasks ≡ []
-none_before_end [] clear = refl
-none_before_end (task ∷ tasks) clear = absurd (true≢false (sym clear))
-
 logs_one : {V : Type 0} (act : Operator V) (e : Execution V) (tasks : List Task) → tasks ≢ [] → length (acts act e tasks).log ≡ length e.log + 1
 logs_one act e [] some = absurd (some refl)
 logs_one act e (task ∷ others) some = omega (arith, length-append e.log ((task.key, (act task e.cells).text) ∷ []))
@@ -107,12 +97,6 @@ logs_answered act limit bound e (Some steps) stops = logs_until_clear act bound 
 pub logs_each_step : {V : Type 0} (act : Operator V) (e : Execution V) → LogsEachStep act e
 logs_each_step act e limit bound = logs_answered act limit bound e (steps_until act limit bound e) (stops_when_clear act e limit bound)
 
--- an execution that has ended stays as it is
-pub ended_stays : {V : Type 0} (act : Operator V) (e : Execution V) → e.pending ≡ [] → (more : ℕ) → after_steps act more e ≡ e
-ended_stays act e ended zero = after_none act e
-ended_stays act e ended (suc more) =
-    after_one_more act more e ∙ ap (step act) (ended_stays act e ended more) ∙ ap (acts act e) ended
-
 -- an execution that ends creates no more than it logs
 created_up_to_end : {V : Type 0} (act : Operator V) (e : Execution V) (last : ℕ) → (after_steps act last e).pending ≡ []
     → (steps : ℕ) → created_after act steps e ≤ length (after_steps act last e).log
@@ -121,12 +105,8 @@ created_up_to_end act e last ended steps =
     let same = ap (λ n. after_steps act n e) turned ∙ steps_add act e last steps ∙ ended_stays act (after_steps act last e) ended steps in
     omega (arith, created_never_falls act e steps last, ap created_by same, ap length ended)
 
-some_length : (tasks : List Task) → tasks ≢ [] → 0 < length tasks
-some_length [] some = absurd (some refl)
-some_length (task ∷ tasks) some = omega arith
-
 more_than_logged : {V : Type 0} (e : Execution V) → e.pending ≢ [] → (logged : ℕ) → length e.log ≡ logged → logged < created_by e
-more_than_logged e pending logged is = omega (arith, some_length e.pending pending)
+more_than_logged e pending logged is = omega (arith, some_in e.pending pending)
 
 ends_answered : {V : Type 0} (act : Operator V) (limit : ℕ) (e : Execution V) (answer : Option ℕ) → Stops act limit end e answer
     → (option_map (λ steps. after_steps act steps e) answer ≡ None) ↔ ((steps : ℕ) × (length e.log + limit < created_after act steps e))

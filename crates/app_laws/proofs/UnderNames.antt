@@ -12,8 +12,9 @@ use Rattle.app_laws.specs.Lower.{LowerLaws}
 use Rattle.app_laws.specs.Names.{IsNaming, renamed}
 use Rattle.app_laws.specs.Renaming.{HaveNames}
 use Rattle.app_laws.specs.Renumbering.{AreRenumbered}
-use Rattle.app_laws.proofs.Ordered.{IsSpread, spread_at_start, spread_next}
+use Rattle.app_laws.proofs.Ordered.{spread_at_start, spread_next}
 use Rattle.app_laws.proofs.Renamed.{children_put, children_put_named}
+use Rattle.app_laws.specs.ApartLaws.{IsSpread}
 
 -- the pending tasks are those of the exact list, with names in place of their paths that may be
 pub record AreUnderNames (May : (List ℕ → List ℕ) → Type 0) (exact pending : List Task) : Type 0 where

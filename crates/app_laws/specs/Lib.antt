@@ -10,3 +10,11 @@ pub mod RenamingLaws
 pub mod Renumbering
 pub mod Serial
 pub mod Storage
+pub mod ApartLaws
+pub mod LineLaws
+pub mod PairLaws
+pub mod StepLaws
+pub mod TaskLaws
+pub mod EffectLaws
+pub mod ActingLaws
+pub mod ListedLaws

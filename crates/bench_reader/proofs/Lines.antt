@@ -7,10 +7,10 @@ use Rattle.std.specs.Str.{bytes_eq}
 use Rattle.kdg_text.specs.declared.number.NumFault.{NumFault}
 use Rattle.kdg_text.specs.Faults.{Numbered, before_comment, forms_from}
 use Rattle.kdg_text.specs.Numbers.{u64_of}
-use Rattle.kdg_text.specs.Tokens.{tokens_of}
+use Rattle.kdg_text.specs.Tokens.{tokens_of, spells}
 use Rattle.bench_reader.specs.declared.deck.GateKind.{GateKind}
 use Rattle.bench_reader.specs.Faults.{syntax, unsupported, unknown_kind, arity, bad_number}
-use Rattle.bench_reader.specs.LineForms.{comment, LineForm, InputLine, OutputLine, GateLine, FlipFlopLine, DelayLine, StimulusLine, FaultyLine, marks, is_word, is_name, is_text_byte, spells, kind_of, is_flip_flop, is_unsupported, is_constant, is_arity, is_bit, are_names, names_among, declaration_of, declared_by, flip_flop_of, other_kind, gate_of, gate_by, latest_stimulus, stimulus_at, stimulus_by, longest_delay, delay_at, delay_by, form_by, form_of_tokens, form_of_text, form_of}
+use Rattle.bench_reader.specs.LineForms.{comment, LineForm, InputLine, OutputLine, GateLine, FlipFlopLine, DelayLine, StimulusLine, FaultyLine, marks, is_word, is_name, is_text_byte, kind_of, is_flip_flop, is_unsupported, is_constant, is_arity, is_bit, are_names, names_among, declaration_of, declared_by, flip_flop_of, other_kind, gate_of, gate_by, latest_stimulus, stimulus_at, stimulus_by, longest_delay, delay_at, delay_by, form_by, form_of_tokens, form_of_text, form_of}
 
 -- what a form has that a line says
 abbrev pub IsGood : LineForm → Type 0

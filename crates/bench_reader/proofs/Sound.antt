@@ -6,13 +6,15 @@ use Rattle.std.proofs.lemmas.List.Elements.{All-nil, All-cons, All-filter, All-w
 use Rattle.std.proofs.lemmas.List.Folds.{list_any-append}
 use Rattle.std.proofs.lemmas.Slice.Eq.{bytes_eq-Decides}
 use Rattle.std.specs.List.{All, AllByRecursion, AllPairs, AllZip, list_all, list_any, cons_option}
-use Rattle.std.specs.Option.{option_map, option_or}
+use Rattle.std.specs.Option.{option_or}
 use Rattle.std.specs.Str.{bytes_eq}
+use Rattle.std.proofs.lemmas.Bool.{or_parts}
+use Rattle.plain_laws.specs.Bools.{false_from_not, true_from_not}
+use Rattle.plain_laws.specs.Options.{option_or-both_none}
 use Rattle.kdg_text.specs.Lines.{lines_of}
-use Rattle.kdg_text.specs.declared.fault.Fault.{Fault}
-use Rattle.kdg_text.specs.declared.fault.LineFault.{LineFault}
 use Rattle.kdg_text.specs.declared.fault.ReadFail.{ReadFail}
-use Rattle.kdg_text.specs.Faults.{Numbered, Answers, fault_on, first_fault, first_fault_after, unless_fault}
+use Rattle.kdg_text.specs.Faults.{Numbered, Answers, first_fault, first_fault_after}
+use Rattle.kdg_text.specs.FaultLaws.{fits_first, faultless, not_where}
 use Rattle.bench_reader.specs.declared.deck.Deck.{Deck}
 use Rattle.bench_reader.specs.declared.deck.Form.TheVariants.{Gate, Dff}
 use Rattle.bench_reader.specs.declared.deck.GateKind.{GateKind}
@@ -20,12 +22,12 @@ use Rattle.bench_reader.specs.declared.deck.GateKind.TheVariants.{Not, Buff}
 use Rattle.bench_reader.specs.declared.deck.Signal.{Signal}
 use Rattle.bench_reader.specs.declared.outline.Totals.{Totals}
 use Rattle.bench_reader.specs.LineForms.{LineForm, InputLine, OutputLine, GateLine, FlipFlopLine, DelayLine, StimulusLine, is_arity, is_bit}
-use Rattle.bench_reader.specs.Decks.{said, signal_names, defined_by, input_by, output_by, stimulus_by, signal_by, used_by, names_in, is_among, place_of, firsts, fault_where, is_long, own_limit, early_fault, late_fault, delay_in, delay_given, signal_delay, deck_with, IsArity, IsWired, IsDelayOf, IsNameLength, IsStimFor, IsDeck, inputs_of}
+use Rattle.bench_reader.specs.Decks.{said, signal_names, defined_by, input_by, output_by, stimulus_by, signal_by, used_by, names_in, is_among, place_of, firsts, is_long, own_limit, early_fault, late_fault, delay_in, delay_given, signal_delay, deck_with, IsArity, IsWired, IsDelayOf, IsNameLength, IsStimFor, IsDeck, inputs_of}
 use Rattle.bench_reader.specs.Grammar.{said_lines, deck_of_lines, deck_of}
 use Rattle.bench_reader.specs.Outlines.{IsTotal}
 use Rattle.bench_reader.proofs.FanIns.{place_of-within}
 use Rattle.bench_reader.proofs.Lines.{IsGood, AreGood, forms_from-good, both_true}
-use Rattle.bench_reader.proofs.Tables.{bytes_eq-sym, early_fault-parts, is_new, IsTotal-push, or_none, said-push}
+use Rattle.bench_reader.proofs.Tables.{bytes_eq-sym, early_fault-parts, is_new, IsTotal-push, said-push}
 
 -- no name stands twice
 abbrev are_distinct : List (List ℕ) → Bool
@@ -37,16 +39,16 @@ are_distinct-push [] name distinct new = refl
 are_distinct-push (first ∷ names) name distinct new =
     let apart = both_true (not (is_among names first)) (are_distinct names) distinct in
     let others = both_false (bytes_eq name first) (is_among names name) new in
-    let first_new = not_true (is_among names first) apart.0 in
+    let first_new = false_from_not (is_among names first) apart.0 in
     rw (list_any-append (bytes_eq first) names (name ∷ []), bytes_eq-sym first name, others.0, first_new) (are_distinct-push names name apart.1 others.1)
   where
     both_false : (a b : Bool) → (a || b) ≡ false → (a ≡ false) × (b ≡ false)
     both_false true b h = cc
     both_false false b h = (refl, h)
 
-    not_true : (b : Bool) → not b ≡ true → b ≡ false
-    not_true true h = cc
-    not_true false h = refl
+    false_from_not : (b : Bool) → not b ≡ true → b ≡ false
+    false_from_not true h = cc
+    false_from_not false h = refl
 
 -- what holds of lines without an early fault
 record IsApart (lines : List (Numbered LineForm)) : Type 0 where
@@ -75,10 +77,6 @@ IsApart-push lines line apart fits = record {
   distinct = distinct-push lines line apart.distinct fits;
 }
 
-fits_first : (wrong : Option LineFault) (number : ℕ) (rest : Option Fault) → option_or (option_map (fault_on number) wrong) rest ≡ None → (wrong ≡ None) × (rest ≡ None)
-fits_first None number rest none = (refl, none)
-fits_first (Some fault) number rest none = cc
-
 IsApart-after : (before rest : List (Numbered LineForm)) → IsApart before → first_fault_after early_fault before rest ≡ None → IsApart (before ++ rest)
 IsApart-after before [] apart none = rw (append-nil before) apart
 IsApart-after before (line ∷ rest) apart none =
@@ -104,27 +102,15 @@ closed-after all before (line ∷ rest) none =
     let fits = fits_first (late_fault all line.form) line.number _ none in
     (fits.0, closed-after all (before ++ line ∷ []) rest fits.1)
 
-not_where : (test : Bool) (fault : LineFault) → fault_where test fault ≡ None → test ≡ false
-not_where true fault none = cc
-not_where false fault none = refl
-
-not_not : (b : Bool) → not b ≡ false → b ≡ true
-not_not true h = refl
-not_not false h = cc
-
 -- the names that a line uses are defined
 used-known : (all : List (Numbered LineForm)) (form : LineForm) → late_fault all form ≡ None → list_all (is_among (signal_names all)) (used_by form) ≡ true
-used-known all form none = not_not _ (not_where _ _ (or_none _ _ none).0)
+used-known all form none = true_from_not _ (not_where _ _ (option_or-both_none _ _ none).0)
 
 places-within : (all names : List (List ℕ)) (n : ℕ) → length all ≡ n → list_all (is_among all) names ≡ true → All (λ number. number < n) (map (place_of all) names)
 places-within all [] n count known = All-nil (λ number. number < n)
 places-within all (name ∷ names) n count known =
     let tests = both_true (is_among all name) (list_all (is_among all) names) known in
     All-cons (λ number. number < n) (place_of all name) (map (place_of all) names) (let below = place_of-within all name tests.0 in rw (← count) below) (places-within all names n count tests.1)
-
-either_false : (a b : Bool) → (a || b) ≡ false → (a ≡ false) × (b ≡ false)
-either_false true b h = cc
-either_false false b h = (refl, h)
 
 not_long : (n : ℕ) → nat_lt 64 n ≡ false → n ≤ 64
 not_long n h = grind (arith, nat_tests)
@@ -135,12 +121,12 @@ not_many n h = grind (arith, nat_tests)
 -- the first of a line's names is short
 name-short : (form : LineForm) (name : List ℕ) (names : List (List ℕ)) → names_in form ≡ name ∷ names → own_limit form ≡ None → length name ≤ 64
 name-short form name names first within =
-    let short = not_where _ _ (or_none _ _ within).0 in
+    let short = not_where _ _ (option_or-both_none _ _ within).0 in
     let each : (is_long name || list_any is_long names) ≡ false = ap (list_any is_long) (sym first) ∙ short in
-    not_long (length name) (either_false (is_long name) (list_any is_long names) each).0
+    not_long (length name) (or_parts (is_long name) (list_any is_long names) each).0
 
 fan_ins-few : (form : LineForm) → own_limit form ≡ None → length (used_by form) ≤ 255
-fan_ins-few form within = not_many (length (used_by form)) (not_where _ _ (or_none _ _ within).1)
+fan_ins-few form within = not_many (length (used_by form)) (not_where _ _ (option_or-both_none _ _ within).1)
 
 one : (n : ℕ) → (n == 1) ≡ true → n ≡ 1
 one n h = grind (arith, nat_tests)
@@ -223,19 +209,15 @@ name-differs all name (line ∷ lines) new = by_form line.form (name-differs all
     by_form : (form : LineForm) → (is_among (signal_names lines) name ≡ false → All (Differs name) (said (signal_by all) lines)) → is_among (cons_option (defined_by form) (signal_names lines)) name ≡ false
         → All (Differs name) (cons_option (signal_by all form) (said (signal_by all) lines))
     by_form (InputLine other) rest new =
-        let tests = either_false (bytes_eq name other) (is_among (signal_names lines) name) new in
+        let tests = or_parts (bytes_eq name other) (is_among (signal_names lines) name) new in
         All-cons (Differs name) _ _ (new-name name other tests.0) (rest tests.1)
     by_form (GateLine other kind fan_in) rest new =
-        let tests = either_false (bytes_eq name other) (is_among (signal_names lines) name) new in
+        let tests = or_parts (bytes_eq name other) (is_among (signal_names lines) name) new in
         All-cons (Differs name) _ _ (new-name name other tests.0) (rest tests.1)
     by_form (FlipFlopLine other source) rest new =
-        let tests = either_false (bytes_eq name other) (is_among (signal_names lines) name) new in
+        let tests = or_parts (bytes_eq name other) (is_among (signal_names lines) name) new in
         All-cons (Differs name) _ _ (new-name name other tests.0) (rest tests.1)
     by_form _ rest new = rest new
-
-not_true : (b : Bool) → not b ≡ true → b ≡ false
-not_true true h = cc
-not_true false h = refl
 
 names-differ : (all : List (List ℕ)) (lines : List (Numbered LineForm)) → are_distinct (signal_names lines) ≡ true → Pairs (λ (signal later : Signal). signal.name ≢ later.name) (said (signal_by all) lines)
 names-differ all [] distinct = tt
@@ -245,13 +227,13 @@ names-differ all (line ∷ lines) distinct = by_form line.form (names-differ all
         → are_distinct (cons_option (defined_by form) (signal_names lines)) ≡ true → Pairs (λ (signal later : Signal). signal.name ≢ later.name) (cons_option (signal_by all form) (said (signal_by all) lines))
     by_form (InputLine name) rest distinct =
         let tests = both_true (not (is_among (signal_names lines) name)) (are_distinct (signal_names lines)) distinct in
-        (name-differs all name lines (not_true _ tests.0), rest tests.1)
+        (name-differs all name lines (false_from_not _ tests.0), rest tests.1)
     by_form (GateLine name kind fan_in) rest distinct =
         let tests = both_true (not (is_among (signal_names lines) name)) (are_distinct (signal_names lines)) distinct in
-        (name-differs all name lines (not_true _ tests.0), rest tests.1)
+        (name-differs all name lines (false_from_not _ tests.0), rest tests.1)
     by_form (FlipFlopLine name source) rest distinct =
         let tests = both_true (not (is_among (signal_names lines) name)) (are_distinct (signal_names lines)) distinct in
-        (name-differs all name lines (not_true _ tests.0), rest tests.1)
+        (name-differs all name lines (false_from_not _ tests.0), rest tests.1)
     by_form _ rest distinct = rest distinct
 
 firsts-within : (n : ℕ) (numbers : List ℕ) → All (λ number. number < n) numbers → All (λ number. number < n) (firsts numbers)
@@ -380,10 +362,6 @@ lines-sound lines good within closed apart =
       name_lengths = names-fit all lines good within;
       names_differ = AllPairs-from_pairs (λ (signal later : Signal). signal.name ≢ later.name) _ (names-differ all lines apart.distinct);
     }
-
-faultless : {V : Type 0} (o : Option Fault) (answer : Result V Fault) (value : V) → unless_fault o answer ≡ Ok value → (o ≡ None) × (answer ≡ Ok value)
-faultless None answer value made = (refl, made)
-faultless (Some fault) answer value made = cc
 
 -- each deck that bytes spell is sound
 deck_of-sound : (input : List ℕ) (deck : Deck) → deck_of input ≡ Ok deck → IsDeck deck

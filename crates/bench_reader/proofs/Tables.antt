@@ -9,24 +9,19 @@ use Rattle.std.specs.Borrow.{Bor}
 use Rattle.std.specs.BTreeMap as tree
 use Rattle.std.specs.BTreeMap.{BTreeMap}
 use Rattle.std.specs.Cmp.Lexicographic.{slice_cmp}
-use Rattle.std.specs.List.{cons_option}
 use Rattle.std.specs.Option.{option_map, option_map_or, option_or}
 use Rattle.std.specs.Ordering.{nat_cmp}
 use Rattle.std.specs.Str.{bytes_eq}
-use Rattle.kdg_text.specs.declared.fault.LineFault.{LineFault}
+use Rattle.plain_laws.specs.Options.{option_or-none, option_or-both_none, cons_option-none}
+use Rattle.plain_laws.specs.Bools.{same_tests}
 use Rattle.kdg_text.specs.Faults.{Numbered}
+use Rattle.kdg_text.specs.FaultLaws.{not_where}
 use Rattle.bench_reader.specs.declared.index.Definition.{Definition}
 use Rattle.bench_reader.specs.declared.index.Index.{Index}
 use Rattle.bench_reader.specs.declared.outline.Totals.{Totals}
 use Rattle.bench_reader.specs.LineForms.{LineForm, InputLine, GateLine, FlipFlopLine, DelayLine, StimulusLine}
-use Rattle.bench_reader.specs.Decks.{said, signal_names, gate_names, defined_by, gate_defined_by, delay_in, delay_given, input_by, stimulus_by, is_among, place_of, fault_where, own_fault, own_limit, double_name, double_delay, double_fault, count_limit, early_fault}
+use Rattle.bench_reader.specs.Decks.{said, signal_names, gate_names, defined_by, gate_defined_by, delay_in, delay_given, input_by, stimulus_by, is_among, place_of, own_fault, own_limit, double_name, double_delay, double_fault, count_limit, early_fault}
 use Rattle.bench_reader.specs.Outlines.{some_if, number_of, found, number_in, is_gate_in, Puts, IsTotal, IsIndexed, Indexes, totals_with}
-
-same_tests : (x y : Bool) → (x ≡ true → y ≡ true) → (y ≡ true → x ≡ true) → x ≡ y
-same_tests true true to from = refl
-same_tests true false to from = let clash = to refl in absurd (cc)
-same_tests false true to from = let clash = from refl in absurd (cc)
-same_tests false false to from = refl
 
 pub bytes_eq-sym : (a b : List ℕ) → bytes_eq a b ≡ bytes_eq b a
 bytes_eq-sym a b = same_tests (bytes_eq a b) (bytes_eq b a)
@@ -66,30 +61,14 @@ number_of-push (first ∷ names) name new q =
     by_tests false true len o never = refl
     by_tests false false len o never = refl
 
-not_where : (test : Bool) (fault : LineFault) → fault_where test fault ≡ None → test ≡ false
-not_where true fault none = cc
-not_where false fault none = refl
-
-one_option : {X : Type 0} (o : Option X) → cons_option o [] ≡ option_to_list o
-one_option None = refl
-one_option (Some x) = refl
-
 -- what lines of a sort say with one more line
 pub said-push : {X : Type 0} (by : LineForm → Option X) (lines : List (Numbered LineForm)) (line : Numbered LineForm) → said by (lines ++ line ∷ []) ≡ said by lines ++ option_to_list (by line.form)
 said-push by lines line =
-    filter_map-append (λ (each : Numbered LineForm). by each.form) lines (line ∷ []) ∙ ap (λ last. said by lines ++ last) (one_option (by line.form))
-
-pub or_none : (a b : Option LineFault) → option_or a b ≡ None → (a ≡ None) × (b ≡ None)
-or_none None b none = (refl, none)
-or_none (Some fault) b none = cc
-
-or_nothing : {X : Type 0} (o : Option X) → option_or o None ≡ o
-or_nothing None = refl
-or_nothing (Some x) = refl
+    filter_map-append (λ (each : Numbered LineForm). by each.form) lines (line ∷ []) ∙ ap (λ last. said by lines ++ last) (cons_option-none (by line.form))
 
 -- what a line more gives a name
 delay_given-push : (lines : List (Numbered LineForm)) (line : Numbered LineForm) (name : List ℕ) → delay_given (lines ++ line ∷ []) name ≡ option_or (delay_given lines name) (delay_in line.form name)
-delay_given-push [] line name = or_nothing (delay_in line.form name)
+delay_given-push [] line name = option_or-none (delay_in line.form name)
 delay_given-push (first ∷ lines) line name = ap (option_or (delay_in first.form name)) (delay_given-push lines line name) ∙ in_turn (delay_in first.form name) (delay_given lines name)
   where
     in_turn : (a b : Option ℕ) → option_or a (option_or b (delay_in line.form name)) ≡ option_or (option_or a b) (delay_in line.form name)
@@ -156,7 +135,7 @@ gates-push index after form name number is_gate names gates extends numbers know
 pub Indexes-name : (index after : Index) (number : ℕ) (form : LineForm) (name : List ℕ) (is_gate : Bool) → Extends index after form name number is_gate → Indexes index number form after
 Indexes-name index after number form name is_gate extends lines n indexed next single =
     let line : Numbered LineForm = record { number = n; form = form } in
-    let new : is_among (signal_names lines) name ≡ false = not_where _ _ (ap (double_name lines) (sym extends.defines) ∙ (or_none _ _ single).0) in
+    let new : is_among (signal_names lines) name ≡ false = not_where _ _ (ap (double_name lines) (sym extends.defines) ∙ (option_or-both_none _ _ single).0) in
     let longer : signal_names (lines ++ line ∷ []) ≡ signal_names lines ++ name ∷ [] = said-push defined_by lines line ∙ ap (λ o. signal_names lines ++ option_to_list o) extends.defines in
     let gates : gate_names (lines ++ line ∷ []) ≡ gate_names lines ++ option_to_list (some_if is_gate name) =
     said-push gate_defined_by lines line ∙ ap (λ o. gate_names lines ++ option_to_list o) extends.as_gate in
@@ -164,7 +143,7 @@ Indexes-name index after number form name is_gate extends lines n indexed next s
       numbers = λ other. numbers-push index after form name number is_gate (signal_names lines) extends next indexed.numbers new other ∙ ap (λ names. number_of names other) (sym longer);
       gates = λ other. gates-push index after form name number is_gate (signal_names lines) (gate_names lines) extends indexed.numbers indexed.gates new other ∙ ap (λ names. is_among names other) (sym gates);
       delays = λ other. ap (λ table. found table other) extends.delays ∙ indexed.delays other
-          ∙ sym (delay_given-push lines line other ∙ ap (option_or (delay_given lines other)) (extends.no_delay other) ∙ or_nothing (delay_given lines other));
+          ∙ sym (delay_given-push lines line other ∙ ap (option_or (delay_given lines other)) (extends.no_delay other) ∙ option_or-none (delay_given lines other));
     }
 
 -- a line that defines no name, where the table of delays goes on with it
@@ -178,12 +157,12 @@ Indexes-undefined index after number form defines as_gate same delays lines n in
     record {
       numbers = λ other. ap (λ table. number_in table other) same ∙ indexed.numbers other ∙ ap (λ names. number_of names other) (sym signals);
       gates = λ other. ap (λ table. is_gate_in table other) same ∙ indexed.gates other ∙ ap (λ names. is_among names other) (sym gates);
-      delays = λ other. delays lines other (or_none _ _ single).1 (indexed.delays other) ∙ sym (delay_given-push lines line other);
+      delays = λ other. delays lines other (option_or-both_none _ _ single).1 (indexed.delays other) ∙ sym (delay_given-push lines line other);
     }
 
 pub Indexes-none : (index : Index) (number : ℕ) (form : LineForm) → defined_by form ≡ None → gate_defined_by form ≡ None → ((other : List ℕ) → delay_in form other ≡ None) → Indexes index number form index
 Indexes-none index number form defines as_gate no_delay =
-    Indexes-undefined index index number form defines as_gate refl (λ lines other single known. known ∙ sym (ap (option_or (delay_given lines other)) (no_delay other) ∙ or_nothing (delay_given lines other)))
+    Indexes-undefined index index number form defines as_gate refl (λ lines other single known. known ∙ sym (ap (option_or (delay_given lines other)) (no_delay other) ∙ option_or-none (delay_given lines other)))
 
 pub Indexes-delay : (index after : Index) (number : ℕ) (name : List ℕ) (delay : ℕ) → after.definitions ≡ index.definitions → Puts index.delays name delay after.delays → Indexes index number (DelayLine name delay) after
 Indexes-delay index after number name delay same puts =
@@ -200,7 +179,7 @@ Indexes-delay index after number name delay same puts =
         let is_other : name ≡ other = (bytes_eq-Decides name other).0 same in
         let none : is_some (delay_given lines other) ≡ false = subst (λ (n : List ℕ). is_some (delay_given lines n) ≡ false) is_other (not_where _ _ single) in
         rw (bytes_eq-sym other name, same) (first_given (delay_given lines other) none)
-    by_test lines other single false same = rw (bytes_eq-sym other name, same) (sym (or_nothing (delay_given lines other)))
+    by_test lines other single false same = rw (bytes_eq-sym other name, same) (sym (option_or-none (delay_given lines other)))
 
 -- the table that is written to
 pub Puts-from_updates : {X : Type 0} (table after : BTreeMap (Bor (List ℕ)) X) (name : List ℕ) (value : X)
@@ -211,14 +190,14 @@ Puts-from_updates table after name value updates = λ other. btree_map_updates_s
 pub early_fault-parts : (before : List (Numbered LineForm)) (form : LineForm) → early_fault before form ≡ None
     → (own_fault form ≡ None) × (double_fault before form ≡ None) × (own_limit form ≡ None) × (count_limit before form ≡ None)
 early_fault-parts before form none =
-    let own = or_none _ _ none in
-    let twice = or_none _ _ own.1 in
-    let limits = or_none _ _ twice.1 in
+    let own = option_or-both_none _ _ none in
+    let twice = option_or-both_none _ _ own.1 in
+    let limits = option_or-both_none _ _ twice.1 in
     (own.0, twice.0, limits.0, limits.1)
 
 -- the name that a right line defines isn't defined before
 pub is_new : (before : List (Numbered LineForm)) (form : LineForm) (name : List ℕ) → defined_by form ≡ Some name → early_fault before form ≡ None → is_among (signal_names before) name ≡ false
-is_new before form name defines fits = not_where _ _ (ap (double_name before) (sym defines) ∙ (or_none _ _ (early_fault-parts before form fits).1).0)
+is_new before form name defines fits = not_where _ _ (ap (double_name before) (sym defines) ∙ (option_or-both_none _ _ (early_fault-parts before form fits).1).0)
 
 few_before : (n limit : ℕ) → not (nat_lt n limit) ≡ false → n < limit
 few_before n limit test = grind (arith, nat_tests)

@@ -3,7 +3,7 @@ use Rattle.std.specs.Prelude.{◌≡◌, ◌≢◌, ℕ, suc, ◌-◌, ◌<◌, 
 use Rattle.std.specs.List.{AllZip, list_all, list_any, filter_map}
 use Rattle.std.specs.Option.{option_or}
 use Rattle.kdg_text.specs.declared.fault.LineFault.{LineFault}
-use Rattle.kdg_text.specs.Faults.{Numbered}
+use Rattle.kdg_text.specs.Faults.{Numbered, fault_where}
 use Rattle.bench_reader.specs.declared.deck.Deck.{Deck}
 use Rattle.bench_reader.specs.declared.deck.Form.{Form}
 use Rattle.bench_reader.specs.declared.deck.Form.TheVariants.{Input, Gate, Dff}
@@ -104,10 +104,6 @@ most_signals = 4096
 
 abbrev pub most_stimuli : ℕ
 most_stimuli = 65536
-
--- the fault, where the test holds
-abbrev pub fault_where : Bool → LineFault → Option LineFault
-fault_where test fault = if test then Some fault else None
 
 -- the line's own fault
 abbrev pub own_fault : LineForm → Option LineFault

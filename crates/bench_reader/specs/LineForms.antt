@@ -1,12 +1,11 @@
 -- What a line of a deck says, by that line's bytes alone.
-use Rattle.std.specs.Prelude.{ℕ, Bool, true, false, ◌&&◌, ◌||◌, not, ◌==◌, nat_le, if◌then◌else◌, List, [], ◌∷◌, length, map, Option, None, Some, Result, Ok, Err, codes, bytes_eq}
-use Rattle.std.specs.Char.{to_ascii_lowercase}
+use Rattle.std.specs.Prelude.{ℕ, Bool, true, false, ◌&&◌, ◌||◌, not, ◌==◌, nat_le, if◌then◌else◌, List, [], ◌∷◌, length, Option, None, Some, Result, Ok, Err, codes, bytes_eq}
 use Rattle.std.specs.List.{list_all}
 use Rattle.kdg_text.specs.declared.fault.LineFault.{LineFault}
 use Rattle.kdg_text.specs.declared.number.NumFault.{NumFault}
 use Rattle.kdg_text.specs.Faults.{before_comment}
 use Rattle.kdg_text.specs.Numbers.{u64_of}
-use Rattle.kdg_text.specs.Tokens.{is_blank, is_mark, tokens_of}
+use Rattle.kdg_text.specs.Tokens.{is_blank, is_mark, spells, tokens_of}
 use Rattle.bench_reader.specs.declared.deck.GateKind.{GateKind}
 use Rattle.bench_reader.specs.declared.deck.GateKind.TheVariants.{And, Nand, Or, Nor, Xor, Xnor, Not, Buff}
 use Rattle.bench_reader.specs.Faults.{syntax, unknown_kind, unsupported, arity, bad_number}
@@ -43,10 +42,6 @@ is_word (byte ∷ bytes) = not (is_mark marks byte)
 abbrev pub is_name : List ℕ → Bool
 is_name [] = false
 is_name (byte ∷ bytes) = not (is_mark marks byte) && not (byte == 64)
-
--- whether a word is this one, which is in small letters, where the case of letters is one's own
-abbrev pub spells : List ℕ → List ℕ → Bool
-spells word small = bytes_eq (map to_ascii_lowercase word) small
 
 -- the kind that a word names
 abbrev pub kind_of : List ℕ → Option GateKind

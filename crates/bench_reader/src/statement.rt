@@ -2,7 +2,7 @@ ghost use Rattle.std.specs.Prelude.{◌≡◌, ◌∷◌, [], ℕ, List, drop, n
 ghost use Rattle.std.specs.Option.{option_or};
 ghost use Rattle.kdg_text.specs.Numbers.{u64_of};
 ghost use Rattle.kdg_text.specs.Tokens.{tokens_of};
-ghost use Rattle.bench_reader.specs.Decks.{fault_where};
+ghost use Rattle.kdg_text.specs.Faults.{fault_where};
 ghost use Rattle.bench_reader.specs.Faults.{beyond, unsupported, unknown_kind};
 ghost use Rattle.bench_reader.specs.LineForms.{FaultyLine, marks, form_of, form_by, declared_by, delay_at, delay_by, gate_by, gate_of, is_unsupported, kind_of, names_among, other_kind, stimulus_at, stimulus_by};
 ghost use Rattle.bench_reader.specs.Statements.{Counts, Says, SaysForm, fan_in_of};

@@ -1,6 +1,7 @@
 ghost use Rattle.std.specs.Prelude.{◌≡◌, true};
 ghost use Rattle.std.specs.List.{list_all};
-ghost use Rattle.bench_reader.specs.LineForms.{is_text_byte, is_word, is_name, spells, kind_of, is_flip_flop, is_unsupported, is_constant, is_arity, is_bit};
+ghost use Rattle.kdg_text.specs.Tokens.{spells};
+ghost use Rattle.bench_reader.specs.LineForms.{is_text_byte, is_word, is_name, kind_of, is_flip_flop, is_unsupported, is_constant, is_arity, is_bit};
 
 use crate::GateKind;
 

@@ -5,16 +5,16 @@ use Rattle.std.proofs.lemmas.List.{drop_more, drop_all, get_or-set_same, get_or-
 use Rattle.rw_sets.specs.declared.access.Access.{Access}
 use Rattle.rw_sets.specs.declared.access.Access.TheVariants.{Read}
 use Rattle.rw_sets.specs.Accesses.{Accesses, IsAscending, access_at, is_write, writes}
+use Rattle.rw_sets.specs.AccessLaws.{has_from_writes, ascending_first, ascending_drop}
 use Rattle.cell_store.specs.declared.cell.Cell.{Cell}
 use Rattle.cell_store.specs.declared.cell.Cell.TheVariants.{Home, Out}
 use Rattle.cell_store.specs.Home.{IsHome}
 use Rattle.cell_store.specs.Part.{Part}
 use Rattle.cell_store.specs.Cells.{cell_at, cell_in, part_of, cells_taken, cells_given, with_value, AreHome, IsPart}
 use Rattle.cell_store.specs.Laws.{WritesAtHome}
-use Rattle.cell_store.proofs.Locations.{ascending_first, writes_first, writes_other, unwritten_beyond, home_in_range, has_from_writes, held-put_same, held-put_other, length-put_at}
+use Rattle.cell_store.proofs.Locations.{writes_first, writes_other, unwritten_beyond, home_in_range, held-put_same, held-put_other, length-put_at}
 use Rattle.cell_store.proofs.Parts.{length-cells_taken, length-cells_given, cell_taken, cell_given, same_cells, cell_in_part_of, is_part_of}
 use Rattle.cell_store.proofs.Returns.{lookups_determine_parts, gives_back_what_was_taken}
-use Rattle.cell_store.proofs.Exchanges.{ascending_drop}
 
 module _ {V : Type 0} where
   set_here : (cells : List (Cell V)) (loc other : ℕ) (cell : Cell V) → loc < length cells → loc ≡ other → cell_at (set cells loc cell) other ≡ cell

@@ -5,18 +5,14 @@ use Rattle.std.proofs.lemmas.List.{drop_more, take_more_set, drop-set-lt, take_m
 use Rattle.rw_sets.specs.declared.access.Access.{Access}
 use Rattle.rw_sets.specs.declared.access.Access.TheVariants.{Read, Write}
 use Rattle.rw_sets.specs.Accesses.{Accesses, AllBeyond, IsAscending, is_write, writes}
+use Rattle.rw_sets.specs.AccessLaws.{ascending_drop, ascending_first}
 use Rattle.cell_store.specs.declared.cell.Cell.{Cell}
 use Rattle.cell_store.specs.declared.cell.Cell.TheVariants.{Out}
 use Rattle.cell_store.specs.Part.{Part}
 use Rattle.cell_store.specs.Cells.{cell_at, held_at, cell_in, cells_given, with_written}
 use Rattle.cell_store.specs.Places.{given_at, taken_at}
-use Rattle.cell_store.proofs.Locations.{ascending_first, ascending_rest, writes_first, writes_other, writes_in_place, unwritten_beyond, held_first, held_other}
+use Rattle.cell_store.proofs.Locations.{writes_first, writes_other, writes_in_place, unwritten_beyond, held_first, held_other}
 use Rattle.cell_store.proofs.Parts.{length-each_from, cell_given, same_cells}
-
-pub ascending_drop : (i : ℕ) (ps : Accesses) → IsAscending ps → IsAscending (drop i ps)
-ascending_drop zero ps up = up
-ascending_drop (suc i) [] up = up
-ascending_drop (suc i) (p ∷ ps) up = ascending_drop i ps (ascending_rest _ _ up)
 
 reads_pair : (p : ℕ × Access) → is_write p.1 ≡ false → p ≡ (p.0, Read)
 reads_pair (n, Read) h = refl

@@ -4,13 +4,13 @@ use Rattle.std.specs.Option.{is_some}
 use Rattle.std.proofs.lemmas.Bool.{cases_lt, false≢true, false_from_ne_true}
 use Rattle.std.proofs.lemmas.List.{get_or_past}
 use Rattle.rw_sets.specs.Accesses.{Accesses, access_at, writes, AreIndependent}
+use Rattle.rw_sets.specs.AccessLaws.{has_from_writes}
 use Rattle.cell_store.specs.declared.cell.Cell.{Cell}
 use Rattle.cell_store.specs.declared.cell.Cell.TheVariants.{Out}
 use Rattle.cell_store.specs.Home.{IsHome}
 use Rattle.cell_store.specs.Part.{Part}
 use Rattle.cell_store.specs.Cells.{cell_at, cell_in, cells_taken, cells_given, AreHome, AreWrittenHome, AreWrittenOut}
 use Rattle.cell_store.specs.Laws.{IndependentOrder, IndependentTake, IndependentGive}
-use Rattle.cell_store.proofs.Locations.{has_from_writes}
 use Rattle.cell_store.proofs.Parts.{length-cells_taken, length-cells_given, cell_taken, cell_given, same_cells, same_parts}
 use Rattle.cell_store.proofs.Returns.{taken_from_given, given_to_taken}
 

@@ -1,39 +1,17 @@
 -- What a set has at its locations, and the cells that go with them.
 use Rattle.std.proofs.Common.{◌≡◌, ℕ, zero, suc, ◌<◌, true, false, eqb, cond, List, [], ◌∷◌, length, map, get_or, set, Option, Some, None, IsSome, is_some, IsTrue, refl, sym, ap, ◌∙◌, subst, inl, inr, arith}
 use Rattle.std.proofs.lemmas.List.{get_or_default}
-use Rattle.std.specs.List.{AllByRecursion}
-use Rattle.std.specs.List.Sorted.{IsStrictlySortedBy}
-use Rattle.std.specs.declared.cmp.Ordering.TheVariants.{Less}
-use Rattle.std.proofs.lemmas.Cmp.{ranked}
 use Rattle.std.proofs.lemmas.Bool.{cases_eq, false≢true}
 use Rattle.std.proofs.lemmas.Bool.Decides.{nat_tests}
 use Rattle.rw_sets.specs.declared.access.Access.{Access}
 use Rattle.rw_sets.specs.declared.access.Access.TheVariants.{Read, Write}
-use Rattle.rw_sets.specs.Accesses.{Accesses, by_location, AllBeyond, IsAscending, access_at, is_write, allows_write, writes, covers, IsWithin}
-use Rattle.rw_sets.specs.Places.{location_at, IsAt}
+use Rattle.rw_sets.specs.Accesses.{Accesses, AllBeyond, IsAscending, access_at, is_write, allows_write, writes, covers, IsWithin}
+use Rattle.rw_sets.specs.Places.{IsAt}
+use Rattle.rw_sets.specs.AccessLaws.{location_beyond, access_first, access_other, ascending_first, ascending_rest}
 use Rattle.cell_store.specs.declared.cell.Cell.{Cell}
 use Rattle.cell_store.specs.declared.cell.Cell.TheVariants.{Out}
 use Rattle.cell_store.specs.Home.{IsHome}
 use Rattle.cell_store.specs.Cells.{cell_at, held_at, with_written, put_at}
-
--- an ascending list by its first pair and its rest
-pub ascending_first : (p : ℕ × Access) (ps : Accesses) → IsAscending (p ∷ ps) → AllBeyond p.0 ps
-unfolding IsStrictlySortedBy
-ascending_first p ps up = beyond ps up.0
-  where
-    beyond : (qs : Accesses) → AllByRecursion (λ q. by_location p q ≡ Less) qs → AllBeyond p.0 qs
-    beyond [] h = tt
-    beyond (q ∷ qs) h = (ranked p.0 q.0 Less (sym h.0), beyond qs h.1)
-
-pub ascending_rest : (p : ℕ × Access) (ps : Accesses) → IsAscending (p ∷ ps) → IsAscending ps
-unfolding IsStrictlySortedBy
-ascending_rest p ps up = up.1
-
-pub access_first : (p : ℕ × Access) (ps : Accesses) (loc : ℕ) → p.0 ≡ loc → access_at (p ∷ ps) loc ≡ Some p.1
-access_first p ps loc e = grind (arith, nat_tests)
-
-pub access_other : (p : ℕ × Access) (ps : Accesses) (loc : ℕ) → (p.0 ≡ loc → ⊥) → access_at (p ∷ ps) loc ≡ access_at ps loc
-access_other p ps loc differs = grind (arith, nat_tests)
 
 pub writes_first : (p : ℕ × Access) (ps : Accesses) (loc : ℕ) → p.0 ≡ loc → writes (p ∷ ps) loc ≡ is_write p.1
 writes_first p ps loc e = ap allows_write (access_first p ps loc e)
@@ -49,11 +27,6 @@ absent_beyond loc (p ∷ ps) h = access_other p ps loc (λ e. omega (arith, h.0)
 pub unwritten_beyond : (loc : ℕ) (ps : Accesses) → AllBeyond loc ps → writes ps loc ≡ false
 unwritten_beyond loc ps h = ap allows_write (absent_beyond loc ps h)
 
-location_beyond : (n : ℕ) (ps : Accesses) → AllBeyond n ps → (j : ℕ) → j < length ps → n < location_at ps j
-location_beyond n [] h j lt = absurd (omega arith)
-location_beyond n (p ∷ ps) h zero lt = h.0
-location_beyond n (p ∷ ps) h (suc j) lt = location_beyond n ps h.1 j (omega arith)
-
 -- the pair at a place is what the set has at its location
 pub access_in_place : (ps : Accesses) (i : ℕ) (d : ℕ × Access) → IsAscending ps → i < length ps → access_at ps (get_or ps i d).0 ≡ Some (get_or ps i d).1
 access_in_place [] i d up lt = absurd (omega arith)
@@ -66,28 +39,6 @@ access_in_place (p ∷ ps) (suc i) d up lt =
 
 pub writes_in_place : (ps : Accesses) (i : ℕ) (d : ℕ × Access) → IsAscending ps → i < length ps → is_write (get_or ps i d).1 ≡ true → IsTrue (writes ps (get_or ps i d).0)
 writes_in_place ps i d up lt e = ap allows_write (access_in_place ps i d up lt) ∙ e
-
-pub has_in_place : (ps : Accesses) (i : ℕ) (d : ℕ × Access) → i < length ps → IsSome (access_at ps (get_or ps i d).0)
-has_in_place [] i d lt = absurd (omega arith)
-has_in_place (p ∷ ps) zero d lt = rw (access_first p ps p.0 refl) refl
-has_in_place (p ∷ ps) (suc i) d lt = elim (cases_eq p.0 (get_or ps i d).0) [
-  | inl same ↦ rw (access_first p ps (get_or ps i d).0 same) refl
-  | inr differs ↦ rw (access_other p ps (get_or ps i d).0 differs) (has_in_place ps i d (omega arith))
-]
-
-pub has_later : (p : ℕ × Access) (ps : Accesses) (loc : ℕ) → IsSome (access_at ps loc) → IsSome (access_at (p ∷ ps) loc)
-has_later p ps loc has = elim (cases_eq p.0 loc) [
-  | inl same ↦ rw (access_first p ps loc same) refl
-  | inr differs ↦ rw (access_other p ps loc differs) has
-]
-
--- what is written is there
-pub has_from_writes : (ps : Accesses) (loc : ℕ) → IsTrue (writes ps loc) → IsSome (access_at ps loc)
-has_from_writes ps loc h = some_from (access_at ps loc) h
-  where
-    some_from : (x : Option Access) → IsTrue (allows_write x) → IsSome x
-    some_from None k = absurd (false≢true k)
-    some_from (Some x) k = refl
 
 -- what lies within another set is written there
 pub writes_within : (a b : Accesses) → IsWithin a b → (loc : ℕ) → IsTrue (writes a loc) → IsTrue (writes b loc)

@@ -5,12 +5,13 @@ use Rattle.std.proofs.lemmas.List.{get_or_past, ext_get_or, length-map}
 use Rattle.rw_sets.specs.declared.access.Access.{Access}
 use Rattle.rw_sets.specs.declared.access.Access.TheVariants.{Read, Write}
 use Rattle.rw_sets.specs.Accesses.{Accesses, IsAscending, access_at, allows_write, writes}
+use Rattle.rw_sets.specs.AccessLaws.{access_first, has_from_writes, has_later}
 use Rattle.cell_store.specs.declared.cell.Cell.{Cell}
 use Rattle.cell_store.specs.declared.cell.Cell.TheVariants.{Home, Out}
 use Rattle.cell_store.specs.Home.{IsHome}
 use Rattle.cell_store.specs.Part.{Part}
 use Rattle.cell_store.specs.Cells.{cell_at, held_at, cell_in, part_of, each_from, cells_taken, cells_given, with_written, with_value, read_copy, shell_of, bundle_of, IsPart, IsBundle, IsShell, AreHome, AreWrittenHome, AreWrittenOut}
-use Rattle.cell_store.proofs.Locations.{access_first, has_later, home_in_range, has_from_writes, held_map, held-with_written, length-with_written, held-put_same, held-put_other, length-put_at, with_written_same}
+use Rattle.cell_store.proofs.Locations.{home_in_range, held_map, held-with_written, length-with_written, held-put_same, held-put_other, length-put_at, with_written_same}
 
 module _ {V : Type 0} where
   pub length-each_from : (f : ℕ → Cell V → Cell V) (n : ℕ) (cells : List (Cell V)) → length (each_from f n cells) ≡ length cells

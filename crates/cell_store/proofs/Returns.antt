@@ -3,12 +3,13 @@ use Rattle.std.proofs.Common.{◌≡◌, ℕ, ◌<◌, Bool, true, false, cond, 
 use Rattle.std.proofs.lemmas.Bool.{cases_Bool, false≢true}
 use Rattle.std.proofs.lemmas.List.{get_or_past}
 use Rattle.rw_sets.specs.Accesses.{Accesses, writes}
+use Rattle.rw_sets.specs.AccessLaws.{has_from_writes}
 use Rattle.cell_store.specs.declared.cell.Cell.{Cell}
 use Rattle.cell_store.specs.declared.cell.Cell.TheVariants.{Home, Out}
 use Rattle.cell_store.specs.Part.{Part}
 use Rattle.cell_store.specs.Cells.{cell_at, held_at, cell_in, part_of, cells_taken, cells_given}
 use Rattle.cell_store.specs.Laws.{TakenByLocation, GivenByLocation, PartsByLocation, WritesByLocation, ShellsByLocation, LookupsDetermineParts, TakesBackWhatWasGiven, GivingForgetsTaking, TakingForgetsGiving, GivesBackWhatWasTaken, RegainsWhatWasGiven}
-use Rattle.cell_store.proofs.Locations.{home_in_range, writes_within, same_held, has_from_writes, held-put_same, held-put_other, with_written_same, with_written_twice, with_written_itself}
+use Rattle.cell_store.proofs.Locations.{home_in_range, writes_within, same_held, held-put_same, held-put_other, with_written_same, with_written_twice, with_written_itself}
 use Rattle.cell_store.proofs.Parts.{taken_leaves_out, given_leaves_home, length-cells_taken, length-cells_given, cell_in-with_written, is_part_of, is_shell, is_bundle_again, cell_taken, cell_given, same_cells, cell_in_part_of, is_bundle_part_of, is_bundle_with_value}
 
 module _ {V : Type 0} where

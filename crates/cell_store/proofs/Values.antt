@@ -6,6 +6,7 @@ use Rattle.std.proofs.lemmas.Bool.{cases_lt, cases_eq, cases_Bool, false≢true,
 use Rattle.std.proofs.lemmas.Option.{slice_get-map, unwrap_or-slice_get}
 use Rattle.std.proofs.lemmas.List.{get_or_past, get_or-map, get_or-set_same, get_or-set_other, length-map, length-set, map-set}
 use Rattle.rw_sets.specs.Accesses.{Accesses, IsAscending, access_at, writes, IsInRange}
+use Rattle.rw_sets.specs.AccessLaws.{has_from_writes}
 use Rattle.cell_store.specs.declared.cell.Cell.{Cell}
 use Rattle.cell_store.specs.declared.cell.Cell.TheVariants.{Home, Out}
 use Rattle.cell_store.specs.Home.{IsHome}
@@ -13,7 +14,7 @@ use Rattle.cell_store.specs.Part.{Part}
 use Rattle.cell_store.specs.Cells.{cell_at, cell_in, part_of, cells_taken, cells_given, with_value, AreHome, IsPart}
 use Rattle.cell_store.specs.Values.{homes, values_of, AreAllHome, AgreesWith, ChangesOnlyWritten}
 use Rattle.cell_store.specs.Laws.{HomesByLocation, HomesAreValues, AgreementLasts, GivesNewValues, ValueChanges}
-use Rattle.cell_store.proofs.Locations.{has_from_writes, writes_within, held-put_same, held-put_other, length-put_at}
+use Rattle.cell_store.proofs.Locations.{writes_within, held-put_same, held-put_other, length-put_at}
 use Rattle.cell_store.proofs.Parts.{length-cells_taken, length-cells_given, cell_taken, cell_given, same_cells, same_parts, cell_in_part_of, is_part_of, is_bundle_part_of}
 use Rattle.cell_store.proofs.Returns.{given_to_taken, lookups_determine_parts}
 use Rattle.cell_store.proofs.Independent.{unwritten_by_other}

@@ -5,17 +5,21 @@ use Rattle.std.specs.Option.{option_map}
 use Rattle.std.specs.declared.cmp.Ordering.TheVariants.{Less}
 use Rattle.std.specs.Ordering.{is_lt}
 use Rattle.std.proofs.lemmas.Bool.{true≢false}
+use Rattle.plain_laws.specs.Lists.{All-weaker}
+use Rattle.plain_laws.specs.Orderings.{less_from_test}
 use Rattle.task_order.specs.declared.task.Task.{Task}
 use Rattle.task_order.specs.Key.{Bound, is_before, key_cmp, key_cmp_total}
 use Rattle.task_order.specs.TaskList.{put_in}
+use Rattle.task_order.specs.TaskListLaws.{All-put_in, All-put_all}
+use Rattle.task_order.specs.KeyLaws.{before_earlier, not_before_later}
 use Rattle.app_laws.specs.Applications.{Application}
 use Rattle.app_laws.specs.Execution.{Execution, run_until}
 use Rattle.commuting.specs.States.{State, state_of, execution_from, run_from, entry_of}
 use Rattle.commuting.specs.Commuting.{BothEnd, IsSameButLogsMore}
 use Rattle.commuting.specs.Basis.{Basis}
 use Rattle.commuting.proofs.Behind.{IsClearBeside, IsBehind, rest, next, next_clear, first_then, task_then, independent, same_first_entry, entry_goes_behind}
-use Rattle.commuting.proofs.Ends.{before_earlier, not_before_later, none_before_first, none_before_put_in, none_before_all, both_mapped, first_acts}
-use Rattle.commuting.proofs.Pending.{differ_where_apart, all-weaker, all-put_in, all-put_all, less_from_test}
+use Rattle.commuting.proofs.Ends.{none_before_first, none_before_put_in, none_before_all, both_mapped, first_acts}
+use Rattle.commuting.proofs.Pending.{differ_where_apart}
 use Rattle.commuting.proofs.Runs.{with_front, turn, run_clear, run_task, run_refused}
 use Rattle.commuting.proofs.Turns.{IsBeside, children_of, children_later, turns_commute}
 
@@ -29,7 +33,7 @@ module _ {V : Type 0} {app : Application V} (basis : Basis app) where
       (λ after. after)
       (λ earlier. absurd (true≢false (sym (ap is_lt earlier) ∙ past)))
       (basis.lower.connected task.key first.key (differ_where_apart task first beside.apart.0)) in
-      (later, all-weaker (λ other. key_cmp first.key other.key ≡ Less) (λ other. key_cmp task.key other.key ≡ Less) (λ other. key_cmp_total.trans task.key first.key other.key later) others beside.ready.ascending.0)
+      (later, All-weaker (λ other. key_cmp first.key other.key ≡ Less) (λ other. key_cmp task.key other.key ≡ Less) (λ other. key_cmp_total.trans task.key first.key other.key later) others beside.ready.ascending.0)
 
   -- where the first of the others is earlier than the clear task, it is taken by both runs
   module _ {cells : List V} {first task : Task} {others : List Task} (behind : IsBehind app cells first task others) where
@@ -124,7 +128,7 @@ module _ {V : Type 0} {app : Application V} (basis : Basis app) where
 
     module _ (is : is_before task.key bound ≡ false) where
       all_after_bound : (tasks : List Task) → AllByRecursion (λ other. key_cmp task.key other.key ≡ Less) tasks → AllByRecursion (λ other. is_before other.key bound ≡ false) tasks
-      all_after_bound tasks = all-weaker (λ other. key_cmp task.key other.key ≡ Less) (λ other. is_before other.key bound ≡ false) (λ other later. not_before_later task.key other.key bound later is) tasks
+      all_after_bound tasks = All-weaker (λ other. key_cmp task.key other.key ≡ Less) (λ other. is_before other.key bound ≡ false) (λ other later. not_before_later task.key other.key bound later is) tasks
 
       children_after_bound : (others : State V) → IsBeside app task others → AllByRecursion (λ other. is_before other.key bound ≡ false) (children_of app others.cells task)
       children_after_bound others beside = all_after_bound (children_of app others.cells task) (children_later basis task others.cells beside.ready.cells beside.fit)
@@ -139,7 +143,7 @@ module _ {V : Type 0} {app : Application V} (basis : Basis app) where
           let children = children_after_bound (state_of cells others) beside in
           subst (λ run. BothEnd (λ e other. e.log ≡ other.log) run (run_until app.act limit bound there)) (sym (run_clear basis.runs limit bound here (none_before_all bound pending done)))
           (subst (λ run. BothEnd (λ e other. e.log ≡ other.log) (Some here) run)
-          (sym (run_clear basis.runs limit bound there (none_before_all bound there.pending (all-put_all (λ other. is_before other.key bound ≡ false) (children_of app cells task) others children rest))))
+          (sym (run_clear basis.runs limit bound there (none_before_all bound there.pending (All-put_all (λ other. is_before other.key bound ≡ false) (children_of app cells task) others children rest))))
           refl)
 
       done_from_task : (limit : ℕ) (cells : List V) (others : List Task) → IsBeside app task (state_of cells others)
@@ -150,8 +154,8 @@ module _ {V : Type 0} {app : Application V} (basis : Basis app) where
           → is_before first.key bound ≡ false → SameLog limit cells (first ∷ put_in task others) (first ∷ others)
       done_from_first limit cells first others beside is-first =
           let After = λ (other : Task). is_before other.key bound ≡ false in
-          let rest = all-weaker (λ other. key_cmp first.key other.key ≡ Less) After (λ other later. not_before_later first.key other.key bound later is-first) others beside.ready.ascending.0 in
-          both_done limit cells (first ∷ put_in task others) (first ∷ others) beside (is-first, all-put_in After task others is rest) (is-first, rest)
+          let rest = All-weaker (λ other. key_cmp first.key other.key ≡ Less) After (λ other later. not_before_later first.key other.key bound later is-first) others beside.ready.ascending.0 in
+          both_done limit cells (first ∷ put_in task others) (first ∷ others) beside (is-first, All-put_in After task others is rest) (is-first, rest)
 
       pub to_other_bound : (limit : ℕ) (cells : List V) (others : List Task) → IsClearBeside app task (state_of cells others) → SameLog limit cells (put_in task others) others
       to_other_bound limit cells [] clear = done_from_task limit cells [] clear.beside tt

@@ -3,6 +3,7 @@ use Rattle.std.proofs.Common.{◌≡◌, cond, List, [], ◌∷◌, sym, ap, sub
 use Rattle.std.specs.List.{AllByRecursion}
 use Rattle.std.specs.declared.cmp.Ordering.TheVariants.{Less}
 use Rattle.std.specs.Ordering.{is_lt}
+use Rattle.plain_laws.specs.Lists.{All-weaker}
 use Rattle.task_order.specs.declared.task.Task.{Task}
 use Rattle.task_order.specs.Key.{key_cmp, key_cmp_total}
 use Rattle.task_order.specs.TaskList.{put_in, tasks_before}
@@ -10,13 +11,14 @@ use Rattle.rw_sets.specs.Accesses.{Conflicts}
 use Rattle.output_log.specs.Entries.{Entry, with_entry}
 use Rattle.app_laws.specs.Applications.{Application, set_in}
 use Rattle.app_laws.specs.Execution.{Execution}
+use Rattle.app_laws.specs.ApartLaws.{TasksApart, TasksApart-turned}
 use Rattle.commuting.specs.States.{State, state_of, execution_from, entry_of}
 use Rattle.commuting.specs.Clear.{IsUnblocked}
 use Rattle.commuting.specs.Commuting.{IsSameButLogsMore}
 use Rattle.commuting.specs.Basis.{Basis}
 use Rattle.commuting.proofs.Cells.{same_entry, aside_turned}
 use Rattle.commuting.proofs.Ends.{entry_behind}
-use Rattle.commuting.proofs.Pending.{TasksApart, apart_turned, all-weaker, put_all-behind}
+use Rattle.commuting.proofs.Pending.{put_all-behind}
 use Rattle.commuting.proofs.Runs.{with_front, turn}
 use Rattle.commuting.proofs.StaysClear.{stays_unblocked}
 use Rattle.commuting.proofs.Turns.{IsBeside, AreIndependentBeside, aside_here, beside_rest, children_of, children_later, children_new, beside_turn}
@@ -43,7 +45,7 @@ module _ {V : Type 0} {app : Application V} (basis : Basis app) where
     next = turn app.act first rest
 
     first_apart : TasksApart first task
-    first_apart = apart_turned task first behind.clear.beside.apart.0
+    first_apart = TasksApart-turned task first behind.clear.beside.apart.0
 
     no_conflict : ¬ Conflicts (set_in app cells first) (set_in app cells task)
     no_conflict =
@@ -77,7 +79,7 @@ module _ {V : Type 0} {app : Application V} (basis : Basis app) where
 
     pub task_then : turn app.act task (state_of cells (first ∷ others)) ≡ state_of (app.act task cells).cells (first ∷ (turn app.act task rest).pending)
     task_then =
-        let later = all-weaker (λ child. key_cmp task.key child.key ≡ Less) (λ child. key_cmp first.key child.key ≡ Less)
+        let later = All-weaker (λ child. key_cmp task.key child.key ≡ Less) (λ child. key_cmp first.key child.key ≡ Less)
         (λ child after. key_cmp_total.trans first.key task.key child.key behind.earlier after)
         (children_of app cells task) (children_later basis task cells behind.clear.beside.ready.cells behind.clear.beside.fit) in
         ap (λ tasks. state_of (app.act task cells).cells tasks) (put_all-behind first (children_of app cells task) others later)

@@ -2,18 +2,20 @@
 use Rattle.std.proofs.Common.{◌≡◌, suc, refl, sym, ap, subst, ◌∙◌, List, [], ◌∷◌}
 use Rattle.std.specs.List.{AllByRecursion, Contains}
 use Rattle.std.proofs.lemmas.List.Elements.{All-from_recursion, All-contains}
+use Rattle.plain_laws.specs.Lists.{All-filter}
 use Rattle.task_order.specs.declared.task.Task.{Task}
 use Rattle.task_order.specs.TaskList.{put_in, without, tasks_before}
 use Rattle.rw_sets.specs.Accesses.{Conflicts}
 use Rattle.app_laws.specs.Applications.{Application, IsFitTask, set_in}
 use Rattle.app_laws.specs.Order.{Pairwise}
+use Rattle.app_laws.specs.ApartLaws.{TasksApart, apart_from_put_in}
+use Rattle.app_laws.specs.PairLaws.{Pairwise-filter}
 use Rattle.commuting.specs.States.{State, state_of, run_from, after_task, entry_of}
 use Rattle.commuting.specs.Clear.{IsReady, IsClear, IsUnblocked}
 use Rattle.commuting.specs.Commuting.{BothEnd, IsSameButLogsMore, ClearTasksMayActAtOnce}
 use Rattle.commuting.specs.Basis.{Basis}
 use Rattle.commuting.proofs.Acting.{to_later_bound, to_other_bound}
 use Rattle.commuting.proofs.Behind.{IsClearBeside}
-use Rattle.commuting.proofs.Pending.{TasksApart, all-filter, pairwise-filter, apart_from_put_in}
 use Rattle.commuting.proofs.Turns.{IsBeside}
 
 module _ {V : Type 0} {app : Application V} (basis : Basis app) where
@@ -28,9 +30,9 @@ module _ {V : Type 0} {app : Application V} (basis : Basis app) where
   beside_lacking state task ready pending = record {
     ready = record {
       cells = ready.cells;
-      tasks = all-filter (IsFitTask app) _ state.pending ready.tasks;
+      tasks = All-filter (IsFitTask app) _ state.pending ready.tasks;
       ascending = basis.lower.without_ascends task.key state.pending ready.ascending;
-      apart = pairwise-filter TasksApart _ state.pending ready.apart;
+      apart = Pairwise-filter TasksApart _ state.pending ready.apart;
     };
     fit = All-contains (IsFitTask app) state.pending task (All-from_recursion (IsFitTask app) state.pending ready.tasks) pending;
     apart = apart_from_put_in task (without task.key state.pending) (subst (λ tasks. Pairwise TasksApart tasks) (sym (put_back state task ready pending)) ready.apart);

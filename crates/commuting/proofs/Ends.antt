@@ -3,36 +3,26 @@ use Rattle.std.proofs.Common.{◌≡◌, ℕ, suc, Bool, true, false, not, cond,
 use Rattle.std.specs.Prelude.{IfSome, ◌||◌}
 use Rattle.std.specs.List.{AllByRecursion, list_any}
 use Rattle.std.specs.Option.{option_map}
-use Rattle.std.specs.declared.cmp.Ordering.TheVariants.{Less, Greater}
-use Rattle.std.specs.Ordering.{is_lt, ordering_reverse}
-use Rattle.std.proofs.lemmas.Bool.{true≢false}
+use Rattle.std.specs.declared.cmp.Ordering.TheVariants.{Less}
+use Rattle.std.specs.Ordering.{is_lt}
 use Rattle.task_order.specs.declared.key.Key.{Key}
 use Rattle.task_order.specs.declared.task.Task.{Task}
-use Rattle.task_order.specs.Key.{Bound, at_key, end, is_before, key_cmp, key_cmp_total}
+use Rattle.task_order.specs.Key.{Bound, at_key, is_before, key_cmp}
 use Rattle.task_order.specs.TaskList.{put_in}
+use Rattle.task_order.specs.TaskListLaws.{All-put_all}
+use Rattle.task_order.specs.KeyLaws.{key_cmp-turned_back}
 use Rattle.output_log.specs.Entries.{Entry, entries_before, entries_from, with_entry}
+use Rattle.output_log.specs.EntryLaws.{first_put}
 use Rattle.app_laws.specs.Applications.{Application}
 use Rattle.app_laws.specs.Execution.{Execution}
 use Rattle.commuting.specs.States.{State, state_of, run_from, entry_of}
 use Rattle.commuting.specs.Commuting.{BothEnd, IsSameButLogsMore}
 use Rattle.commuting.specs.Basis.{Basis}
-use Rattle.commuting.proofs.Pending.{all-put_all, less_from_test}
 use Rattle.commuting.proofs.Logs.{IsLogOf, later_handed, logs_of}
 use Rattle.commuting.proofs.Runs.{none_before, with_front, turn, run_task}
 use Rattle.commuting.proofs.Turns.{IsBeside, children_of, children_later, ready_turn}
 
 -- ---- bounds
-
-pub before_earlier : (key later : Key) (bound : Bound) → key_cmp key later ≡ Less → is_before later bound ≡ true → is_before key bound ≡ true
-before_earlier key later (at_key bound) earlier is = ap is_lt (key_cmp_total.trans key later bound earlier (less_from_test _ is))
-before_earlier key later end earlier is = refl
-
-pub not_before_later : (key later : Key) (bound : Bound) → key_cmp key later ≡ Less → is_before key bound ≡ false → is_before later bound ≡ false
-not_before_later key later bound earlier is = by_case (is_before later bound) refl
-  where
-    by_case : (before : Bool) → is_before later bound ≡ before → before ≡ false
-    by_case true before = absurd (true≢false (sym (before_earlier key later bound earlier before) ∙ is))
-    by_case false before = refl
 
 pub none_before_first : (bound : Bound) (first : Task) (tasks : List Task) → is_before first.key bound ≡ true → none_before bound (first ∷ tasks) ≡ false
 none_before_first bound first tasks is = rw is refl
@@ -57,9 +47,6 @@ none_before_all bound (task ∷ tasks) all = rw (all.0) (none_before_all bound t
 
 -- ---- one more entry
 
-turned : (key later : Key) → key_cmp key later ≡ Less → key_cmp later key ≡ Greater
-turned key later earlier = key_cmp_total.antisymm later key ∙ ap ordering_reverse earlier
-
 pub entry_behind : (key : Key) (text : List ℕ) (first : Entry) (log : List Entry) → key_cmp first.0 key ≡ Less → with_entry key text (first ∷ log) ≡ first ∷ with_entry key text log
 entry_behind key text first log earlier =
     ap (λ o. cond (is_lt o) (first ∷ entries_before (at_key key) log) (entries_before (at_key key) log) ++ (key, text) ∷ cond (not (is_lt o)) (first ∷ entries_from (at_key key) log) (entries_from (at_key key) log)) earlier
@@ -67,15 +54,12 @@ entry_behind key text first log earlier =
 none_of_later : (key : Key) (log : List Entry) → AllByRecursion (λ entry. key_cmp key entry.0 ≡ Less) log → entries_before (at_key key) log ≡ []
 none_of_later key [] later = refl
 none_of_later key (entry ∷ log) later =
-    ap (λ o. cond (is_lt o) (entry ∷ entries_before (at_key key) log) (entries_before (at_key key) log)) (turned key entry.0 later.0) ∙ none_of_later key log later.1
+    ap (λ o. cond (is_lt o) (entry ∷ entries_before (at_key key) log) (entries_before (at_key key) log)) (key_cmp-turned_back key entry.0 later.0) ∙ none_of_later key log later.1
 
 all_of_later : (key : Key) (log : List Entry) → AllByRecursion (λ entry. key_cmp key entry.0 ≡ Less) log → entries_from (at_key key) log ≡ log
 all_of_later key [] later = refl
 all_of_later key (entry ∷ log) later =
-    ap (λ o. cond (not (is_lt o)) (entry ∷ entries_from (at_key key) log) (entries_from (at_key key) log)) (turned key entry.0 later.0) ∙ ap (λ l. entry ∷ l) (all_of_later key log later.1)
-
-entry_first : (key : Key) (text : List ℕ) (log : List Entry) → AllByRecursion (λ entry. key_cmp key entry.0 ≡ Less) log → with_entry key text log ≡ (key, text) ∷ log
-entry_first key text log later = (λ i. none_of_later key log later i ++ (key, text) ∷ all_of_later key log later i)
+    ap (λ o. cond (not (is_lt o)) (entry ∷ entries_from (at_key key) log) (entries_from (at_key key) log)) (key_cmp-turned_back key entry.0 later.0) ∙ ap (λ l. entry ∷ l) (all_of_later key log later.1)
 
 -- ---- two ends
 
@@ -93,7 +77,7 @@ module _ {V : Type 0} {app : Application V} (basis : Basis app) where
   more_by_first cells task (Some e) logs = record {
     cells-are = refl;
     pending-are = refl;
-    log-is = sym (entry_first task.key (app.act task cells).text e.log logs.all);
+    log-is = sym (first_put task.key (app.act task cells).text e.log logs.all);
   }
 
   -- the first pending task acts as it would have
@@ -109,4 +93,4 @@ module _ {V : Type 0} {app : Application V} (basis : Basis app) where
       (sym (run_task basis.runs limit bound cells task others (none_before_first bound task others is)))
       (more_by_first cells task (run_from app.act limit bound next)
       (logs_of basis (λ key. key_cmp task.key key ≡ Less) (later_handed basis task.key) limit bound next.cells next.pending (ready_turn basis task rest beside)
-      (all-put_all (λ child. key_cmp task.key child.key ≡ Less) (children_of app cells task) others (children_later basis task cells beside.ready.cells beside.fit) later)))
+      (All-put_all (λ child. key_cmp task.key child.key ≡ Less) (children_of app cells task) others (children_later basis task cells beside.ready.cells beside.fit) later)))

@@ -1,25 +1,27 @@
 -- What runs log: in key order, and with keys of which holds what is handed down from the keys of the pending tasks.
-use Rattle.std.proofs.Common.{◌≡◌, ◌≢◌, ℕ, zero, suc, Bool, true, false, List, [], ◌∷◌, Option, Some, None, refl, sym, ap, subst, ◌∙◌}
+use Rattle.std.proofs.Common.{◌≡◌, ℕ, zero, suc, Bool, true, false, List, [], ◌∷◌, Option, Some, None, refl, sym, subst}
 use Rattle.std.specs.Prelude.{IfSome}
 use Rattle.std.specs.List.{AllByRecursion}
 use Rattle.std.specs.List.Sorted.{IsStrictlySortedBy}
 use Rattle.std.specs.Option.{option_map}
 use Rattle.std.specs.declared.cmp.Ordering.TheVariants.{Less}
-use Rattle.std.proofs.lemmas.Bool.{true≢false}
+use Rattle.plain_laws.specs.Lists.{All-weaker, All-joined, All-swapped}
 use Rattle.task_order.specs.declared.key.Key.{Key}
 use Rattle.task_order.specs.declared.task.Task.{Task}
 use Rattle.task_order.specs.Key.{Bound, key_cmp, key_cmp_total}
+use Rattle.task_order.specs.TaskListLaws.{All-put_all}
 use Rattle.output_log.specs.Entries.{Entry, IsInKeyOrder, IsNewEntry}
 use Rattle.app_laws.specs.Applications.{Application, IsFitTask}
 use Rattle.app_laws.specs.Execution.{Execution}
 use Rattle.app_laws.specs.Order.{is_prefix}
+use Rattle.app_laws.specs.ApartLaws.{is_prefix-same}
 use Rattle.commuting.specs.Basis.{Basis}
 use Rattle.commuting.specs.Clear.{IsReady}
 use Rattle.commuting.specs.Standing.{RunsLogLater, RunsLogNewKeys}
 use Rattle.commuting.specs.States.{State, state_of, execution_from, run_from, entry_of}
-use Rattle.commuting.proofs.Pending.{all-joined, all-put_all, all-swapped, all-weaker, prefix_of_itself}
 use Rattle.commuting.proofs.Runs.{none_before, with_front, turn, run_clear, run_refused, run_task}
 use Rattle.commuting.proofs.Turns.{IsBeside, beside_rest, children_of, children_later, ready_turn}
+use Rattle.commuting.specs.EndLaws.{new_where_unlogged}
 
 -- the log is in key order, and this holds of its keys
 pub record IsLogOf {V : Type 0} (P : Key → Type 0) (e : Execution V) : Type 0 where
@@ -40,20 +42,14 @@ unfolding IsStrictlySortedBy
 one_more P entry here e logs =
     let After = λ (other : Entry). IsAfter P entry.0 other.0 in
     record {
-      ordered = (all-weaker After (λ other. key_cmp entry.0 other.0 ≡ Less) (λ other after. after.1) e.log logs.all, logs.ordered);
-      all = (here, all-weaker After (λ other. P other.0) (λ other after. after.0) e.log logs.all);
+      ordered = (All-weaker After (λ other. key_cmp entry.0 other.0 ≡ Less) (λ other after. after.1) e.log logs.all, logs.ordered);
+      all = (here, All-weaker After (λ other. P other.0) (λ other after. after.0) e.log logs.all);
     }
 
 one_more_mapped : {V : Type 0} (P : Key → Type 0) (entry : Entry) → P entry.0 → (run : Option (Execution V)) → IfSome run (IsLogOf (IsAfter P entry.0))
     → IfSome (option_map (with_front (entry ∷ [])) run) (IsLogOf P)
 one_more_mapped P entry here None logs = tt
 one_more_mapped P entry here (Some e) logs = one_more P entry here e logs
-
--- a key from whose path that of no entry goes on has none of them
-pub new_where_unlogged : (key : Key) (entries : List Entry) → AllByRecursion (λ entry. is_prefix key.path entry.0.path ≡ false) entries → IsNewEntry key entries
-new_where_unlogged key =
-    all-weaker (λ entry. is_prefix key.path entry.0.path ≡ false) (λ entry. entry.0 ≢ key)
-    (λ entry none same. let path = prefix_of_itself key.path in absurd (true≢false (sym path ∙ ap (λ (other : Key). is_prefix key.path other.path) (sym same) ∙ none)))
 
 module _ {V : Type 0} {app : Application V} (basis : Basis app) where
   -- ---- what is handed down
@@ -64,15 +60,15 @@ module _ {V : Type 0} {app : Application V} (basis : Basis app) where
 
   pub later_handed : (first : Key) → IsHandedDown (λ key. key_cmp first key ≡ Less)
   later_handed first task cells fit_cells fit less =
-      all-weaker (λ child. key_cmp task.key child.key ≡ Less) (λ child. key_cmp first child.key ≡ Less) (λ child after. key_cmp_total.trans first task.key child.key less after)
+      All-weaker (λ child. key_cmp task.key child.key ≡ Less) (λ child. key_cmp first child.key ≡ Less) (λ child after. key_cmp_total.trans first task.key child.key less after)
       (children_of app cells task) (children_later basis task cells fit_cells fit)
 
   -- of each of the entries
   each_handed : (R : Key → Key → Type 0) → ((other : Key) → IsHandedDown (R other)) → (entries : List Entry) → IsHandedDown (λ key. AllByRecursion (λ entry. R entry.0 key) entries)
   each_handed R handed entries task cells fit_cells fit all =
       let children = children_of app cells task in
-      all-swapped (λ child entry. R entry.0 child.key) children entries
-      (all-weaker (λ entry. R entry.0 task.key) (λ entry. AllByRecursion (λ child. R entry.0 child.key) children) (λ entry. handed entry.0 task cells fit_cells fit) entries all)
+      All-swapped (λ child entry. R entry.0 child.key) children entries
+      (All-weaker (λ entry. R entry.0 task.key) (λ entry. AllByRecursion (λ child. R entry.0 child.key) children) (λ entry. handed entry.0 task cells fit_cells fit) entries all)
 
   pub unlogged_handed : (entries : List Entry) → IsHandedDown (λ key. AllByRecursion (λ entry. is_prefix key.path entry.0.path ≡ false) entries)
   unlogged_handed =
@@ -81,7 +77,7 @@ module _ {V : Type 0} {app : Application V} (basis : Basis app) where
 
   after_handed : (P : Key → Type 0) → IsHandedDown P → (first : Key) → IsHandedDown (IsAfter P first)
   after_handed P handed first task cells fit_cells fit after =
-      all-joined (λ child. P child.key) (λ child. key_cmp first child.key ≡ Less) (λ child. IsAfter P first child.key) (λ child one two. (one, two))
+      All-joined (λ child. P child.key) (λ child. key_cmp first child.key ≡ Less) (λ child. IsAfter P first child.key) (λ child one two. (one, two))
       (children_of app cells task) (handed task cells fit_cells fit after.0) (later_handed first task cells fit_cells fit after.1)
 
   -- ---- runs
@@ -91,9 +87,9 @@ module _ {V : Type 0} {app : Application V} (basis : Basis app) where
       → AllByRecursion (λ other. key_cmp task.key other.key ≡ Less) others.pending → AllByRecursion (λ other. IsAfter P task.key other.key) (turn app.act task others).pending
   all_after P handed task others beside here all later =
       let children = children_of app others.cells task in
-      let joined = all-joined (λ other. P other.key) (λ other. key_cmp task.key other.key ≡ Less) (λ other. IsAfter P task.key other.key) (λ other one two. (one, two)) in
+      let joined = All-joined (λ other. P other.key) (λ other. key_cmp task.key other.key ≡ Less) (λ other. IsAfter P task.key other.key) (λ other one two. (one, two)) in
       let fit_cells = beside.ready.cells in
-      all-put_all (λ other. IsAfter P task.key other.key) children others.pending
+      All-put_all (λ other. IsAfter P task.key other.key) children others.pending
       (joined children (handed task others.cells fit_cells beside.fit here) (children_later basis task others.cells fit_cells beside.fit))
       (joined others.pending all later)
 
@@ -141,5 +137,5 @@ module _ {V : Type 0} {app : Application V} (basis : Basis app) where
   pub runs_log_new_keys : RunsLogNewKeys app
   runs_log_new_keys state entries ready unlogged limit bound =
       let Unlogged = λ (key : Key). AllByRecursion (λ entry. is_prefix key.path entry.0.path ≡ false) entries in
-      logged_so Unlogged _ (λ e logs. all-weaker (λ other. Unlogged other.0) (λ other. IsNewEntry other.0 entries) (λ other. new_where_unlogged other.0 entries) e.log logs.all) (run_from app.act limit bound state)
+      logged_so Unlogged _ (λ e logs. All-weaker (λ other. Unlogged other.0) (λ other. IsNewEntry other.0 entries) (λ other. new_where_unlogged other.0 entries) e.log logs.all) (run_from app.act limit bound state)
       (logs_of Unlogged (unlogged_handed entries) limit bound state.cells state.pending ready unlogged)

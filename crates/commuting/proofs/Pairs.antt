@@ -5,18 +5,21 @@ use Rattle.std.proofs.lemmas.List.Elements.{All-from_recursion, All-contains}
 use Rattle.std.proofs.lemmas.List.Sorted.{Contains-permutation}
 use Rattle.std.specs.declared.cmp.Ordering.TheVariants.{Less}
 use Rattle.std.specs.Ordering.{is_lt}
+use Rattle.plain_laws.specs.Lists.{All-filter}
 use Rattle.task_order.specs.declared.task.Task.{Task}
 use Rattle.task_order.specs.Key.{key_cmp}
 use Rattle.task_order.specs.TaskList.{put_in, without}
+use Rattle.task_order.specs.TaskListLaws.{tasks_before-later}
 use Rattle.rw_sets.specs.Accesses.{Conflicts}
 use Rattle.app_laws.specs.Applications.{Application, set_in}
+use Rattle.app_laws.specs.ApartLaws.{TasksApart, new_key_from_apart}
 use Rattle.commuting.specs.Clear.{IsReady, IsClear, IsUnblocked}
 use Rattle.commuting.specs.Independent.{AreIndependentTasks, IsLeftAlone, StaysReady, IndependentTasksCommute, IndependentTasksLeaveAlone, ClearTasksStayClear, ClearTasksAreIndependent, EarliestIsClear}
 use Rattle.commuting.specs.Basis.{Basis}
 use Rattle.commuting.specs.States.{State, state_of, after_task}
 use Rattle.commuting.proofs.Cells.{agree_after, same_set, same_outcome}
 use Rattle.commuting.proofs.Clearing.{lacking, put_back, beside_lacking, unblocked_lacking, unblocked_with}
-use Rattle.commuting.proofs.Pending.{TasksApart, all-filter, all_from_filter, before-none, new_where_apart}
+use Rattle.commuting.proofs.Pending.{all_from_filter}
 use Rattle.commuting.proofs.Runs.{turn}
 use Rattle.commuting.proofs.StaysClear.{stays_unblocked}
 use Rattle.commuting.proofs.Turns.{IsBeside, AreIndependentBeside, aside_here, children_of, children_new, ready_turn, beside_turn, turns_commute}
@@ -46,7 +49,7 @@ module _ {V : Type 0} {app : Application V} (basis : Basis app) where
           task_beside = record {
             ready = second.ready;
             fit = first_beside.fit;
-            apart = all-filter (TasksApart task) _ (without task.key state.pending) first_beside.apart;
+            apart = All-filter (TasksApart task) _ (without task.key state.pending) first_beside.apart;
           };
           other_beside = second;
           paths_apart = All-contains (TasksApart task) (without task.key state.pending) other (All-from_recursion (TasksApart task) (without task.key state.pending) first_beside.apart) other_left;
@@ -70,7 +73,7 @@ module _ {V : Type 0} {app : Application V} (basis : Basis app) where
     after_both =
         ap (after_task app.act other) after_one
         ∙ ap (λ tasks. turn app.act other (state_of (turn app.act task base).cells tasks))
-        (basis.lower.without_put other (turn app.act task base).pending (new_where_apart other (turn app.act task base).pending next_beside.apart))
+        (basis.lower.without_put other (turn app.act task base).pending (new_key_from_apart other (turn app.act task base).pending next_beside.apart))
 
     pub left_alone : IsLeftAlone app state (after_task app.act task state) other
     left_alone =
@@ -143,7 +146,7 @@ module _ {V : Type 0} {app : Application V} (basis : Basis app) where
 
   pub earliest_is_clear : EarliestIsClear app
   earliest_is_clear cells task others ready =
-      let none = before-none task.key others ready.ascending.0 in
+      let none = tasks_before-later task.key others ready.ascending.0 in
       let unblocked : IsUnblocked app (set_in app cells) others task = record {
         apart = subst (λ tasks. AllByRecursion (λ other. ¬ Conflicts (set_in app cells other) (set_in app cells task)) tasks) (sym none) tt;
         safe = ap (app.is_safe task) none ∙ basis.lawful.safe_alone task ready.tasks.0;

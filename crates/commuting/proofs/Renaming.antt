@@ -6,8 +6,10 @@ use Rattle.std.specs.Option.{option_map}
 use Rattle.std.proofs.lemmas.List.{length-map, nil_from_length}
 use Rattle.std.proofs.lemmas.List.Elements.{All-from_recursion, All-contains}
 use Rattle.std.proofs.lemmas.Simd.{map-map}
+use Rattle.plain_laws.specs.Lists.{All-weaker, All-joined, All-filter}
 use Rattle.task_order.specs.declared.task.Task.{Task}
 use Rattle.task_order.specs.TaskList.{put_all, tasks_before, without}
+use Rattle.task_order.specs.TaskListLaws.{All-put_all}
 use Rattle.rw_sets.specs.Accesses.{conflicts_with}
 use Rattle.app_laws.specs.Applications.{Application, AreFitTasks, IsFitTask, PathsAreIgnored, set_in}
 use Rattle.app_laws.specs.Execution.{Execution, Outcome, children_from}
@@ -20,7 +22,6 @@ use Rattle.commuting.specs.Commuting.{AreClear, BothEnd}
 use Rattle.commuting.specs.Renaming.{ComesToSame, HasSameTexts, IsSameRound, ListedTasksComeToSame, NamesChangeNoRound, NamesChangeNoRounds, renamed_state}
 use Rattle.commuting.specs.Rounds.{is_clear, clear_tasks, after_round, TakesRounds}
 use Rattle.commuting.specs.States.{State, state_of, execution_from, run_from, after_task, after_tasks}
-use Rattle.commuting.proofs.Pending.{all-filter, all-joined, all-put_all, all-weaker}
 use Rattle.commuting.proofs.Rounds.{clear_tasks_are_listed, rounds_keep_ready}
 use Rattle.commuting.proofs.Several.{ready_next, rest_clear}
 
@@ -43,7 +44,7 @@ module _ {V : Type 0} {app : Application V} (basis : Basis app) (ignored : Paths
 
     pending_named : (state : State V) → IsNamedState state → AllByRecursion IsNamedTask state.pending
     pending_named state named =
-        all-joined (IsFitTask app) (λ task. has_name task.key.path ≡ true) IsNamedTask (λ task fit has. record { fit = fit; has = has })
+        All-joined (IsFitTask app) (λ task. has_name task.key.path ≡ true) IsNamedTask (λ task fit has. record { fit = fit; has = has })
         state.pending named.ready.tasks named.have
 
     one_named : (state : State V) (task : Task) → IsNamedState state → Contains state.pending task → IsNamedTask task
@@ -61,15 +62,15 @@ module _ {V : Type 0} {app : Application V} (basis : Basis app) (ignored : Paths
     clear_renamed state task named one =
         let earlier = tasks_before task.key state.pending in
         let Test = λ (other : Task). conflicts_with (set_in app state.cells other) (set_in app state.cells task) in
-        let earlier_fit : AreFitTasks app earlier = all-filter (IsFitTask app) _ state.pending named.ready.tasks in
+        let earlier_fit : AreFitTasks app earlier = All-filter (IsFitTask app) _ state.pending named.ready.tasks in
         ap (λ tasks. not (list_any Test tasks) && app.is_safe (renamed name task) tasks) (tasks_before-renamed naming task state.pending one.has named.have)
         ∙ ap (λ found. not found && app.is_safe (renamed name task) (map (renamed name) earlier)) (any_renamed state.cells task earlier)
-        ∙ ap (λ safe. not (list_any Test earlier) && safe) (ignored.safety task earlier name has_name naming (one.has, all-filter (λ other. has_name other.key.path ≡ true) _ state.pending named.have) one.fit earlier_fit)
+        ∙ ap (λ safe. not (list_any Test earlier) && safe) (ignored.safety task earlier name has_name naming (one.has, All-filter (λ other. has_name other.key.path ≡ true) _ state.pending named.have) one.fit earlier_fit)
 
     clear_tasks_renamed : (state : State V) → IsNamedState state → clear_tasks app (renamed_state name state) ≡ map (renamed name) (clear_tasks app state)
     clear_tasks_renamed state named =
         filter-renamed name (is_clear app state) (is_clear app (renamed_state name state)) state.pending
-        (all-weaker IsNamedTask (λ task. is_clear app (renamed_state name state) (renamed name task) ≡ is_clear app state task)
+        (All-weaker IsNamedTask (λ task. is_clear app (renamed_state name state) (renamed name task) ≡ is_clear app state task)
         (λ task. clear_renamed state task named)
         state.pending (pending_named state named))
 
@@ -89,14 +90,14 @@ module _ {V : Type 0} {app : Application V} (basis : Basis app) (ignored : Paths
         ∙ ap (After outcome (map (renamed name) children)) (without-renamed naming task state.pending one.has named.have)
         ∙ ap (state_of outcome.cells)
         (put_all-renamed naming children others (children-named naming task 0 outcome.children one.has)
-        (all-filter (λ other. has_name other.key.path ≡ true) _ state.pending named.have))
+        (All-filter (λ other. has_name other.key.path ≡ true) _ state.pending named.have))
 
     have_names_next : (state : State V) (task : Task) → HaveNames has_name state.pending → has_name task.key.path ≡ true → HaveNames has_name (after_task app.act task state).pending
     have_names_next state task have has =
         let children = (app.act task state.cells).children in
-        all-put_all (λ other. has_name other.key.path ≡ true) (children_from task.key 0 children) (without task.key state.pending)
+        All-put_all (λ other. has_name other.key.path ≡ true) (children_from task.key 0 children) (without task.key state.pending)
         (children-named naming task 0 children has)
-        (all-filter (λ other. has_name other.key.path ≡ true) _ state.pending have)
+        (All-filter (λ other. has_name other.key.path ≡ true) _ state.pending have)
 
     -- where these tasks have acted, the state is the same under names, and its tasks have names
     record IsSameAfter (state : State V) (tasks : List Task) : Type 0 where

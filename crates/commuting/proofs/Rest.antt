@@ -1,6 +1,7 @@
 -- What is left of an execution, where a clear task acts.
 use Rattle.std.proofs.Common.{◌≡◌, ◌≢◌, ℕ, suc, ◌+◌, Bool, true, false, List, [], ◌∷◌, length, refl, sym, ap, subst, ◌∙◌, arith}
 use Rattle.std.proofs.lemmas.Bool.{true≢false}
+use Rattle.plain_laws.specs.Lists.{All-filter}
 use Rattle.task_order.specs.declared.key.Key.{Key}
 use Rattle.task_order.specs.declared.task.Task.{Task}
 use Rattle.task_order.specs.Key.{Bound, is_before}
@@ -12,8 +13,8 @@ use Rattle.commuting.specs.Basis.{Basis}
 use Rattle.commuting.specs.Standing.{IsRestOf, HasSameRest}
 use Rattle.commuting.specs.States.{State, run_from, after_task, entry_of}
 use Rattle.commuting.proofs.Clearing.{clear_tasks_commute}
-use Rattle.commuting.proofs.Pending.{all-filter}
-use Rattle.commuting.proofs.Several.{both_same, both_follow}
+use Rattle.commuting.proofs.Several.{both_same}
+use Rattle.commuting.specs.EndLaws.{both_follow}
 
 module _ {V : Type 0} {app : Application V} (basis : Basis app) where
   pub start_has_same_rest : (start : State V) → HasSameRest app.act start [] start
@@ -47,7 +48,7 @@ module _ {V : Type 0} {app : Application V} (basis : Basis app) where
         (λ e other last one two. record {
           log-is =
               entry_joins task.key (app.act task now.cells).text done e.log other.log last.log (basis.lower.parts_in_order bound entries ordered).0
-              (all-filter (λ entry. entry.0 ≢ task.key) _ entries new) one.log-is two.log-is;
+              (All-filter (λ entry. entry.0 ≢ task.key) _ entries new) one.log-is two.log-is;
           cells-are = λ is-end. one.cells-are is-end ∙ two.cells-are;
         })
         (run_from app.act (length done + suc limit) bound start)

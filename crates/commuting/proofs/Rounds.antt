@@ -1,14 +1,16 @@
 -- Rounds of clear tasks.
-use Rattle.std.proofs.Common.{◌≡◌, ◌≢◌, ℕ, zero, suc, ◌+◌, ◌≤◌, ◌<◌, Bool, true, false, not, cond, List, [], ◌∷◌, ◌++◌, length, Option, Some, None, refl, sym, ap, subst, ◌∙◌, ⊎_elim, arith, append-nil}
+use Rattle.std.proofs.Common.{◌≡◌, ◌≢◌, ℕ, zero, suc, ◌+◌, ◌≤◌, ◌<◌, Bool, true, false, not, cond, List, [], ◌∷◌, length, Option, Some, None, refl, sym, ap, subst, ◌∙◌, arith, append-nil}
 use Rattle.std.specs.Prelude.{IfSome, IsSome, ◌||◌, is_some}
 use Rattle.std.specs.List.{AllByRecursion, Contains, filter, list_any}
 use Rattle.std.proofs.lemmas.Bool.{true≢false, and_parts, and_from, not-true}
-use Rattle.std.proofs.lemmas.List.Elements.{All-from_recursion, recursion_from_All, All-contains, All-contains_itself, Contains-append_cases, filter_passes}
-use Rattle.std.proofs.lemmas.List.Sorted.{Contains-permutation, IsPermutation-filter_both}
+use Rattle.std.proofs.lemmas.List.Elements.{All-from_recursion, recursion_from_All, All-contains_itself, filter_passes}
+use Rattle.plain_laws.specs.Lists.{All-weaker, All-filter, none_from_all}
+use Rattle.plain_laws.specs.Members.{in_filter}
 use Rattle.task_order.specs.declared.task.Task.{Task}
 use Rattle.task_order.specs.declared.key.Key.{Key}
-use Rattle.task_order.specs.Key.{end, key_cmp}
-use Rattle.task_order.specs.TaskList.{IsAscending, tasks_before}
+use Rattle.task_order.specs.Key.{end}
+use Rattle.task_order.specs.TaskList.{tasks_before}
+use Rattle.task_order.specs.TaskListLaws.{IsAscending-filter}
 use Rattle.output_log.specs.Entries.{Entry, IsNewEntry, joined_by_key}
 use Rattle.rw_sets.specs.Accesses.{Conflicts, conflicts_with}
 use Rattle.app_laws.specs.Applications.{Application, set_in}
@@ -20,7 +22,6 @@ use Rattle.commuting.specs.Rounds.{is_clear, clear_tasks, after_round, TakesRoun
 use Rattle.commuting.specs.Standing.{StandsFor}
 use Rattle.commuting.specs.States.{State, state_of, execution_from, run_from, after_task, after_tasks, entry_of}
 use Rattle.commuting.proofs.Pairs.{earliest_is_clear}
-use Rattle.commuting.proofs.Pending.{all-weaker, all-filter}
 use Rattle.commuting.proofs.Runs.{run_clear}
 use Rattle.commuting.proofs.Several.{rest_clear, same_entries, clear_tasks_stay_clear_in_turn, clear_tasks_may_all_act_at_once}
 use Rattle.commuting.proofs.Standing.{clear_tasks_keep_standing}
@@ -37,25 +38,6 @@ all_from_none test (x ∷ xs) none =
     let parts = none_there test x xs (test x) refl none in
     (parts.0, all_from_none test xs parts.1)
 
-none_from_all : {X : Type 0} (test : X → Bool) (xs : List X) → AllByRecursion (λ x. test x ≡ false) xs → list_any test xs ≡ false
-none_from_all test [] all = refl
-none_from_all test (x ∷ xs) all = rw (all.0) (none_from_all test xs all.1)
-
-ascending-filter : (test : Task → Bool) (tasks : List Task) → IsAscending tasks → IsAscending (filter test tasks)
-ascending-filter test [] up = tt
-ascending-filter test (task ∷ tasks) up = elim (test task) as (λ b. IsAscending (cond b (task ∷ filter test tasks) (filter test tasks))) [
-  | true ↦ (all-filter (λ other. key_cmp task.key other.key ≡ _) test tasks up.0, ascending-filter test tasks up.1)
-  | false ↦ ascending-filter test tasks up.1
-]
-
-has-filter : {X : Type 0} (test : X → Bool) (xs : List X) (x : X) → Contains xs x → test x ≡ true → Contains (filter test xs) x
-has-filter test xs x has passes =
-    let others = filter (λ y. not (test y)) xs in
-    ⊎_elim
-    (λ here. here)
-    (λ there. absurd (true≢false (sym (All-contains (λ y. not (test y) ≡ true) others x (filter_passes (λ y. not (test y)) xs) there) ∙ ap not passes)))
-    (Contains-append_cases (filter test xs) others x (Contains-permutation xs (filter test xs ++ others) x (IsPermutation-filter_both test (λ y. not (test y)) (λ y. refl) xs) has))
-
 module _ {V : Type 0} {app : Application V} (basis : Basis app) where
   -- ---- the clear tasks
 
@@ -66,7 +48,7 @@ module _ {V : Type 0} {app : Application V} (basis : Basis app) where
       let parts = and_parts (not (list_any Test earlier)) (app.is_safe task earlier) is in
       record {
         apart =
-            all-weaker (λ other. Test other ≡ false) (λ other. ¬ Conflicts (set_in app state.cells other) (set_in app state.cells task))
+            All-weaker (λ other. Test other ≡ false) (λ other. ¬ Conflicts (set_in app state.cells other) (set_in app state.cells task))
             (λ other free conflict. true≢false (sym ((basis.lower.decided (set_in app state.cells other) (set_in app state.cells task)).1 conflict) ∙ free))
             earlier (all_from_none Test earlier (not-true (list_any Test earlier) parts.0));
         safe = parts.1;
@@ -78,7 +60,7 @@ module _ {V : Type 0} {app : Application V} (basis : Basis app) where
       let Test = λ (other : Task). conflicts_with (set_in app state.cells other) (set_in app state.cells task) in
       and_from (not (list_any Test earlier)) (app.is_safe task earlier)
       (ap not (none_from_all Test earlier
-      (all-weaker (λ other. ¬ Conflicts (set_in app state.cells other) (set_in app state.cells task)) (λ other. Test other ≡ false) (λ other free. not_conflicting other free (Test other) refl) earlier unblocked.apart)))
+      (All-weaker (λ other. ¬ Conflicts (set_in app state.cells other) (set_in app state.cells task)) (λ other. Test other ≡ false) (λ other free. not_conflicting other free (Test other) refl) earlier unblocked.apart)))
       unblocked.safe
     where
       not_conflicting : (other : Task) → ¬ Conflicts (set_in app state.cells other) (set_in app state.cells task) → (found : Bool) → conflicts_with (set_in app state.cells other) (set_in app state.cells task) ≡ found → found ≡ false
@@ -88,19 +70,19 @@ module _ {V : Type 0} {app : Application V} (basis : Basis app) where
   pub clear_tasks_are_listed : ClearTasksAreListed app
   clear_tasks_are_listed state ready =
       let tasks = clear_tasks app state in
-      let up = ascending-filter (is_clear app state) state.pending ready.ascending in
+      let up = IsAscending-filter (is_clear app state) state.pending ready.ascending in
       record {
         clear = record {
           distinct = basis.lower.distinct tasks up;
           clear =
               recursion_from_All (IsClear app state) tasks
               (λ k d within. record {
-                pending = All-from_recursion (Contains state.pending) tasks (all-filter (Contains state.pending) (is_clear app state) state.pending (recursion_from_All (Contains state.pending) state.pending (All-contains_itself state.pending))) k d within;
+                pending = All-from_recursion (Contains state.pending) tasks (All-filter (Contains state.pending) (is_clear app state) state.pending (recursion_from_All (Contains state.pending) state.pending (All-contains_itself state.pending))) k d within;
                 unblocked = unblocked_from_test state _ (filter_passes (is_clear app state) state.pending k d within);
               });
         };
         ascending = up;
-        all = λ task clear. has-filter (is_clear app state) state.pending task clear.pending (test_from_unblocked state task clear.unblocked);
+        all = λ task clear. in_filter (is_clear app state) state.pending task clear.pending (test_from_unblocked state task clear.unblocked);
       }
 
   round_clear : (state : State V) → IsReady app state → AreClear app state (clear_tasks app state)

@@ -5,9 +5,11 @@ use Rattle.std.specs.List.Sorted.{IsPermutation}
 use Rattle.std.specs.Ordering.{is_lt}
 use Rattle.std.proofs.lemmas.List.Elements.{All-from_recursion, recursion_from_All}
 use Rattle.std.proofs.lemmas.List.Sorted.{All-permutation, IsPermutation-refl, IsPermutation-sym, IsPermutation-trans, IsPermutation-cons}
+use Rattle.plain_laws.specs.Lists.{All-weaker, All-joined}
 use Rattle.task_order.specs.declared.task.Task.{Task}
 use Rattle.task_order.specs.Key.{Bound, end, is_before, key_cmp}
 use Rattle.task_order.specs.TaskList.{HasDistinctKeys, IsAscending, put_in}
+use Rattle.task_order.specs.TaskListLaws.{All-put_in}
 use Rattle.output_log.specs.Entries.{Entry, entries_before, joined_by_key}
 use Rattle.app_laws.specs.Applications.{Application}
 use Rattle.app_laws.specs.Execution.{Execution}
@@ -18,22 +20,13 @@ use Rattle.commuting.specs.Basis.{Basis}
 use Rattle.commuting.specs.States.{State, run_from, after_task, after_tasks, entry_of}
 use Rattle.commuting.proofs.Clearing.{clear_tasks_commute}
 use Rattle.commuting.proofs.Pairs.{stays_ready, independent_tasks_commute, left_alone, clear_tasks_stay_clear, clear_tasks_are_independent}
-use Rattle.commuting.proofs.Pending.{all-weaker, all-joined, all-put_in}
+use Rattle.commuting.specs.EndLaws.{both_follow}
 
 -- ---- two runs beside one another
 
 pub both_same : {V : Type 0} (R : Execution V → Execution V → Type 0) → ((e : Execution V) → R e e) → (run : Option (Execution V)) → BothEnd R run run
 both_same R each None = tt
 both_same R each (Some e) = each e
-
-pub both_follow : {V : Type 0} (R S T : Execution V → Execution V → Type 0) → ((e other last : Execution V) → R e other → S other last → T e last)
-    → (first second third : Option (Execution V)) → BothEnd R first second → BothEnd S second third → BothEnd T first third
-both_follow R S T join None None None r s = tt
-both_follow R S T join None None (Some last) r s = absurd s
-both_follow R S T join None (Some other) third r s = absurd r
-both_follow R S T join (Some e) None third r s = absurd r
-both_follow R S T join (Some e) (Some other) None r s = absurd s
-both_follow R S T join (Some e) (Some other) (Some last) r s = join e other last r s
 
 module _ {V : Type 0} {app : Application V} (basis : Basis app) where
   -- ---- turn by turn
@@ -43,7 +36,7 @@ module _ {V : Type 0} {app : Application V} (basis : Basis app) where
 
   pairs_independent : (state : State V) (task : Task) (others : List Task) → IsReady app state → AreClear app state (task ∷ others) → AllByRecursion (AreIndependentTasks app state task) others
   pairs_independent state task others ready clear =
-      all-joined (λ other. other.key ≢ task.key) (IsClear app state) (AreIndependentTasks app state task)
+      All-joined (λ other. other.key ≢ task.key) (IsClear app state) (AreIndependentTasks app state task)
       (λ other differ other_clear. clear_tasks_are_independent basis state task other ready clear.clear.0 other_clear (λ same. differ (sym same)))
       others clear.distinct.0 clear.clear.1
 
@@ -51,7 +44,7 @@ module _ {V : Type 0} {app : Application V} (basis : Basis app) where
   rest_clear state task others ready clear = record {
     distinct = clear.distinct.1;
     clear =
-        all-joined (AreIndependentTasks app state task) (IsClear app state) (IsClear app (now task state))
+        All-joined (AreIndependentTasks app state task) (IsClear app state) (IsClear app (now task state))
         (λ other both other_clear. clear_tasks_stay_clear basis state task other ready both other_clear)
         others (pairs_independent state task others ready clear) clear.clear.1;
   }
@@ -65,7 +58,7 @@ module _ {V : Type 0} {app : Application V} (basis : Basis app) where
       → entries_of app.act (now task state).cells others ≡ entries_of app.act state.cells others
   same_entries state task others ready clear =
       same_entries_from (now task state).cells state.cells others
-      (all-weaker (AreIndependentTasks app state task) (λ other. entry_of app.act (now task state).cells other ≡ entry_of app.act state.cells other)
+      (All-weaker (AreIndependentTasks app state task) (λ other. entry_of app.act (now task state).cells other ≡ entry_of app.act state.cells other)
       (λ other both. ap (λ text. (other.key, text)) (sym (left_alone basis state task other ready both).same_outcome.text))
       others (pairs_independent state task others ready clear))
 
@@ -118,7 +111,7 @@ module _ {V : Type 0} {app : Application V} (basis : Basis app) where
   all-in_order : (P : Task → Type 0) (tasks : List Task) → AllByRecursion P tasks → AllByRecursion P (in_order tasks)
   unfolding in_order
   all-in_order P [] all = tt
-  all-in_order P (task ∷ tasks) all = all-put_in P task (in_order tasks) all.0 (all-in_order P tasks all.1)
+  all-in_order P (task ∷ tasks) all = All-put_in P task (in_order tasks) all.0 (all-in_order P tasks all.1)
 
   ascending-in_order : (tasks : List Task) → HasDistinctKeys tasks → IsAscending (in_order tasks)
   unfolding in_order

@@ -5,27 +5,32 @@ use Rattle.std.specs.List.{AllByRecursion, Contains}
 use Rattle.std.specs.List.Sorted.{IsStrictlySortedBy}
 use Rattle.std.specs.Option.{option_map}
 use Rattle.std.proofs.lemmas.List.Elements.{All-from_recursion, All-contains}
+use Rattle.plain_laws.specs.Lists.{All-joined, All-append, All-filter}
 use Rattle.task_order.specs.declared.key.Key.{Key}
 use Rattle.task_order.specs.declared.start.Start.{Start}
 use Rattle.task_order.specs.declared.task.Task.{Task}
 use Rattle.task_order.specs.Key.{Bound, at_key, end, is_before}
 use Rattle.task_order.specs.TaskList.{without}
+use Rattle.task_order.specs.TaskListLaws.{All-put_all}
 use Rattle.output_log.specs.Entries.{Entry, IsInKeyOrder, entries_before, entries_from, with_entry}
 use Rattle.app_laws.specs.Applications.{Application, IsFitTask, AreFitTasks, AreFitStarts}
-use Rattle.app_laws.specs.Execution.{Operator, Execution, after_steps, is_clear_before, steps_until, created_after, first_from}
+use Rattle.app_laws.specs.Execution.{Execution, after_steps, is_clear_before, steps_until, created_after, first_from}
 use Rattle.app_laws.specs.Order.{is_prefix}
+use Rattle.app_laws.specs.ApartLaws.{TasksApart}
+use Rattle.app_laws.specs.StepLaws.{after_none}
 use Rattle.commuting.specs.Clear.{IsReady}
 use Rattle.commuting.specs.Commuting.{BothEnd}
 use Rattle.commuting.specs.Basis.{Basis}
 use Rattle.commuting.specs.Standing.{AreUnlogged, IsRestOf, HasSameRest, IsEndWith, StartsAreReady, StartsStandForThemselves, ClearTasksKeepStanding, EarlierEntriesAreFirst, NothingPendingIsTheEnd, TooManyTasksNeverEnd}
 use Rattle.commuting.specs.States.{State, state_of, execution_from, run_from, after_task}
 use Rattle.commuting.proofs.Clearing.{beside_lacking}
-use Rattle.commuting.proofs.Logs.{new_where_unlogged, unlogged_handed}
-use Rattle.commuting.proofs.Pending.{TasksApart, all-joined, all-filter, all-append, all-put_all, spread-put_all}
+use Rattle.commuting.proofs.Logs.{unlogged_handed}
+use Rattle.commuting.proofs.Pending.{spread-put_all}
 use Rattle.commuting.proofs.Pairs.{stays_ready}
 use Rattle.commuting.proofs.Turns.{children_of}
 use Rattle.commuting.proofs.Runs.{run_clear}
 use Rattle.commuting.proofs.Rest.{start_has_same_rest, kept_by}
+use Rattle.commuting.specs.EndLaws.{new_where_unlogged}
 
 given_up_both : {V : Type 0} (R : Execution V → Execution V → Type 0) (run : Option (Execution V)) → BothEnd R run None → run ≡ None
 given_up_both R None both = refl
@@ -36,16 +41,12 @@ ended_both : {V : Type 0} (R : Execution V → Execution V → Type 0) (P : Exec
 ended_both R P last each None both = absurd both
 ended_both R P last each (Some e) both = each e both
 
-after_none : {V : Type 0} (act : Operator V) (e : Execution V) → after_steps act 0 e ≡ e
-unfolding after_steps
-after_none act e = refl
-
 module _ {V : Type 0} {app : Application V} (basis : Basis app) where
   -- ---- paths
 
   -- what holds of one more entry and of the others holds of all
   all-with_entry : (P : Entry → Type 0) (key : Key) (text : List ℕ) (entries : List Entry) → P (key, text) → AllByRecursion P entries → AllByRecursion P (with_entry key text entries)
-  all-with_entry P key text entries one all = all-append P (entries_before (at_key key) entries) ((key, text) ∷ entries_from (at_key key) entries) (all-filter P _ entries all) (one, all-filter P _ entries all)
+  all-with_entry P key text entries one all = All-append P (entries_before (at_key key) entries) ((key, text) ∷ entries_from (at_key key) entries) (All-filter P _ entries all) (one, All-filter P _ entries all)
 
   -- where a task has acted, its path is logged
   still_unlogged : (now : State V) (task : Task) (entries : List Entry) → IsReady app now → Contains now.pending task → AreUnlogged entries now.pending
@@ -57,13 +58,13 @@ module _ {V : Type 0} {app : Application V} (basis : Basis app) where
       let more = λ (other : Task). all-with_entry (λ entry. is_prefix other.key.path entry.0.path ≡ false) task.key text entries in
       let here = All-contains Before now.pending task (All-from_recursion Before now.pending unlogged) pending in
       let beside = beside_lacking basis now task ready pending in
-      all-put_all After (children_of app now.cells task) (without task.key now.pending)
-      (all-joined (λ child. is_prefix child.key.path task.key.path ≡ false) Before After more (children_of app now.cells task)
+      All-put_all After (children_of app now.cells task) (without task.key now.pending)
+      (All-joined (λ child. is_prefix child.key.path task.key.path ≡ false) Before After more (children_of app now.cells task)
       (basis.lower.children_go_on task.key (app.act task now.cells).children)
       (unlogged_handed basis entries task now.cells beside.ready.cells beside.fit here))
-      (all-joined (TasksApart task) Before After (λ other apart. more other apart.not_after) (without task.key now.pending)
+      (All-joined (TasksApart task) Before After (λ other apart. more other apart.not_after) (without task.key now.pending)
       beside.apart
-      (all-filter Before _ now.pending unlogged))
+      (All-filter Before _ now.pending unlogged))
 
   -- ---- standing
 
@@ -73,7 +74,7 @@ module _ {V : Type 0} {app : Application V} (basis : Basis app) where
       let spread = spread-put_all basis.lower tasks [] (record { spread = record { ascending = tt; apart = tt }; siblings = basis.lower.first_apart first; apart = all_apart_from_none tasks }) in
       record {
         cells = fit_cells;
-        tasks = all-put_all (IsFitTask app) tasks [] (first_fit 0 first fit) tt;
+        tasks = All-put_all (IsFitTask app) tasks [] (first_fit 0 first fit) tt;
         ascending = spread.ascending;
         apart = spread.apart;
       }

@@ -2,16 +2,19 @@
 use Rattle.std.proofs.Common.{◌≡◌, ◌≢◌, List, refl, sym, ap, subst, ◌∙◌, ⊎_elim}
 use Rattle.std.specs.List.{AllByRecursion}
 use Rattle.std.specs.declared.cmp.Ordering.TheVariants.{Less}
+use Rattle.plain_laws.specs.Lists.{All-weaker, All-joined, All-filter}
 use Rattle.task_order.specs.declared.task.Task.{Task}
 use Rattle.task_order.specs.Key.{key_cmp}
 use Rattle.task_order.specs.TaskList.{IsAscending, put_in, put_all, tasks_before}
+use Rattle.task_order.specs.TaskListLaws.{All-put_all, All-put_in, all_from_put_in}
 use Rattle.rw_sets.specs.Accesses.{Conflicts, merged}
 use Rattle.app_laws.specs.Applications.{Application, IsFitTask, AreFitTasks, StaysSafe, set_in}
+use Rattle.app_laws.specs.ApartLaws.{new_key_from_apart}
 use Rattle.commuting.specs.States.{State}
 use Rattle.commuting.specs.Clear.{IsUnblocked}
 use Rattle.commuting.specs.Basis.{Basis}
 use Rattle.commuting.proofs.Cells.{IsAside, same_set}
-use Rattle.commuting.proofs.Pending.{differ_where_apart, new_where_apart, all-weaker, all-joined, all-filter, all-put_in, all_from_put_in, all-put_all, put_in-between, before-put_all, before-put_all_later}
+use Rattle.commuting.proofs.Pending.{differ_where_apart, put_in-between, before-put_all, before-put_all_later}
 use Rattle.commuting.proofs.Turns.{AreIndependentBeside, aside_here, children_of, children_later, children_fit_in}
 use Rattle.commuting.proofs.Runs.{turn}
 
@@ -44,12 +47,12 @@ module _ {V : Type 0} {app : Application V} (basis : Basis app) where
         → AllByRecursion AreApartNow (tasks_before task.key others.pending)
     rest_apart apart =
         let earlier = tasks_before task.key others.pending in
-        all-joined (IsFitTask app) (λ other. (other.key ≢ acted.key) × ¬ Conflicts (set_in app others.cells other) (set_in app others.cells task)) AreApartNow
+        All-joined (IsFitTask app) (λ other. (other.key ≢ acted.key) × ¬ Conflicts (set_in app others.cells other) (set_in app others.cells task)) AreApartNow
         (λ other fit rest. third_stays_apart acted task other others.cells (aside_here basis acted task others both) fit rest.0 rest.1)
         earlier
-        (all-filter (IsFitTask app) _ others.pending both.task_beside.ready.tasks)
-        (all-joined (λ other. other.key ≢ acted.key) (λ other. ¬ Conflicts (set_in app others.cells other) (set_in app others.cells task)) _ (λ other differ rest. (differ, rest)) earlier
-        (all-filter (λ other. other.key ≢ acted.key) _ others.pending (new_where_apart acted others.pending both.task_beside.apart))
+        (All-filter (IsFitTask app) _ others.pending both.task_beside.ready.tasks)
+        (All-joined (λ other. other.key ≢ acted.key) (λ other. ¬ Conflicts (set_in app others.cells other) (set_in app others.cells task)) _ (λ other differ rest. (differ, rest)) earlier
+        (All-filter (λ other. other.key ≢ acted.key) _ others.pending (new_key_from_apart acted others.pending both.task_beside.apart))
         apart)
 
     -- where the task that acted was a later one
@@ -60,7 +63,7 @@ module _ {V : Type 0} {app : Application V} (basis : Basis app) where
         let same_before = basis.lower.before_skips task.key acted others.pending (not_earlier acted later) in
         let same_now : tasks_before task.key (turn app.act acted others).pending ≡ tasks_before task.key others.pending =
         before-put_all_later basis.lower task.key (children_of app others.cells acted) others.pending
-        (all-weaker (λ child. key_cmp acted.key child.key ≡ Less) (λ child. key_cmp child.key task.key ≢ Less)
+        (All-weaker (λ child. key_cmp acted.key child.key ≡ Less) (λ child. key_cmp child.key task.key ≢ Less)
         (λ child after. not_earlier child (basis.lower.transitive task.key acted.key child.key later after))
         (children_of app others.cells acted)
         (children_later basis acted others.cells both.task_beside.ready.cells both.task_beside.fit)) in
@@ -82,10 +85,10 @@ module _ {V : Type 0} {app : Application V} (basis : Basis app) where
       stays_safe =
           let rest = tasks_before task.key others.pending in
           let split = put_in-between acted rest in
-          let fit = all-put_in (IsFitTask app) acted rest both.task_beside.fit (all-filter (IsFitTask app) _ others.pending both.task_beside.ready.tasks) in
-          let new = all-filter (λ other. other.key ≢ acted.key) _ others.pending (new_where_apart acted others.pending both.task_beside.apart) in
+          let fit = All-put_in (IsFitTask app) acted rest both.task_beside.fit (All-filter (IsFitTask app) _ others.pending both.task_beside.ready.tasks) in
+          let new = All-filter (λ other. other.key ≢ acted.key) _ others.pending (new_key_from_apart acted others.pending both.task_beside.apart) in
           let ascending = basis.lower.puts_ascend acted rest new (basis.lower.before_ascends task.key others.pending both.task_beside.ready.ascending) in
-          let all_earlier = all-put_in (λ other. key_cmp other.key task.key ≡ Less) acted rest earlier (basis.lower.before_is_earlier task.key others.pending) in
+          let all_earlier = All-put_in (λ other. key_cmp other.key task.key ≡ Less) acted rest earlier (basis.lower.before_is_earlier task.key others.pending) in
           subst (λ tasks. StaysSafe app task (tasks_before task.key (children_of app others.cells acted)) tasks (app.act acted others.cells).cells) (sym split.2)
           (basis.lawful.safe_tasks_stay_safe task acted split.0 split.1 others.cells both.task_beside.ready.cells both.other_beside.fit
           (subst (λ tasks. AreFitTasks app tasks) split.3 fit)
@@ -99,7 +102,7 @@ module _ {V : Type 0} {app : Application V} (basis : Basis app) where
           let was_apart = subst (λ tasks. AllByRecursion (λ other. ¬ Conflicts (set_in app others.cells other) (set_in app others.cells task)) tasks) with_acted unblocked.apart in
           let rest = (all_from_put_in (λ other. ¬ Conflicts (set_in app others.cells other) (set_in app others.cells task)) acted (tasks_before task.key others.pending) was_apart).1 in
           record {
-            apart = subst (λ tasks. AllByRecursion AreApartNow tasks) (sym with_children) (all-put_all AreApartNow _ _ stays_safe.apart (rest_apart rest));
+            apart = subst (λ tasks. AllByRecursion AreApartNow tasks) (sym with_children) (All-put_all AreApartNow _ _ stays_safe.apart (rest_apart rest));
             safe = ap (app.is_safe task) with_children ∙ stays_safe.safe;
           }
 

@@ -2,19 +2,22 @@
 use Rattle.std.proofs.Common.{◌≡◌, ◌≢◌, ℕ, suc, ◌≤◌, List, [], ◌∷◌, sym, ap, ◌∙◌}
 use Rattle.std.specs.List.{AllByRecursion}
 use Rattle.std.specs.declared.cmp.Ordering.TheVariants.{Less}
+use Rattle.plain_laws.specs.Lists.{All-weaker, All-swapped}
 use Rattle.task_order.specs.declared.key.Key.{Key}
 use Rattle.task_order.specs.declared.start.Start.{Start}
 use Rattle.task_order.specs.declared.task.Task.{Task}
 use Rattle.task_order.specs.Key.{key_cmp}
 use Rattle.task_order.specs.TaskList.{IsNewKey, put_all}
+use Rattle.task_order.specs.TaskListLaws.{All-put_all}
 use Rattle.rw_sets.specs.Accesses.{Conflicts}
 use Rattle.app_laws.specs.Applications.{Application, IsFitTask, AreFitTasks, AreFitStarts, set_in}
 use Rattle.app_laws.specs.Execution.{children_from}
+use Rattle.app_laws.specs.ApartLaws.{TasksApart, TasksApart-turned}
 use Rattle.commuting.specs.States.{State, state_of}
 use Rattle.commuting.specs.Clear.{IsReady}
 use Rattle.commuting.specs.Basis.{Basis, LowerLaws}
 use Rattle.commuting.proofs.Cells.{IsAside, same_cells, same_outcome, aside_turned}
-use Rattle.commuting.proofs.Pending.{TasksApart, apart_turned, differ_where_apart, all-weaker, all-swapped, all-put_all, FitIn, spread-put_all, put_all-put_all}
+use Rattle.commuting.proofs.Pending.{differ_where_apart, FitIn, spread-put_all, put_all-put_all}
 use Rattle.commuting.proofs.Runs.{turn}
 
 later_from : LowerLaws → (parent : Key) (number : ℕ) (children : List Start) → AllByRecursion (λ child. parent.prio ≤ child.prio) children
@@ -66,12 +69,12 @@ module _ {V : Type 0} {app : Application V} (basis : Basis app) where
   -- their keys are new to another task and its children
   pub children_new : (task : Task) (cells : List V) (other : Task) → TasksApart task other → IsNewKey other.key (children_of app cells task)
   children_new task cells other apart =
-      all-weaker (λ child. TasksApart child other) (λ child. child.key ≢ other.key) (λ child. differ_where_apart child other) (children_of app cells task) (children_apart task cells other apart)
+      All-weaker (λ child. TasksApart child other) (λ child. child.key ≢ other.key) (λ child. differ_where_apart child other) (children_of app cells task) (children_apart task cells other apart)
 
   children_differ : (task other : Task) (cells cells' : List V) → TasksApart task other → AllByRecursion (λ child. IsNewKey child.key (children_of app cells' other)) (children_of app cells task)
   children_differ task other cells cells' apart =
-      all-weaker (λ child. TasksApart child other) (λ child. IsNewKey child.key (children_of app cells' other))
-      (λ child away. children_new other cells' child (apart_turned child other away))
+      All-weaker (λ child. TasksApart child other) (λ child. IsNewKey child.key (children_of app cells' other))
+      (λ child away. children_new other cells' child (TasksApart-turned child other away))
       (children_of app cells task) (children_apart task cells other apart)
 
   pub children_fit_in : (task : Task) (others : State V) → IsBeside app task others → FitIn (children_of app others.cells task) others.pending
@@ -79,8 +82,8 @@ module _ {V : Type 0} {app : Application V} (basis : Basis app) where
     spread = record { ascending = beside.ready.ascending; apart = beside.ready.apart };
     siblings = basis.lower.siblings_apart task.key (app.act task others.cells).children;
     apart =
-        all-swapped TasksApart (children_of app others.cells task) others.pending
-        (all-weaker (TasksApart task) (λ other. AllByRecursion (λ child. TasksApart child other) (children_of app others.cells task)) (λ other. children_apart task others.cells other) others.pending beside.apart);
+        All-swapped TasksApart (children_of app others.cells task) others.pending
+        (All-weaker (TasksApart task) (λ other. AllByRecursion (λ child. TasksApart child other) (children_of app others.cells task)) (λ other. children_apart task others.cells other) others.pending beside.apart);
   }
 
   -- what it leaves is ready again, and the others stay beside it
@@ -89,7 +92,7 @@ module _ {V : Type 0} {app : Application V} (basis : Basis app) where
       let spread = spread-put_all basis.lower (children_of app others.cells task) others.pending (children_fit_in task others beside) in
       record {
         cells = (basis.lawful.acts_are_fit task others.cells beside.ready.cells beside.fit).cells;
-        tasks = all-put_all (IsFitTask app) (children_of app others.cells task) others.pending (children_fit task others.cells beside.ready.cells beside.fit) beside.ready.tasks;
+        tasks = All-put_all (IsFitTask app) (children_of app others.cells task) others.pending (children_fit task others.cells beside.ready.cells beside.fit) beside.ready.tasks;
         ascending = spread.ascending;
         apart = spread.apart;
       }
@@ -99,8 +102,8 @@ module _ {V : Type 0} {app : Application V} (basis : Basis app) where
     ready = ready_turn task others beside;
     fit = other_beside.fit;
     apart =
-        all-put_all (TasksApart other) (children_of app others.cells task) others.pending
-        (all-weaker (λ child. TasksApart child other) (TasksApart other) (λ child. apart_turned child other) (children_of app others.cells task) (children_apart task others.cells other apart))
+        All-put_all (TasksApart other) (children_of app others.cells task) others.pending
+        (All-weaker (λ child. TasksApart child other) (TasksApart other) (λ child. TasksApart-turned child other) (children_of app others.cells task) (children_apart task others.cells other apart))
         other_beside.apart;
   }
 
@@ -124,6 +127,6 @@ module _ {V : Type 0} {app : Application V} (basis : Basis app) where
       let cells-are = same_cells basis cells task other aside in
       let pending-are : put_all (children_of app (app.act task cells).cells other) (put_all first others.pending) ≡ put_all (children_of app (app.act other cells).cells task) (put_all second others.pending) =
       ap (λ children. put_all (children_from other.key 0 children) (put_all first others.pending)) (sym (same_outcome basis cells task other aside).children)
-      ∙ put_all-put_all basis.lower second first others.pending (children_differ other task cells cells (apart_turned task other both.paths_apart))
+      ∙ put_all-put_all basis.lower second first others.pending (children_differ other task cells cells (TasksApart-turned task other both.paths_apart))
       ∙ ap (λ children. put_all (children_from task.key 0 children) (put_all second others.pending)) (same_outcome basis cells other task turned).children in
       λ i. state_of (cells-are i) (pending-are i)

@@ -6,3 +6,4 @@ pub mod Renaming
 pub mod Rounds
 pub mod Standing
 pub mod States
+pub mod EndLaws

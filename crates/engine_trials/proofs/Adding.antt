@@ -8,7 +8,7 @@ use Rattle.task_order.specs.declared.start.Start.{Start}
 use Rattle.rw_sets.specs.declared.access.Access.TheVariants.{Read}
 use Rattle.rw_sets.specs.Accesses.{Accesses, IsAscending, IsInRange}
 use Rattle.rw_sets.specs.AccessLaws.{ascending_cons}
-use Rattle.app_laws.specs.Applications.{IsWholeLines}
+use Rattle.app_laws.specs.LineLaws.{ends_with_line_feed}
 use Rattle.hook_app.specs.Hooked.{AreValuesOf, FitTogether, IsFitDeed, set_at}
 use Rattle.hook_app.specs.OneLocation.{own_ascending, own_in_range, own_set}
 use Rattle.hook_app.specs.Values.{KeepsRead}
@@ -27,11 +27,6 @@ sum_ascending = ascending_cons (0, Read) _ (omega arith, (omega arith, tt)) (asc
 
 sum_in_range : IsInRange sum_set 3
 sum_in_range loc named = grind (arith, nat_tests)
-
-ends_with_line_feed : (text : List ℕ) → IsWholeLines (text ++ 10 ∷ [])
-ends_with_line_feed [] = refl
-ends_with_line_feed (byte ∷ []) = refl
-ends_with_line_feed (byte ∷ next ∷ text) = ends_with_line_feed (next ∷ text)
 
 added_fit : (start : Start) (ahead : ℕ) (values : List ℕ) → ahead ≤ 1 → start.body.at < 3 → set_at adding_sets start.body.at ≡ own_set start.body.at → AreValuesOf adding (set_at adding_sets start.body.at) values
     → IsFitDeed adding adding_sets ahead start values (added start values)

@@ -6,6 +6,8 @@ use Rattle.std.specs.Option.{option_map}
 use Rattle.std.proofs.Math.Seq.{drop-cons}
 use Rattle.std.proofs.lemmas.List.{take-append-drop}
 use Rattle.std.proofs.lemmas.List.Elements.{Contains-get_or}
+use Rattle.plain_laws.specs.Lists.{All-middle}
+use Rattle.plain_laws.specs.Options.{some_injective}
 use Rattle.task_order.specs.declared.task.Task.{Task}
 use Rattle.rw_sets.specs.Accesses.{Accesses}
 use Rattle.cell_store.specs.Part.{Part}
@@ -30,18 +32,11 @@ at_middle : {X : Type 0} (before : List X) (x : X) (after : List X) → Contains
 at_middle [] x after = (0, omega arith, refl)
 at_middle (y ∷ before) x after = let rest = at_middle before x after in (suc rest.0, omega (arith, rest.1), rest.2)
 
-all_in_middle : {X : Type 0} (P : X → Type 0) (before : List X) (x : X) (after : List X) → AllByRecursion P (before ++ x ∷ after) → P x
-all_in_middle P [] x after all = all.0
-all_in_middle P (y ∷ before) x after all = all_in_middle P before x after all.1
-
 -- an item with those before and after it
 parted : {X : Type 0} (xs : List X) (place : ℕ) (x : X) → place < length xs → x ≡ get_or xs place x → xs ≡ take place xs ++ x ∷ drop (suc place) xs
 parted xs place x inside is =
     sym (take-append-drop place xs)
     ∙ ap (λ rest. take place xs ++ rest) (drop-cons xs place x inside ∙ ap (λ y. y ∷ drop (suc place) xs) (sym is))
-
-Some-injective : {X : Type 0} (a b : X) → Some a ≡ Some b → a ≡ b
-Some-injective a b same = cc
 
 module _ {V : Type 0} (app : Application V) where
   pub after_change : (old now : Progress V) (jobs : List (Job V)) → StaysSound app old now → AreInHand app old jobs → AreInHand app now jobs
@@ -90,12 +85,12 @@ module _ {V : Type 0} (app : Application V) where
       → Some id ≡ option_map (λ node. node.id) (node_with_key progress.nodes done.task.key) → set_at progress.nodes id ≡ Some set → done.effect.bundle.set ≡ set
   set_left progress done id set laws keys_find have_ids is found at =
       let performed = is.performed in
-      let named : IsOfNode app progress.nodes is.job = all_in_middle (IsOfNode app progress.nodes) performed.before is.job performed.after (subst (AllByRecursion (IsOfNode app progress.nodes)) performed.there is.sound.outs_match.named) in
+      let named : IsOfNode app progress.nodes is.job = All-middle (IsOfNode app progress.nodes) performed.before is.job performed.after (subst (AllByRecursion (IsOfNode app progress.nodes)) performed.there is.sound.outs_match.named) in
       let node : Node = named.0 in
       let its : node_with_key progress.nodes done.task.key ≡ Some node = ap (λ (task : Task). node_with_key progress.nodes task.key) (sym performed.task) ∙ named.1 in
-      let same_id : id ≡ node.id = Some-injective id node.id (found ∙ ap (option_map (λ (one : Node). one.id)) its) in
+      let same_id : id ≡ node.id = some_injective id node.id (found ∙ ap (option_map (λ (one : Node). one.id)) its) in
       let at_id = have_ids progress.nodes node is.sound.keys_and_counts.graph (keys_find progress.nodes is.job.task.key node named.1).0 in
-      let node_set : node.set ≡ set = Some-injective node.set set (sym (ap (option_map (λ (one : Node). one.set)) (ap (node_at progress.nodes) same_id ∙ at_id)) ∙ at) in
+      let node_set : node.set ≡ set = some_injective node.set set (sym (ap (option_map (λ (one : Node). one.set)) (ap (node_at progress.nodes) same_id ∙ at_id)) ∙ at) in
       let may = laws progress is.jobs is.values is.job is.sound (subst (λ jobs. Contains jobs is.job) (sym performed.there) (at_middle performed.before is.job performed.after)) in
       let left : done.effect.bundle.set ≡ is.job.bundle.set =
       ap (λ (effect : Effect V). effect.bundle.set) (performed.effect may.taken.cells may.taken.fit may.taken.is) ∙ sym (ap (λ (part : Part V). part.set) may.taken.is) in

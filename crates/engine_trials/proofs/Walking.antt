@@ -12,7 +12,8 @@ use Rattle.cell_store.specs.declared.cell.Cell.TheVariants.{Home}
 use Rattle.cell_store.specs.Cells.{cell_in, with_value}
 use Rattle.cell_store.specs.Part.{Part}
 use Rattle.app_laws.specs.declared.child.Child.{Child}
-use Rattle.hook_app.specs.Hooked.{AreValuesOf, FitTogether, IsFitDeed, set_at, start_of_task}
+use Rattle.app_laws.specs.Names.{start_of_task}
+use Rattle.hook_app.specs.Hooked.{AreValuesOf, FitTogether, IsFitDeed, set_at}
 use Rattle.hook_app.specs.Kept.{bundle_with, effect_with}
 use Rattle.hook_app.specs.OneLocation.{found_is, one_value, own_ascending, own_in_range, own_set, put_is}
 use Rattle.hook_app.specs.Values.{KeepsRead}

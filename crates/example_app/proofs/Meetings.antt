@@ -9,9 +9,9 @@ use Rattle.cell_store.specs.Part.{Part}
 use Rattle.cell_store.specs.Cells.{cell_at, cell_in, part_of, with_value}
 use Rattle.cell_store.specs.Values.{homes, AgreesWith}
 use Rattle.cell_store.specs.Laws.{PartsByLocation, HomesByLocation}
-use Rattle.app_laws.specs.declared.app.Effect.{Effect}
 use Rattle.app_laws.specs.declared.child.Child.{Child}
 use Rattle.app_laws.specs.Applications.{handed, IsTaken, IsEffect}
+use Rattle.app_laws.specs.EffectLaws.{same_effects}
 use Rattle.example_app.specs.Introduction.{AreContacts, IsMeeting, meeting_set, set_among, introduced, contact_after, meetings_after, children_of, line_of, introductions}
 use Rattle.example_app.specs.Lawful.{IsAmong, named_from_among, written_from_guests, meeting_set-ascending, contact_is_one, home_is, met_fit, contact_of_guest, contact_of_other}
 
@@ -130,10 +130,6 @@ module _ {people : ℕ} {task : Task} {bundle : Part ℕ} {contacts : List ℕ} 
       ap (λ part. with_value (with_value part guest other) other guest) held.is
       ∙ ap (λ part. with_value part other guest) (held.values.written contacts (set_among task.body contacts) guest other up (omega (arith, held.fit.one_each)))
       ∙ held.values.written (slice_set contacts guest other) (set_among task.body contacts) other guest up (omega (arith, held.fit.one_each, length-set contacts guest other))
-
-same_effects : {one two : Part ℕ} {made others : List Child} {line more : List ℕ} → one ≡ two → made ≡ others → line ≡ more
-    → ◌≡◌ {A = Effect ℕ} (record { bundle = one; children = made; text = line }) (record { bundle = two; children = others; text = more })
-same_effects e f h = cc
 
 -- what a meeting leaves is the operator's effect, whoever the other contacts are
 pub effect_found : {people : ℕ} (task : Task) {bundle : Part ℕ} → PartsByLocation ℕ → HomesByLocation ℕ → IsMeeting people task.key.prio task.body

@@ -19,15 +19,17 @@ use Rattle.rw_sets.specs.IndependenceLaws.{within_by_members}
 use Rattle.rw_sets.specs.LookupLaws.{merges_hold_both}
 use Rattle.rw_sets.specs.MergeLaws.{ascending_put}
 use Rattle.rw_sets.specs.PairLaws.{merges_write_what_one_does}
+use Rattle.rw_sets.specs.AccessLaws.{some_from_writes, clash_where_written}
 use Rattle.cell_store.specs.declared.cell.Cell.{Cell}
 use Rattle.cell_store.specs.declared.cell.Cell.TheVariants.{Home, Out}
 use Rattle.cell_store.specs.Home.{IsHome}
 use Rattle.cell_store.specs.Cells.{cell_at}
 use Rattle.cell_store.specs.Values.{AgreesWith}
-use Rattle.app_laws.specs.Applications.{AgreeOn, IsFitTask, IsWholeLines, set_in, CellsAreCounted, SetsAreInRange, ActsAreFit, SetsAreLocal, IsSameOutcome, ActsAreLocal, ChildrenComeNoEarlier, SetsStayWithin, IsTrueAnswer, WalksAreTrue, IsSafeAlone, SafeTasksStaySafe, IsLawful}
+use Rattle.app_laws.specs.Applications.{AgreeOn, IsFitTask, set_in, CellsAreCounted, SetsAreInRange, ActsAreFit, SetsAreLocal, IsSameOutcome, ActsAreLocal, ChildrenComeNoEarlier, SetsStayWithin, IsTrueAnswer, WalksAreTrue, IsSafeAlone, SafeTasksStaySafe, IsLawful}
 use Rattle.app_laws.specs.Execution.{children_from}
+use Rattle.app_laws.specs.LineLaws.{ends_with_line_feed}
 use Rattle.example_app.specs.Introduction.{AreContacts, IsMeeting, meeting_set, set_asked, introduced, contact_after, meetings_after, meeting_of, introductions}
-use Rattle.example_app.specs.Sets.{ascending_one, access_put, access_of, access_among, is_some_among, writes_among, some_from_writes, clash_grows, clash_where_written}
+use Rattle.example_app.specs.Sets.{ascending_one, access_put, access_of, access_among, is_some_among, writes_among, clash_grows}
 
 -- the set of a meeting, by locations
 pub meeting_set-ascending : (first second guest other : ℕ) → IsAscending (meeting_set first second guest other)
@@ -136,11 +138,6 @@ module _ (people : ℕ) where
     one_each = length-set (slice_set contacts guest other) other guest ∙ length-set contacts guest other ∙ fit.one_each;
     known = All-set (λ contact. contact < people) (slice_set contacts guest other) other guest guest-one (All-set (λ contact. contact < people) contacts guest other other-one fit.known);
   }
-
-  ends_with_line_feed : (text : List ℕ) → IsWholeLines (text ++ 10 ∷ [])
-  ends_with_line_feed [] = refl
-  ends_with_line_feed (byte ∷ []) = refl
-  ends_with_line_feed (byte ∷ next ∷ text) = ends_with_line_feed (next ∷ text)
 
   meetings_fit : (prio : ℕ) (body : Body) (guest other : ℕ) → IsMeeting people prio body → guest < people → other < people
       → AllByRecursion (λ start. IsMeeting people start.prio start.body) (meetings_after prio body guest other)

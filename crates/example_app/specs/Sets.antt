@@ -61,10 +61,6 @@ writes_among p q r s =
     writes_joined (joined (joined (access_of p Read) (access_of q Read)) (access_of r Write)) s
     ∙ ap (λ b. b || s) (writes_joined (joined (access_of p Read) (access_of q Read)) r ∙ ap (λ b. b || r) (reads_only p q))
 
-pub some_from_writes : (x : Option Access) → allows_write x ≡ true → is_some x ≡ true
-some_from_writes None writes = writes
-some_from_writes (Some x) writes = refl
-
 pub clash_grows : (x y z : Option Access) → covers x y ≡ true → clash x z ≡ true → clash y z ≡ true
 clash_grows None y z within clashes = absurd (true≢false (sym clashes))
 clash_grows (Some x) None z within clashes = absurd (true≢false (sym within))
@@ -73,9 +69,3 @@ clash_grows (Some Read) (Some Read) (Some z) within clashes = clashes
 clash_grows (Some Read) (Some Write) (Some z) within clashes = refl
 clash_grows (Some Write) (Some Read) (Some z) within clashes = absurd (true≢false (sym within))
 clash_grows (Some Write) (Some Write) (Some z) within clashes = refl
-
-pub clash_where_written : (x y : Option Access) → allows_write x ≡ true → is_some y ≡ true → clash x y ≡ true
-clash_where_written None y writes there = absurd (true≢false (sym writes))
-clash_where_written (Some Read) y writes there = absurd (true≢false (sym writes))
-clash_where_written (Some Write) None writes there = absurd (true≢false (sym there))
-clash_where_written (Some Write) (Some y) writes there = refl

@@ -3,6 +3,7 @@ use Rattle.std.proofs.Common.{◌≡◌, ◌≢◌, inl, inr, Bool, false, not, 
 use Rattle.std.specs.Prelude.{IsSome, length, ◌+◌, option_to_list}
 use Rattle.std.specs.Option.{option_map}
 use Rattle.std.proofs.lemmas.Option.{same_Some}
+use Rattle.plain_laws.specs.Members.{found_is_there, from_filter, from_map}
 use Rattle.task_order.specs.declared.key.Key.{Key}
 use Rattle.task_order.specs.declared.task.Task.{Task}
 use Rattle.cell_store.specs.Cells.{part_of}
@@ -20,7 +21,6 @@ use Rattle.crew.specs.Jobs.{IsPerformed}
 use Rattle.run_laws.specs.Acting.{HasActed, IsActFault, IsPlayed}
 use Rattle.run_laws.specs.Events.{IsOfClear, clear_nodes, is_clear}
 use Rattle.run_laws.specs.Jobs.{Done, Job}
-use Rattle.run_laws.specs.Lists.{found_is_there, from_filter, from_map}
 use Rattle.run_laws.specs.Moves.{ClaimAnswersMove, EndsMove, GivingUpMoves, Moved, MovesFollow, RefusalsMove}
 use Rattle.run_laws.specs.Progress.{Progress}
 use Rattle.worker_gate.specs.Fits.{drained_count}

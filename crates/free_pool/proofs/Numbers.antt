@@ -1,7 +1,7 @@
 -- The numbers of the seats of a team.
-use Rattle.std.proofs.Common.{◌≡◌, ◌≢◌, ◌==◌, eq-eqb, ne_eqb, not, cond, Bool, false, ℕ, zero, suc, ◌<◌, List, [], ◌∷◌, ◌++◌, refl, sym, ap, ◌∙◌, arith}
-use Rattle.std.specs.Prelude.{filter}
-use Rattle.free_pool.specs.Team.{down_from, up_to}
+use Rattle.std.proofs.Common.{◌≡◌, ℕ, zero, suc, List, [], ◌∷◌, ◌++◌, refl, sym, ap, ◌∙◌}
+use Rattle.plain_laws.specs.Ranges.{down_from-others_stay}
+use Rattle.free_pool.specs.Team.{up_to}
 
 pub no_snoc : {X : Type 0} (xs : List X) (x : X) → xs ++ x ∷ [] ≡ [] → ⊥
 no_snoc [] x same = cc
@@ -30,18 +30,3 @@ last_number (suc m) numbers number same = let is = last_same numbers (up_to m) n
 pub no_number : (n : ℕ) → [] ≡ up_to n → n ≡ 0
 no_number zero none = refl
 no_number (suc n) none = absurd (no_snoc (up_to n) (suc n) (sym none))
-
--- all are below
-others_stay : (m gone : ℕ) → m < gone → filter (λ number. not (number == gone)) (down_from m) ≡ down_from m
-others_stay zero gone below = refl
-others_stay (suc m) gone below =
-    let differs : suc m ≢ gone = λ same. absurd (omega (arith, same, below)) in
-    let test : (suc m == gone) ≡ false = ne_eqb (suc m) gone differs in
-    ap (λ (b : Bool). cond (not b) (suc m ∷ filter (λ number. not (number == gone)) (down_from m)) (filter (λ number. not (number == gone)) (down_from m))) test
-    ∙ ap (λ (rest : List ℕ). suc m ∷ rest) (others_stay m gone (omega (arith, below)))
-
--- without the greatest
-pub without_first : (m : ℕ) → filter (λ number. not (number == suc m)) (down_from (suc m)) ≡ down_from m
-without_first m =
-    ap (λ (b : Bool). cond (not b) (suc m ∷ filter (λ number. not (number == suc m)) (down_from m)) (filter (λ number. not (number == suc m)) (down_from m))) (eq-eqb (suc m) (suc m) refl)
-    ∙ others_stay m (suc m) (omega arith)

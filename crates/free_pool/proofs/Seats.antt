@@ -3,12 +3,13 @@ use Rattle.std.proofs.Common.{get_or, ◌≡◌, ◌==◌, not, ℕ, suc, ◌<�
 use Rattle.std.specs.Prelude.{Contains, filter}
 use Rattle.std.specs.List.{AllByRecursion, AllZip}
 use Rattle.plain_laws.specs.Lists.{All-push, All-pushed}
+use Rattle.plain_laws.specs.Ranges.{down_from, down_from-without_first}
 use Rattle.graph_update.specs.Engine.{EngineState}
 use Rattle.worker_gate.specs.Steps.{both_views, first_half, second_half}
 use Rattle.worker_gate.specs.Turns.{HallState, SeatState}
-use Rattle.free_pool.specs.Team.{HasWorked, IsReady, IsTeam, MayWork, down_from, up_to}
+use Rattle.free_pool.specs.Team.{HasWorked, IsReady, IsTeam, MayWork, up_to}
 use Rattle.free_pool.specs.Turns.{IsSeated}
-use Rattle.free_pool.proofs.Numbers.{last_number, no_number, without_first}
+use Rattle.free_pool.proofs.Numbers.{last_number, no_number}
 
 map_snoc : {X Y : Type 0} (f : X → Y) (xs : List X) (x : X) → map f (xs ++ x ∷ []) ≡ map f xs ++ f x ∷ []
 map_snoc f [] x = refl
@@ -55,7 +56,7 @@ module _ {A V : Type 0} where
           ap (λ (s : SeatState (EngineState A V) V). s.view.unjoined) is
           ∙ ap (λ (xs : List ℕ). filter (λ k. not (k == other.view.number)) xs) (unjoined ∙ ap down_from same)
           ∙ ap (λ (gone : ℕ). filter (λ k. not (k == gone)) (down_from (suc m))) number
-          ∙ without_first m
+          ∙ down_from-without_first m
 
     -- ---- splitting
 

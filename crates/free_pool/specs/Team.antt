@@ -1,6 +1,7 @@
 -- The seats of a team of workers.
 use Rattle.std.specs.Prelude.{◌≡◌, ℕ, zero, suc, List, [], ◌∷◌, ◌++◌, map}
 use Rattle.std.specs.List.{AllByRecursion}
+use Rattle.plain_laws.specs.Ranges.{down_from}
 use Rattle.app_laws.specs.Applications.{Application}
 use Rattle.graph_update.specs.Engine.{EngineState}
 use Rattle.worker_gate.specs.Turns.{HallState, SeatState}
@@ -11,11 +12,6 @@ use Rattle.free_pool.specs.Turns.{IsSeated}
 abbrev pub up_to : ℕ → List ℕ
 up_to zero = []
 up_to (suc n) = up_to n ++ suc n ∷ []
-
--- the same, the greatest first
-abbrev pub down_from : ℕ → List ℕ
-down_from zero = []
-down_from (suc n) = suc n ∷ down_from n
 
 -- The first seat of a hall, from which so many others were split, and these others, which aren't joined to it.
 pub record IsTeam {A V : Type 0} (hall : HallState (EngineState A V)) (others : ℕ) (seat : SeatState (EngineState A V) V) (seats : List (SeatState (EngineState A V) V)) : Type 0 where

@@ -4,7 +4,8 @@ use Rattle.std.specs.List.{AllByRecursion}
 use Rattle.std.specs.Ordering.{nat_cmp}
 use Rattle.std.specs.declared.cmp.Ordering.TheVariants.{Less}
 use Rattle.std.proofs.Common.{arith, inl, inr, sym, ap, ◌∙◌, subst}
-use Rattle.mtx_reader.specs.Ascending.{IsAscendingBy, IsIn, all_in, all_from_in, less_from_cmp}
+use Rattle.plain_laws.specs.Orderings.{below_from_cmp}
+use Rattle.mtx_reader.specs.Ascending.{IsAscendingBy, IsIn, all_in, all_from_in}
 use Rattle.gf2_eliminate.specs.declared.line.Line2.{Line2}
 use Rattle.gf2_eliminate.specs.Elimination.{first_of}
 use Rattle.gf2_eliminate.specs.Lines.{is_used, numbers_in, line_at, IsListTo}
@@ -75,7 +76,7 @@ module _ {C : Type 0} {held : C → ℕ → Line2} {has_line : C → ℕ → Typ
       → IsLeft held has_line put_at before numbers added old (put_at now (before + (number - 1)) line) rest
   left_less before numbers added old now number rest line so-far is =
       let apart : (other : ℕ) → IsIn rest other → before + (other - 1) ≢ before + (number - 1) =
-      λ other there same. omega (arith, same, so-far.ready.0.from_one, less_from_cmp number other (all_in (λ n. nat_cmp number n ≡ Less) rest other so-far.ascending.0 there)) in
+      λ other there same. omega (arith, same, so-far.ready.0.from_one, below_from_cmp number other (all_in (λ n. nat_cmp number n ≡ Less) rest other so-far.ascending.0 there)) in
       record {
         ready = ready_elsewhere before now ((before + (number - 1), line) ∷ []) rest (λ other there. (apart other there, tt)) so-far.ready.1;
         same = λ other there. laws.same now (before + (number - 1)) (before + (other - 1)) line (apart other there) ∙ so-far.same other (inr there);

@@ -5,6 +5,7 @@ use Rattle.std.proofs.lemmas.Bool.{cases_lt, eq-eqb, eqb-true, false_from_ne_tru
 use Rattle.std.proofs.lemmas.List.{get_or-map}
 use Rattle.plain_laws.specs.Bools.{same_tests}
 use Rattle.rw_sets.specs.Accesses.{writes}
+use Rattle.rw_sets.specs.AccessLaws.{has_from_writes}
 use Rattle.cell_store.specs.declared.cell.Cell.{Cell}
 use Rattle.cell_store.specs.declared.cell.Cell.TheVariants.{Home, Out}
 use Rattle.cell_store.specs.Home.{IsHome}
@@ -19,7 +20,7 @@ use Rattle.gf2_eliminate.specs.Covers.{covers, IsAtHome, IsCommon, IsFirstBeyond
 use Rattle.gf2_eliminate.specs.Elimination.{is_shared, set_of}
 use Rattle.gf2_eliminate.specs.Lines.{no_line, numbers_in, has, line_at, holds, IsListTo, IsRow, IsColumn}
 use Rattle.gf2_eliminate.specs.Membership.{in_has}
-use Rattle.gf2_eliminate.specs.Lawful.{IsNamed, OfRow, OfItself, OfColumn, SharesRow, named_from_some, number_within, shared_found, shared_from, some_from_writes, writes_from_named}
+use Rattle.gf2_eliminate.specs.Lawful.{IsNamed, OfRow, OfItself, OfColumn, SharesRow, named_from_some, number_within, shared_found, shared_from, writes_from_named}
 use Rattle.gf2_eliminate.proofs.Marking.{or_assoc}
 
 row_list : (columns : ℕ) (line : Line2) → IsRow columns line → IsListTo columns (numbers_in line)
@@ -239,7 +240,7 @@ module _ (pattern : Pattern) (column : ℕ) (cells : List (Cell Line2)) (at-home
     -- the rows of the set are those of the column
     pub writes_row : (row : ℕ) → row < pattern.rows → writes (set_of pattern.rows pattern.cols column (values_of cells)) row ≡ has (numbers_in line) (suc row)
     writes_row row below = same_tests (writes (set_of pattern.rows pattern.cols column (values_of cells)) row) (has (numbers_in line) (suc row))
-        (λ written. sym (held_is row below) ∙ row_named (named_from_some pattern.rows pattern.cols column (values_of cells) row (some_from_writes pattern.rows pattern.cols (set_of pattern.rows pattern.cols column (values_of cells)) row written)).1)
+        (λ written. sym (held_is row below) ∙ row_named (named_from_some pattern.rows pattern.cols column (values_of cells) row (has_from_writes (set_of pattern.rows pattern.cols column (values_of cells)) row written)).1)
         (λ there. writes_from_named pattern.rows pattern.cols column (values_of cells) row at-home.within (OfRow below (held_is row below ∙ there)))
       where
         row_named : IsNamed pattern.rows pattern.cols column (values_of cells) row → holds (values_of cells) row column ≡ true
@@ -250,7 +251,7 @@ module _ (pattern : Pattern) (column : ℕ) (cells : List (Cell Line2)) (at-home
   -- its columns are the column itself and those that share a row with it
   pub writes_column : (other : ℕ) → other < pattern.cols → writes (set_of pattern.rows pattern.cols column (values_of cells)) (pattern.rows + other) ≡ (column == other || is_shared pattern.rows pattern.cols (values_of cells) column other)
   writes_column other below = same_tests (writes (set_of pattern.rows pattern.cols column (values_of cells)) (pattern.rows + other)) (column == other || is_shared pattern.rows pattern.cols (values_of cells) column other)
-      (λ written. column_named (named_from_some pattern.rows pattern.cols column (values_of cells) (pattern.rows + other) (some_from_writes pattern.rows pattern.cols (set_of pattern.rows pattern.cols column (values_of cells)) (pattern.rows + other) written)).1)
+      (λ written. column_named (named_from_some pattern.rows pattern.cols column (values_of cells) (pattern.rows + other) (has_from_writes (set_of pattern.rows pattern.cols column (values_of cells)) (pattern.rows + other) written)).1)
       (λ either. writes_from_named pattern.rows pattern.cols column (values_of cells) (pattern.rows + other) at-home.within (named (or_cases (column == other) (is_shared pattern.rows pattern.cols (values_of cells) column other) either)))
     where
       column_named : IsNamed pattern.rows pattern.cols column (values_of cells) (pattern.rows + other) → (column == other || is_shared pattern.rows pattern.cols (values_of cells) column other) ≡ true
@@ -266,7 +267,7 @@ module _ (pattern : Pattern) (column : ℕ) (cells : List (Cell Line2)) (at-home
 
   pub writes_none : (loc : ℕ) → pattern.rows + pattern.cols ≤ loc → writes (set_of pattern.rows pattern.cols column (values_of cells)) loc ≡ false
   writes_none loc past = false_from_ne_true (writes (set_of pattern.rows pattern.cols column (values_of cells)) loc) (λ written.
-      let named = named_from_some pattern.rows pattern.cols column (values_of cells) loc (some_from_writes pattern.rows pattern.cols (set_of pattern.rows pattern.cols column (values_of cells)) loc written) in
+      let named = named_from_some pattern.rows pattern.cols column (values_of cells) loc (has_from_writes (set_of pattern.rows pattern.cols column (values_of cells)) loc written) in
       omega (arith, named.0, past))
 
 -- covers by rows and by columns

@@ -1,17 +1,17 @@
 -- Blocks along the diagonal make a pattern: their places come in order.
-use Rattle.std.specs.Prelude.{◌≡◌, ℕ, zero, suc, ◌+◌, ◌*◌, ◌<◌, ◌≤◌, List, [], ◌∷◌, ◌++◌, refl}
-use Rattle.std.specs.Cmp.{IsTotalOrder}
+use Rattle.std.specs.Prelude.{◌≡◌, ℕ, zero, suc, ◌+◌, ◌*◌, ◌<◌, ◌≤◌, List, [], ◌∷◌, ◌++◌}
 use Rattle.std.specs.List.{AllByRecursion}
 use Rattle.std.specs.Ordering.{nat_cmp}
 use Rattle.std.specs.declared.cmp.Ordering.TheVariants.{Less, Equal}
 use Rattle.std.proofs.Common.{arith, sym, ap, ◌∙◌, subst, append_assoc}
 use Rattle.std.proofs.lemmas.Bool.Decides.{nat_tests}
-use Rattle.std.proofs.lemmas.Cmp.{nat_cmp_total, on_total, then_total}
 use Rattle.std.proofs.lemmas.List.Concat.{flat_map-append}
 use Rattle.plain_laws.specs.Lists.{All-append, All-push}
-use Rattle.mtx_reader.specs.Ascending.{IsAscendingBy, all_in, all_from_in, ascending_push, nat_less, numbers_from}
+use Rattle.plain_laws.specs.Orderings.{nat_cmp-below}
+use Rattle.mtx_reader.specs.Ascending.{IsAscendingBy, all_in, all_from_in, ascending_push, numbers_from}
 use Rattle.mtx_reader.specs.Patterns.{IsPattern}
 use Rattle.mtx_reader.specs.Places.{IsWithin, Place, place_cmp}
+use Rattle.mtx_reader.specs.PlaceLaws.{lower_row_first, place_total}
 use Rattle.gf2_eliminate.specs.Blocks.{block_places, blocks_places, most_blocks, places_behind}
 use Rattle.gf2_eliminate.proofs.Marking.{numbers_to}
 
@@ -22,20 +22,14 @@ ComeBefore places next = AllByRecursion (λ place. place_cmp place next ≡ Less
 abbrev pub EndAbove : List Place → ℕ → Type 0
 EndAbove places row = AllByRecursion (λ place. place.0 ≤ row) places
 
-place_total : IsTotalOrder place_cmp
-place_total = then_total (on_total (λ (place : Place). place.0) nat_cmp_total) (on_total (λ (place : Place). place.1) nat_cmp_total)
-
-lower_row : (place other : Place) → place.0 < other.0 → place_cmp place other ≡ Less
-lower_row place other less = rw (nat_less place.0 other.0 less) refl
-
 same_row : (row column other : ℕ) → column < other → place_cmp (row, column) (row, other) ≡ Less
 same_row row column other less =
     let tied : nat_cmp row row ≡ Equal = grind (arith, nat_tests) in
-    rw tied (nat_less column other less)
+    rw tied (nat_cmp-below column other less)
 
 behind_rows : (places : List Place) (row : ℕ) (next : Place) → EndAbove places row → row < next.0 → ComeBefore places next
 behind_rows places row next above less =
-    all_from_in (λ place. place_cmp place next ≡ Less) places (λ place there. lower_row place next (omega (arith, less, all_in (λ other. other.0 ≤ row) places place above there)))
+    all_from_in (λ place. place_cmp place next ≡ Less) places (λ place there. lower_row_first place next (omega (arith, less, all_in (λ other. other.0 ≤ row) places place above there)))
 
 behind_last : (places : List Place) (last next : Place) → ComeBefore places last → place_cmp last next ≡ Less → ComeBefore (places ++ last ∷ []) next
 behind_last places last next before less =
@@ -54,7 +48,7 @@ module _ (before : ℕ) (places : List Place) (above : EndAbove places before) w
   pub third_place : ComeBefore ((places ++ (before + 1, before + 1) ∷ []) ++ (before + 1, before + 2) ∷ []) (before + 2, before + 1)
   third_place =
       behind_last (places ++ (before + 1, before + 1) ∷ []) (before + 1, before + 2) (before + 2, before + 1) second_place
-      (lower_row (before + 1, before + 2) (before + 2, before + 1) (omega arith))
+      (lower_row_first (before + 1, before + 2) (before + 2, before + 1) (omega arith))
 
   pub fourth_place : ComeBefore (((places ++ (before + 1, before + 1) ∷ []) ++ (before + 1, before + 2) ∷ []) ++ (before + 2, before + 1) ∷ []) (before + 2, before + 3)
   fourth_place =
@@ -64,7 +58,7 @@ module _ (before : ℕ) (places : List Place) (above : EndAbove places before) w
   pub fifth_place : ComeBefore ((((places ++ (before + 1, before + 1) ∷ []) ++ (before + 1, before + 2) ∷ []) ++ (before + 2, before + 1) ∷ []) ++ (before + 2, before + 3) ∷ []) (before + 3, before + 3)
   fifth_place =
       behind_last (((places ++ (before + 1, before + 1) ∷ []) ++ (before + 1, before + 2) ∷ []) ++ (before + 2, before + 1) ∷ []) (before + 2, before + 3) (before + 3, before + 3) fourth_place
-      (lower_row (before + 2, before + 3) (before + 3, before + 3) (omega arith))
+      (lower_row_first (before + 2, before + 3) (before + 3, before + 3) (omega arith))
 
   block_ascending : IsAscendingBy place_cmp places → IsAscendingBy place_cmp (places ++ places_behind before)
   block_ascending up =

@@ -5,7 +5,7 @@ use Rattle.std.proofs.Common.{◌⊎◌, inl, inr, arith, sym, ap, ◌∙◌, su
 use Rattle.std.proofs.lemmas.Bool.{and_parts, and_from, cases_eq, cases_Bool, eqb-true, eq-eqb, ne_eqb, or_right, true≢false, false_from_ne_true}
 use Rattle.std.proofs.lemmas.List.{get_or-set_same, get_or-set_other}
 use Rattle.std.proofs.lemmas.Option.{slice_get-get_or}
-use Rattle.plain_laws.specs.Bools.{same_tests}
+use Rattle.plain_laws.specs.Bools.{same_tests, and_true, or_false}
 use Rattle.rw_sets.specs.Accesses.{Accesses, IsAscending, access_at}
 use Rattle.rw_sets.specs.declared.access.Access.TheVariants.{Write}
 use Rattle.cell_store.specs.declared.cell.Cell.TheVariants.{Home, Out}
@@ -24,7 +24,6 @@ use Rattle.gf2_eliminate.specs.Plans.{as_used, locations, pivot_among, planned, 
 use Rattle.gf2_eliminate.specs.Membership.{has_listed, in_has, has_in, listed_same, list_is_listed, written_in}
 use Rattle.gf2_eliminate.specs.Lawful.{IsNamed, OfRow, OfItself, OfColumn, named_from_some, set_ascending, after_row, after_column, get_after, column_stays, written_from_named}
 use Rattle.gf2_eliminate.proofs.Held.{added_column, column_list, holder, holders_of, other_row, pivot_is, row_list}
-use Rattle.gf2_eliminate.proofs.Marking.{or_none}
 
 -- a list of lines with these written into it
 abbrev pub lines_with : List Line2 → List (ℕ × Line2) → List Line2
@@ -65,7 +64,7 @@ module _ (after : ℕ → Line2) where
     | inl later ↦
         written_there (slice_set cells pair.0 pair.1) pairs loc (subst (λ n. AllByRecursion (λ p. (p.0 < n) × (p.1 ≡ after p.0)) pairs) (sym (length-set cells pair.0 pair.1)) right.1) later
     | inr apart ↦
-        let at : pair.0 ≡ loc = eqb-true pair.0 loc (sym (or_none (pair.0 == loc)) ∙ ap (λ b. pair.0 == loc || b) (sym apart) ∙ there) in
+        let at : pair.0 ≡ loc = eqb-true pair.0 loc (sym (or_false (pair.0 == loc)) ∙ ap (λ b. pair.0 == loc || b) (sym apart) ∙ there) in
         not_written (slice_set cells pair.0 pair.1) pairs loc apart
         ∙ subst (λ l. line_at (slice_set cells pair.0 pair.1) l ≡ after l) at (get_or-set_same cells pair.0 pair.1 no_line right.0.0 ∙ right.0.1)
   ]
@@ -104,14 +103,10 @@ sum_alone : (b : Bool) → exactly_one b false ≡ b
 sum_alone true = refl
 sum_alone false = refl
 
-and_true : (b : Bool) → (b && true) ≡ b
-and_true true = refl
-and_true false = refl
-
 row_shape : (columns : ℕ) (added : List ℕ) (line : Line2) → IsRow columns line → (b : Bool)
     → (if b then as_used line else with_sum columns added line) ≡ Row (if b then numbers_in line else sum_to columns (numbers_in line) added) (is_used line || b)
 row_shape columns added (Row numbers used) row true = ap (Row numbers) (sym (or_right used true refl))
-row_shape columns added (Row numbers used) row false = ap (Row (sum_to columns numbers added)) (sym (or_none used))
+row_shape columns added (Row numbers used) row false = ap (Row (sum_to columns numbers added)) (sym (or_false used))
 row_shape columns added (Col numbers) row b = absurd row
 
 column_shape : (rows : ℕ) (added : List ℕ) (line : Line2) → IsColumn rows line → with_sum rows added line ≡ Col (sum_to rows (numbers_in line) added)

@@ -9,10 +9,11 @@ use Rattle.std.proofs.lemmas.Bool.{and_parts, and_from, cases_lt, cases_eq, eqb-
 use Rattle.std.proofs.lemmas.List.{get_or-set_same, get_or-set_other, map-append, take_more, take-append-drop}
 use Rattle.std.proofs.lemmas.List.Elements.{filter-append}
 use Rattle.plain_laws.specs.Bools.{same_tests}
+use Rattle.plain_laws.specs.Orderings.{below_from_cmp}
 use Rattle.task_order.specs.declared.start.Start.{Start}
 use Rattle.app_laws.specs.Applications.{AreFitStarts}
 use Rattle.mtx_reader.specs.declared.pattern.Pattern.{Pattern}
-use Rattle.mtx_reader.specs.Ascending.{IsAscendingBy, IsIn, numbers_from, all_in, all_from_in, in_left, in_right, in_map, from_map, in_filter, from_filter, from_numbers, less_from_cmp}
+use Rattle.mtx_reader.specs.Ascending.{IsAscendingBy, IsIn, numbers_from, all_in, all_from_in, in_left, in_right, in_map, from_map, in_filter, from_filter, from_numbers}
 use Rattle.mtx_reader.specs.Patterns.{IsPattern}
 use Rattle.mtx_reader.specs.Places.{Place, is_same, place_cmp, is_among, IsWithin}
 use Rattle.gf2_eliminate.specs.declared.line.Line2.{Line2}
@@ -163,7 +164,7 @@ ascending_columns (place ∷ places) row up = by_test (place.0 == row) refl (asc
         subst (λ m. nat_cmp place.1 m ≡ Less) found.2 (by_order found.0 other-row (cmp_cases (nat_cmp place.0 found.0.0) (nat_cmp place.1 found.0.1) (all_in (λ q. place_cmp place q ≡ Less) places found.0 up.0 is.0)))
       where
         by_order : (other : Place) → other.0 ≡ row → (nat_cmp place.0 other.0 ≡ Less) ⊎ ((nat_cmp place.0 other.0 ≡ Equal) × (nat_cmp place.1 other.1 ≡ Less)) → nat_cmp place.1 other.1 ≡ Less
-        by_order other other-row (inl less) = let before = less_from_cmp place.0 other.0 less in absurd (omega (arith, before, other-row, at))
+        by_order other other-row (inl less) = let before = below_from_cmp place.0 other.0 less in absurd (omega (arith, before, other-row, at))
         by_order other other-row (inr tied) = tied.1
 
     by_test : (b : Bool) → (place.0 == row) ≡ b → IsAscendingBy nat_cmp (columns_in places row) → IsAscendingBy nat_cmp (map (λ (p : Place). p.1) (if b then place ∷ filter (λ (p : Place). p.0 == row) places else filter (λ (p : Place). p.0 == row) places))
@@ -183,7 +184,7 @@ ascending_rows (place ∷ places) column up = by_test (place.1 == column) refl (
       where
         by_order : (other : Place) → other.1 ≡ column → (nat_cmp place.0 other.0 ≡ Less) ⊎ ((nat_cmp place.0 other.0 ≡ Equal) × (nat_cmp place.1 other.1 ≡ Less)) → nat_cmp place.0 other.0 ≡ Less
         by_order other other-column (inl less) = less
-        by_order other other-column (inr tied) = let before = less_from_cmp place.1 other.1 tied.1 in absurd (omega (arith, before, other-column, at))
+        by_order other other-column (inr tied) = let before = below_from_cmp place.1 other.1 tied.1 in absurd (omega (arith, before, other-column, at))
 
     by_test : (b : Bool) → (place.1 == column) ≡ b → IsAscendingBy nat_cmp (rows_in places column) → IsAscendingBy nat_cmp (map (λ (p : Place). p.0) (if b then place ∷ filter (λ (p : Place). p.1 == column) places else filter (λ (p : Place). p.1 == column) places))
     by_test true is rest = (all_from_in (λ n. nat_cmp place.0 n ≡ Less) (rows_in places column) (behind (eqb-true place.1 column is)), rest)
@@ -196,7 +197,7 @@ ascending_front cmp (x ∷ xs) ys up = (all_from_in (λ y. cmp x y ≡ Less) xs 
 -- what stands before the last number of an ascending list
 before_last : (xs : List ℕ) (x : ℕ) → IsAscendingBy nat_cmp (xs ++ x ∷ []) → AllByRecursion (λ y. y < x) xs
 before_last [] x up = tt
-before_last (y ∷ ys) x up = (less_from_cmp y x (all_in (λ z. nat_cmp y z ≡ Less) (ys ++ x ∷ []) x up.0 (in_right ys (x ∷ []) x (inl refl))), before_last ys x up.1)
+before_last (y ∷ ys) x up = (below_from_cmp y x (all_in (λ z. nat_cmp y z ≡ Less) (ys ++ x ∷ []) x up.0 (in_right ys (x ∷ []) x (inl refl))), before_last ys x up.1)
 
 pub ascending_to : (places : List Place) (i : ℕ) (d : Place) → i < length places → IsAscendingBy place_cmp places → IsAscendingBy place_cmp (take i places ++ get_or places i d ∷ [])
 ascending_to places i d below up =

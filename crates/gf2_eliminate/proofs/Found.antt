@@ -4,13 +4,14 @@ use Rattle.std.specs.List.{AllByRecursion, list_any}
 use Rattle.std.specs.Ordering.{nat_cmp}
 use Rattle.std.proofs.Common.{inl, inr, arith, sym, ap, ◌∙◌, subst}
 use Rattle.std.proofs.lemmas.Bool.{or_cases, or_left, or_right, eqb-true, eq-eqb}
+use Rattle.plain_laws.specs.Orderings.{nat_cmp-below, below_from_cmp}
 use Rattle.rw_sets.specs.Accesses.{merged}
 use Rattle.rw_sets.specs.MergeLaws.{merged_none}
 use Rattle.cell_store.specs.declared.cell.Cell.{Cell}
 use Rattle.cell_store.specs.declared.cell.Cell.TheVariants.{Home, Out}
 use Rattle.cell_store.specs.Cells.{cell_at}
 use Rattle.cell_store.specs.Values.{AgreesWith}
-use Rattle.mtx_reader.specs.Ascending.{IsAscendingBy, IsIn, numbers_from, all_from_in, in_left, in_right, in_either, in_map, from_map, in_filter, from_filter, ascending_append, ascending_filter, ascending_map, nat_less, less_from_cmp, same_numbers, in_numbers, from_numbers, ascending_numbers}
+use Rattle.mtx_reader.specs.Ascending.{IsAscendingBy, IsIn, numbers_from, all_from_in, in_left, in_right, in_either, in_map, from_map, in_filter, from_filter, ascending_append, ascending_filter, ascending_map, same_numbers, in_numbers, from_numbers, ascending_numbers}
 use Rattle.gf2_eliminate.specs.declared.line.Line2.{Line2}
 use Rattle.gf2_eliminate.specs.declared.line.Line2.TheVariants.{Row, Col}
 use Rattle.gf2_eliminate.specs.Lines.{numbers_in, has, line_at, holds, IsListTo, IsRow, IsColumn, AreLines}
@@ -116,12 +117,12 @@ module _ (rows columns column : ℕ) (cells : List (Cell Line2)) (values : List 
     ascending_locs =
         ascending_append nat_cmp (map (λ row. row - 1) (numbers_in line)) (map (λ o. rows + o) (filter (is_marked cells column (numbers_in line)) (numbers_from 0 columns)))
         (subst (IsAscendingBy nat_cmp) (sym locations_are) (ascending_filter nat_cmp (λ row. holds values row column) (numbers_from 0 rows) (ascending_numbers 0 rows)))
-        (ascending_map nat_cmp nat_cmp (λ o. rows + o) (λ x y less. nat_less (rows + x) (rows + y) (omega (arith, less_from_cmp x y less))) (filter (is_marked cells column (numbers_in line)) (numbers_from 0 columns))
+        (ascending_map nat_cmp nat_cmp (λ o. rows + o) (λ x y less. nat_cmp-below (rows + x) (rows + y) (omega (arith, below_from_cmp x y less))) (filter (is_marked cells column (numbers_in line)) (numbers_from 0 columns))
         (ascending_filter nat_cmp (is_marked cells column (numbers_in line)) (numbers_from 0 columns) (ascending_numbers 0 columns)))
         (λ x y here there.
         let is = needed_row rows columns column cells values fit within agrees line asked x here in
         let found = from_map (λ o. rows + o) (filter (is_marked cells column (numbers_in line)) (numbers_from 0 columns)) y there in
-        nat_less x y (omega (arith, is.0, found.2)))
+        nat_cmp-below x y (omega (arith, is.0, found.2)))
 
     pub set_found : merged [] (writing (touched_locs rows columns column (numbers_in line) cells)) ≡ set_of rows columns column (map shown cells)
     set_found =

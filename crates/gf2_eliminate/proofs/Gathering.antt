@@ -4,6 +4,7 @@ use Rattle.std.proofs.Common.{inl, inr, arith, sym, ◌∙◌}
 use Rattle.std.proofs.lemmas.Bool.{false≢true, or_cases, or_left, or_right}
 use Rattle.task_order.specs.declared.task.Task.{Task}
 use Rattle.rw_sets.specs.Accesses.{writes}
+use Rattle.rw_sets.specs.AccessLaws.{has_from_writes}
 use Rattle.app_laws.specs.Applications.{AreFitTasks}
 use Rattle.mtx_reader.specs.declared.pattern.Pattern.{Pattern}
 use Rattle.resting_tasks.specs.Resting.{any_has, HasSets}
@@ -12,14 +13,14 @@ use Rattle.gf2_eliminate.specs.declared.line.Line2.{Line2}
 use Rattle.gf2_eliminate.specs.Covers.{covers, IsClosed}
 use Rattle.gf2_eliminate.specs.Elimination.{elimination, set_of}
 use Rattle.gf2_eliminate.specs.Lines.{holds}
-use Rattle.gf2_eliminate.specs.Lawful.{IsNamed, OfRow, OfItself, OfColumn, named_from_some, some_from_writes, writes_from_named}
+use Rattle.gf2_eliminate.specs.Lawful.{IsNamed, OfRow, OfItself, OfColumn, named_from_some, writes_from_named}
 use Rattle.gf2_eliminate.proofs.Covering.{covers_column, covers_row}
 
 module _ (rows columns : ℕ) (cells : List Line2) (row other : ℕ) (row-below : row < rows) (below : other < columns) (has-it : holds cells row other ≡ true) where
   -- a set that has the row has the column too
   set_closed : (column : ℕ) → column < columns → writes (set_of rows columns column cells) row ≡ true → writes (set_of rows columns column cells) (rows + other) ≡ true
   set_closed column within written =
-      writes_from_named rows columns column cells (rows + other) within (by_row (named_from_some rows columns column cells row (some_from_writes rows columns (set_of rows columns column cells) row written)).1)
+      writes_from_named rows columns column cells (rows + other) within (by_row (named_from_some rows columns column cells row (has_from_writes (set_of rows columns column cells) row written)).1)
     where
       by_row : IsNamed rows columns column cells row → IsNamed rows columns column cells (rows + other)
       by_row (OfRow same held) = OfColumn other below refl (row, row-below, held, has-it)

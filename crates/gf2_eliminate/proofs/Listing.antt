@@ -9,7 +9,8 @@ use Rattle.std.proofs.lemmas.List.{get_or_past}
 use Rattle.std.proofs.lemmas.List.Elements.{filter-append}
 use Rattle.std.proofs.lemmas.Nat.{and_le_l}
 use Rattle.std.proofs.lemmas.Nat.Bits.{bit_at-trailing_zeros, bit_at_clear_other, bit_at_clear_same}
-use Rattle.mtx_reader.specs.Ascending.{IsAscendingBy, IsIn, numbers_from, all_from_in, in_filter, from_filter, from_numbers, in_numbers, ascending_filter, ascending_numbers, nat_less, same_numbers}
+use Rattle.plain_laws.specs.Orderings.{nat_cmp-below}
+use Rattle.mtx_reader.specs.Ascending.{IsAscendingBy, IsIn, numbers_from, all_from_in, in_filter, from_filter, from_numbers, in_numbers, ascending_filter, ascending_numbers, same_numbers}
 use Rattle.gf2_eliminate.specs.Ones.{has_bit, bits_of, places_from, places_left, places_of}
 use Rattle.gf2_eliminate.specs.Membership.{filter_same}
 
@@ -137,7 +138,7 @@ module _ (word : ℕ) (some : 0 < word) (fits : word < 2 ^ 64) where
   pub lowest_first : bits_of word ≡ trailing_zeros w64 word ∷ bits_of (bit_and word (bit_not w64 (1 * 2 ^ trailing_zeros w64 word % 2 ^ 64)))
   lowest_first = same_numbers (bits_of word) (trailing_zeros w64 word ∷ bits_of (bit_and word (bit_not w64 (1 * 2 ^ trailing_zeros w64 word % 2 ^ 64)))) (ascending_bits word) (
     all_from_in (λ n. nat_cmp (trailing_zeros w64 word) n ≡ Less) (bits_of (bit_and word (bit_not w64 (1 * 2 ^ trailing_zeros w64 word % 2 ^ 64))))
-        (λ n there. nat_less (trailing_zeros w64 word) n (behind_lowest n there).2),
+        (λ n there. nat_cmp-below (trailing_zeros w64 word) n (behind_lowest n there).2),
     ascending_bits (bit_and word (bit_not w64 (1 * 2 ^ trailing_zeros w64 word % 2 ^ 64))),
   )
       (λ n there. let is = bit_in word n there in elim (cases_eq n (trailing_zeros w64 word)) [

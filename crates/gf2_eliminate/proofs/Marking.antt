@@ -3,6 +3,7 @@ use Rattle.std.specs.Prelude.{◌≡◌, ℕ, zero, suc, ◌+◌, ◌<◌, Bool,
 use Rattle.std.specs.List.{list_any}
 use Rattle.std.proofs.Common.{arith, sym, ap, ◌∙◌, add-one, get_or}
 use Rattle.std.proofs.lemmas.List.{take_more}
+use Rattle.plain_laws.specs.Bools.{or_false}
 use Rattle.mtx_reader.specs.Ascending.{numbers_from}
 
 numbers_more : (first count : ℕ) → numbers_from first (suc count) ≡ numbers_from first count ++ (first + count) ∷ []
@@ -14,16 +15,12 @@ numbers_more first (suc count) =
 pub numbers_to : (count : ℕ) → numbers_from 0 (count + 1) ≡ numbers_from 0 count ++ count ∷ []
 numbers_to count = let same : 0 + count ≡ count = omega arith in rw add-one (numbers_more 0 count ∙ ap (λ n. numbers_from 0 count ++ n ∷ []) same)
 
-pub or_none : (b : Bool) → (b || false) ≡ b
-or_none true = refl
-or_none false = refl
-
 pub or_assoc : (a b c : Bool) → ((a || b) || c) ≡ (a || (b || c))
 or_assoc true b c = refl
 or_assoc false b c = refl
 
 pub any_append : (test : ℕ → Bool) (ns : List ℕ) (n : ℕ) → list_any test (ns ++ n ∷ []) ≡ (list_any test ns || test n)
-any_append test [] n = or_none (test n)
+any_append test [] n = or_false (test n)
 any_append test (m ∷ ns) n = ap (λ b. test m || b) (any_append test ns n) ∙ sym (or_assoc (test m) (list_any test ns) (test n))
 
 -- one row more

@@ -8,14 +8,15 @@ use Rattle.std.proofs.Common.{◌⊎◌, inl, inr, arith, sym, ap, ◌∙◌, ge
 use Rattle.std.proofs.lemmas.Bool.{and_parts, and_from, and_right, cases_eq, cases_lt, eq-eqb, ne_eqb, or_right, true≢false, false_from_ne_true}
 use Rattle.std.proofs.lemmas.List.{get_or-set_other, get_or-set_same, get_or-take, get_or_past, length-take}
 use Rattle.std.proofs.lemmas.Nat.Bits.{bit_at-lt, bit_at-zero, bit_at_clear_other, bit_at_clear_same, bit_at_or, bit_at_set_other, bit_at_set_same, bit_at_xor, same_from_bits}
-use Rattle.plain_laws.specs.Bools.{same_tests}
-use Rattle.mtx_reader.specs.Ascending.{IsAscendingBy, numbers_from, all_in, all_from_in, in_filter, from_filter, in_numbers, ascending_filter, ascending_numbers, ascending_push, nat_less, same_numbers}
+use Rattle.plain_laws.specs.Bools.{same_tests, and_true, or_false}
+use Rattle.plain_laws.specs.Orderings.{nat_cmp-below}
+use Rattle.mtx_reader.specs.Ascending.{IsAscendingBy, numbers_from, all_in, all_from_in, in_filter, from_filter, in_numbers, ascending_filter, ascending_numbers, ascending_push, same_numbers}
 use Rattle.gf2_eliminate.specs.Ones.{has_bit, places_of}
 use Rattle.gf2_eliminate.specs.Lines.{has, IsListTo}
 use Rattle.gf2_eliminate.specs.Elimination.{exactly_one}
 use Rattle.gf2_eliminate.specs.Plans.{sum_to}
 use Rattle.gf2_eliminate.specs.Membership.{in_has, has_in, list_is_listed}
-use Rattle.gf2_eliminate.proofs.Marking.{any_append, or_none}
+use Rattle.gf2_eliminate.proofs.Marking.{any_append}
 
 -- a bit that is set is one of the words
 bit_within : (words : List ℕ) (n : ℕ) → has_bit words n ≡ true → n < 64 * length words
@@ -66,10 +67,6 @@ module _ (words : List ℕ) (place word : ℕ) (within : place / 64 < length wor
   bit_now : (n : ℕ) → n ≡ place → has_bit (slice_set words (place / 64) word) n ≡ (bit_at word (place % 64) == 1)
   bit_now n at = bit_here n (ap (λ k. k / 64) at) ∙ ap (λ k. bit_at word (k % 64) == 1) at
 
-and_true : (b : Bool) → (b && true) ≡ b
-and_true true = refl
-and_true false = refl
-
 module _ (words : List ℕ) (place : ℕ) (within : place / 64 < length words) where
   pub bit_set : (n : ℕ) → has_bit (slice_set words (place / 64) (bit_or (get_or words (place / 64) 0) (1 * 2 ^ (place % 64) % 2 ^ 64))) n ≡ (has_bit words n || place == n)
   bit_set n = elim (cases_eq n place) [
@@ -79,7 +76,7 @@ module _ (words : List ℕ) (place : ℕ) (within : place / 64 < length words) w
     | inr other ↦
         bit_kept words place (bit_or (get_or words (place / 64) 0) (1 * 2 ^ (place % 64) % 2 ^ 64)) within
         (λ i below differs. bit_at_set_other w64 (get_or words (place / 64) 0) (place % 64) (omega arith) i differs) n other
-        ∙ sym (or_none (has_bit words n)) ∙ ap (λ b. has_bit words n || b) (sym (ne_eqb place n (λ same. other (sym same))))
+        ∙ sym (or_false (has_bit words n)) ∙ ap (λ b. has_bit words n || b) (sym (ne_eqb place n (λ same. other (sym same))))
   ]
 
   bit_cleared : (n : ℕ) → has_bit (slice_set words (place / 64) (bit_and (get_or words (place / 64) 0) (bit_not w64 (1 * 2 ^ (place % 64) % 2 ^ 64)))) n ≡ (has_bit words n && not (n == place))
@@ -100,7 +97,7 @@ pub pushed : (before words : List ℕ) (place : ℕ) → ((k : ℕ) → get_or w
 pushed before words place same within behind =
     places_are (slice_set words (place / 64) (bit_or (get_or words (place / 64) 0) (1 * 2 ^ (place % 64) % 2 ^ 64))) (places_of before ++ place ∷ [])
     (ascending_push nat_cmp (places_of before) place (ascending_places before)
-    (all_from_in (λ n. nat_cmp n place ≡ Less) (places_of before) (λ n there. nat_less n place (all_in (λ m. m < place) (places_of before) n behind there))))
+    (all_from_in (λ n. nat_cmp n place ≡ Less) (places_of before) (λ n there. nat_cmp-below n place (all_in (λ m. m < place) (places_of before) n behind there))))
     (λ n. bit_set words place within n ∙ ap (λ b. b || place == n) (same_bits words before same n ∙ sym (has_places before n)) ∙ sym (any_append (λ m. m == n) (places_of before) place))
 
 has_filter : (test : ℕ → Bool) (numbers : List ℕ) (n : ℕ) → has (filter test numbers) n ≡ (has numbers n && test n)

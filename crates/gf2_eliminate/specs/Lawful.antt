@@ -7,12 +7,12 @@ use Rattle.std.proofs.Common.{◌⊎◌, inl, inr, arith, sym, ap, ◌∙◌, su
 use Rattle.std.proofs.lemmas.Bool.{and_parts, and_from, or_cases, or_left, or_right, eqb-true, eq-eqb, ne_eqb, lt-ltb, le-ltb, cases_Bool, cases_lt, true≢false, false_from_ne_true}
 use Rattle.std.proofs.lemmas.List.{get_or-map}
 use Rattle.std.proofs.lemmas.Option.{slice_get-get_or, slice_get_past}
-use Rattle.plain_laws.specs.Bools.{and_false}
-use Rattle.rw_sets.specs.Accesses.{Accesses, IsAscending, access_at, writes, allows_write, merged, Conflicts, IsWithin}
-use Rattle.rw_sets.specs.declared.access.Access.{Access}
+use Rattle.plain_laws.specs.Bools.{and_false, or_false}
+use Rattle.rw_sets.specs.Accesses.{Accesses, IsAscending, access_at, writes, merged, Conflicts, IsWithin}
 use Rattle.rw_sets.specs.declared.access.Access.TheVariants.{Write}
 use Rattle.rw_sets.specs.IndependenceLaws.{within_by_members}
 use Rattle.rw_sets.specs.LookupLaws.{merges_hold_both}
+use Rattle.rw_sets.specs.AccessLaws.{has_from_writes}
 use Rattle.cell_store.specs.declared.cell.Cell.{Cell}
 use Rattle.cell_store.specs.declared.cell.Cell.TheVariants.{Home, Out}
 use Rattle.cell_store.specs.Home.{IsHome}
@@ -20,20 +20,17 @@ use Rattle.cell_store.specs.Cells.{cell_at}
 use Rattle.cell_store.specs.Values.{AgreesWith}
 use Rattle.app_laws.specs.Applications.{AgreeOn, CellsAreCounted, SetsAreInRange, IsFitOutcome, ActsAreFit, SetsAreLocal, IsSameOutcome, ActsAreLocal, ActsIgnorePaths, ChildrenComeNoEarlier, SetsStayWithin, IsTrueAnswer, WalksAreTrue, IsSafeAlone, SafeTasksStaySafe, SafetyIgnoresPaths, PathsAreIgnored, IsLawful, tasks_before}
 use Rattle.app_laws.specs.Execution.{children_from}
+use Rattle.app_laws.specs.LineLaws.{ends_with_line_feed}
 use Rattle.mtx_reader.specs.Ascending.{IsIn, numbers_from, all_in, in_map, from_map, in_filter, from_filter, ascending_filter, in_numbers, from_numbers, ascending_numbers}
 use Rattle.gf2_eliminate.specs.declared.line.Line2.{Line2}
 use Rattle.gf2_eliminate.specs.declared.line.Line2.TheVariants.{Row, Col}
 use Rattle.gf2_eliminate.specs.Lines.{no_line, numbers_in, is_used, has, line_at, holds, is_held, listed, IsRow, IsColumn, AreLines}
 use Rattle.gf2_eliminate.specs.Elimination.{first_of, exactly_one, writing, is_shared, is_touched, set_of, shown, is_out, unless_out, walk_from, pivot_of, holds_after, line_after, lines_after, outcome_with, eliminated, elimination}
-use Rattle.gf2_eliminate.specs.Membership.{any_found, any_from, any_same, filter_same, first_found, none_found, in_has, has_in, has_listed, listed_list, listed_same, row_is, column_is, length_numbers, get_numbers, line_same, line_numbers, written_in, in_written, ascending_writing, ends_with_line_feed}
+use Rattle.gf2_eliminate.specs.Membership.{any_found, any_from, any_same, filter_same, first_found, none_found, in_has, has_in, has_listed, listed_list, listed_same, row_is, column_is, length_numbers, get_numbers, line_same, line_numbers, written_in, in_written, ascending_writing}
 
 pub one_or_none : (b : Bool) → exactly_one b false ≡ b
 one_or_none true = refl
 one_or_none false = refl
-
-or_none : (b : Bool) → (b || false) ≡ b
-or_none true = refl
-or_none false = refl
 
 -- a cell that is out, by the test
 out_is : (cell : Cell Line2) → is_out cell ≡ true → cell ≡ Out
@@ -108,13 +105,6 @@ module _ (rows columns : ℕ) where
 
   pub writes_from_named : (column : ℕ) (cells : List Line2) (loc : ℕ) → column < columns → IsNamed column cells loc → IsTrue (writes (set_of rows columns column cells) loc)
   writes_from_named column cells loc within named = rw (written_from_named column cells loc within named) refl
-
-  pub some_from_writes : (set : Accesses) (loc : ℕ) → IsTrue (writes set loc) → IsSome (access_at set loc)
-  some_from_writes set loc written = by_access (access_at set loc) written
-    where
-      by_access : (access : Option Access) → allows_write access ≡ true → IsSome access
-      by_access None written = absurd (true≢false (sym written))
-      by_access (Some access) written = refl
 
   pub cells_are_counted : CellsAreCounted (elimination rows columns)
   cells_are_counted cells fit = fit.count
@@ -230,7 +220,7 @@ module _ (rows columns : ℕ) where
         ∙ ap (λ ns. Row ns (is_used (line_at cells row) || row == pivot)) (listed_same columns (holds_after rows columns column pivot cells row) (holds cells row)
         (λ other other-below. ap (λ b. exactly_one (holds cells row other) ((b && not (row == pivot)) && holds cells pivot other)) free ∙ one_or_none (holds cells row other)))
         ∙ ap (λ b. Row (listed columns (holds cells row)) (is_used (line_at cells row) || b)) other-row
-        ∙ ap (Row (listed columns (holds cells row))) (or_none (is_used (line_at cells row)))
+        ∙ ap (Row (listed columns (holds cells row))) (or_false (is_used (line_at cells row)))
         ∙ sym (row_is columns (holds cells row) (line_at cells row) (fit.each_row row row-below) (λ n n-below. refl))
 
     pub column_stays : (other : ℕ) → other < columns → holds cells pivot other ≡ false → line_after rows columns column pivot cells (rows + other) ≡ line_at cells (rows + other)
@@ -397,10 +387,10 @@ module _ (rows columns : ℕ) where
           (named_from_some other.body.at (eliminated rows columns task.body.at cells).cells loc named).1)
 
       there : (loc : ℕ) → IsSome (access_at moved loc) → IsSome (access_at both loc)
-      there loc named = some_from_writes both loc (in_both loc named)
+      there loc named = has_from_writes both loc (in_both loc named)
 
       written : (loc : ℕ) → IsTrue (writes moved loc) → IsTrue (writes both loc)
-      written loc writes-it = in_both loc (some_from_writes moved loc writes-it)
+      written loc writes-it = in_both loc (has_from_writes moved loc writes-it)
 
   -- cells of which some are out, that agree with lines
   module _ (column : ℕ) (cells : List (Cell Line2)) (values : List Line2) (fit : AreLines rows columns values) (within : column < columns) (agrees : AgreesWith cells values) where

@@ -1,5 +1,5 @@
 -- What lists have, and which lists of numbers and which lines are known by what they have.
-use Rattle.std.specs.Prelude.{◌≡◌, ℕ, zero, suc, ◌+◌, ◌-◌, ◌<◌, ◌≤◌, Bool, true, false, ◌==◌, List, [], ◌∷◌, ◌++◌, length, map, filter, Some, None, IsSome, slice_get, unwrap_or, refl}
+use Rattle.std.specs.Prelude.{◌≡◌, ℕ, zero, suc, ◌+◌, ◌-◌, ◌<◌, ◌≤◌, Bool, true, false, ◌==◌, List, [], ◌∷◌, length, map, filter, Some, None, IsSome, slice_get, unwrap_or, refl}
 use Rattle.std.specs.List.{AllByRecursion, list_any}
 use Rattle.std.specs.Ordering.{nat_cmp}
 use Rattle.std.specs.declared.cmp.Ordering.TheVariants.{Less}
@@ -7,11 +7,11 @@ use Rattle.std.proofs.Common.{inl, inr, arith, sym, ap, ◌∙◌, subst, add-ze
 use Rattle.std.proofs.lemmas.Bool.{or_cases, or_left, or_right, eqb-true, eq-eqb, cases_Bool, true≢false, false_from_ne_true}
 use Rattle.std.proofs.lemmas.Option.{same_Some, unwrap_or-slice_get}
 use Rattle.plain_laws.specs.Bools.{same_tests}
+use Rattle.plain_laws.specs.Orderings.{nat_cmp-below, below_from_cmp}
 use Rattle.rw_sets.specs.Accesses.{IsAscending, AllBeyond, access_at}
 use Rattle.rw_sets.specs.AccessLaws.{ascending_none, ascending_cons}
 use Rattle.rw_sets.specs.declared.access.Access.TheVariants.{Write}
-use Rattle.app_laws.specs.Applications.{IsWholeLines}
-use Rattle.mtx_reader.specs.Ascending.{IsAscendingBy, IsIn, numbers_from, all_in, all_from_in, in_map, from_map, in_filter, from_filter, ascending_filter, ascending_map, nat_less, less_from_cmp, same_numbers, in_numbers, from_numbers, ascending_numbers}
+use Rattle.mtx_reader.specs.Ascending.{IsAscendingBy, IsIn, numbers_from, all_in, all_from_in, in_map, from_map, in_filter, from_filter, ascending_filter, ascending_map, same_numbers, in_numbers, from_numbers, ascending_numbers}
 use Rattle.gf2_eliminate.specs.declared.line.Line2.{Line2}
 use Rattle.gf2_eliminate.specs.declared.line.Line2.TheVariants.{Row, Col}
 use Rattle.gf2_eliminate.specs.Lines.{no_line, numbers_in, is_used, has, line_at, listed, IsListTo, IsRow, IsColumn}
@@ -79,7 +79,7 @@ has_listed bound test n below = same_tests (has (listed bound test) (suc n)) (te
 
 pub listed_list : (bound : ℕ) (test : ℕ → Bool) → IsListTo bound (listed bound test)
 listed_list bound test = record {
-  ascending = ascending_map nat_cmp nat_cmp suc (λ x y less. nat_less (suc x) (suc y) (omega (arith, less_from_cmp x y less))) (filter test (numbers_from 0 bound))
+  ascending = ascending_map nat_cmp nat_cmp suc (λ x y less. nat_cmp-below (suc x) (suc y) (omega (arith, below_from_cmp x y less))) (filter test (numbers_from 0 bound))
       (ascending_filter nat_cmp test (numbers_from 0 bound) (ascending_numbers 0 bound));
   within = all_from_in (λ number. (1 ≤ number) × (number ≤ bound)) (listed bound test)
       (λ number there. let found = from_listed bound test number there in (omega (arith, found.3), omega (arith, found.1, found.3)));
@@ -147,13 +147,8 @@ in_written (first ∷ locs) loc named = elim (cases_Bool (first == loc)) [
 
 pub beyond_writing : (loc : ℕ) (locs : List ℕ) → AllByRecursion (λ other. nat_cmp loc other ≡ Less) locs → AllBeyond loc (writing locs)
 beyond_writing loc [] before = tt
-beyond_writing loc (other ∷ locs) before = (less_from_cmp loc other before.0, beyond_writing loc locs before.1)
+beyond_writing loc (other ∷ locs) before = (below_from_cmp loc other before.0, beyond_writing loc locs before.1)
 
 pub ascending_writing : (locs : List ℕ) → IsAscendingBy nat_cmp locs → IsAscending (writing locs)
 ascending_writing [] up = ascending_none
 ascending_writing (loc ∷ locs) up = ascending_cons (loc, Write) (writing locs) (beyond_writing loc locs up.0) (ascending_writing locs up.1)
-
-pub ends_with_line_feed : (text : List ℕ) → IsWholeLines (text ++ 10 ∷ [])
-ends_with_line_feed [] = refl
-ends_with_line_feed (byte ∷ []) = refl
-ends_with_line_feed (byte ∷ next ∷ text) = ends_with_line_feed (next ∷ text)

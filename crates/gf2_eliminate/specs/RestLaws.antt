@@ -4,11 +4,12 @@ use Rattle.std.proofs.Common.{◌⊎◌, inl, inr, sym, ap, ◌∙◌}
 use Rattle.std.proofs.lemmas.Bool.{true≢false, false_from_ne_true}
 use Rattle.plain_laws.specs.Bools.{same_tests}
 use Rattle.rw_sets.specs.Accesses.{writes}
+use Rattle.rw_sets.specs.AccessLaws.{has_from_writes}
 use Rattle.resting_tasks.specs.Resting.{SetsAreWritten, NoneHasChildren, EachIsSafe, RestIsKept, IsResting}
 use Rattle.gf2_eliminate.specs.declared.line.Line2.{Line2}
 use Rattle.gf2_eliminate.specs.Lines.{holds}
 use Rattle.gf2_eliminate.specs.Elimination.{exactly_one, set_of, pivot_of, lines_after, outcome_with, eliminated, elimination}
-use Rattle.gf2_eliminate.specs.Lawful.{one_or_none, IsNamed, OfRow, OfItself, OfColumn, holds_then, named_from_some, writes_from_named, some_from_writes, outcome_childless, outcome_moves}
+use Rattle.gf2_eliminate.specs.Lawful.{one_or_none, IsNamed, OfRow, OfItself, OfColumn, holds_then, named_from_some, writes_from_named, outcome_childless, outcome_moves}
 
 module _ (rows columns : ℕ) where
   module _ (column : ℕ) (cells : List Line2) where
@@ -47,10 +48,10 @@ module _ (rows columns : ℕ) where
   rest_is_kept task other cells loc fit right also unwritten =
       same_tests (writes (set_of rows columns second moved) loc) (writes (set_of rows columns second cells) loc)
       (λ written. was (outcome_moves rows columns column cells fit right.at (pivot_of rows columns column cells) refl second loc also.at
-      (named_from_some rows columns second moved loc (some_from_writes rows columns (set_of rows columns second moved) loc written)).1))
+      (named_from_some rows columns second moved loc (has_from_writes (set_of rows columns second moved) loc written)).1))
       (λ written. writes_from_named rows columns second moved loc also.at
       (named_still column cells (pivot_of rows columns column cells) second loc also.at apart
-      (named_from_some rows columns second cells loc (some_from_writes rows columns (set_of rows columns second cells) loc written)).1))
+      (named_from_some rows columns second cells loc (has_from_writes (set_of rows columns second cells) loc written)).1))
     where
       column : ℕ
       column = task.body.at

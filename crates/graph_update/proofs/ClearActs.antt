@@ -6,6 +6,7 @@ use Rattle.std.specs.Option.{option_map, option_or}
 use lib.ListN.{length-map}
 use Rattle.std.specs.Ordering.{is_lt}
 use Rattle.std.proofs.lemmas.Option.{same_Some}
+use Rattle.plain_laws.specs.Members.{found_is_there, from_filter}
 use Rattle.task_order.specs.declared.key.Key.{Key}
 use Rattle.task_order.specs.declared.task.Task.{Task}
 use Rattle.task_order.specs.Key.{key_cmp}
@@ -30,7 +31,6 @@ use Rattle.graph_update.specs.declared.ready.Ready.{Ready}
 use Rattle.graph_update.specs.Engine.{AreReady, IsKept, EngineState}
 use Rattle.graph_update.specs.Ready.{IsLeftBy}
 use Rattle.run_laws.specs.Events.{IsOfClear, IsFinished, IsOverLimit, clear_nodes, is_clear}
-use Rattle.run_laws.specs.Lists.{found_is_there, from_filter}
 use Rattle.crew.specs.Jobs.{MayRun, IsPerformed}
 use Rattle.run_laws.specs.Progress.{Progress}
 use Rattle.run_laws.specs.Sound.{IsSound}

@@ -5,6 +5,8 @@ use lib.ListN.{length-map}
 use Rattle.std.specs.List.{list_any}
 use Rattle.std.specs.Option.{option_map}
 use Rattle.std.proofs.lemmas.Bool.{true≢false}
+use Rattle.plain_laws.specs.Members.{all_from, found_is_there, from_filter, here, none_passes, some_passes}
+use Rattle.plain_laws.specs.Options.{some_injective}
 use Rattle.task_order.specs.declared.task.Task.{Task}
 use Rattle.rw_sets.specs.Accesses.{Accesses}
 use Rattle.cell_store.specs.declared.cell.Cell.{Cell}
@@ -20,23 +22,9 @@ use Rattle.run_laws.specs.Jobs.{Job}
 use Rattle.graph_update.specs.Engine.{IsKept, SomeRuns}
 use Rattle.crew.specs.Jobs.{MayRun}
 use Rattle.run_laws.specs.Events.{IsClaimed, clear_nodes, is_clear}
-use Rattle.run_laws.specs.Lists.{all_from, found_is_there, from_filter, here, none_passes, there as from_there}
 use Rattle.run_laws.specs.Progress.{Progress}
 use Rattle.run_laws.specs.Sound.{IsSound}
 use Rattle.graph_update.proofs.Picked.{IsPicked}
-
-Some-injective : {X : Type 0} (a b : X) → Some a ≡ Some b → a ≡ b
-Some-injective a b same = cc
-
-any_one : {X : Type 0} (p : X → Bool) (xs : List X) → list_any p xs ≡ true → (x : X) × Contains xs x × (p x ≡ true)
-any_one p [] never = absurd (true≢false (sym never))
-any_one {X} p (x ∷ xs) some = by_test (p x) refl some (any_one p xs)
-  where
-    by_test : (test : Bool) → p x ≡ test → (test || list_any p xs) ≡ true → (list_any p xs ≡ true → (y : X) × Contains xs y × (p y ≡ true)) → (y : X) × Contains (x ∷ xs) y × (p y ≡ true)
-    by_test true is _ rest = (x, here x xs, is)
-    by_test false is some rest =
-        let found = rest some in
-        (found.0, from_there x found.0 xs found.1, found.2)
 
 -- a graph that isn't told to be empty has nodes
 pub some_nodes : (nodes : List Node) (empty : Bool) → (IsTrue empty ↔ (nodes ≡ [])) → empty ≡ false → nodes ≢ []
@@ -54,10 +42,10 @@ module _ {V : Type 0} {app : Application V} (basis : Basis app) where
     has_node = subst IsSome (sym at) refl
 
     pub picked_task : (task : Task) → task_at old.nodes id ≡ Some task → picked.node.task ≡ task
-    picked_task task found = Some-injective picked.node.task task (sym (ap (option_map (λ (n : Node). n.task)) at) ∙ found)
+    picked_task task found = some_injective picked.node.task task (sym (ap (option_map (λ (n : Node). n.task)) at) ∙ found)
 
     pub picked_set : (set : Accesses) → set_at old.nodes id ≡ Some set → picked.node.set ≡ set
-    picked_set set found = Some-injective picked.node.set set (sym (ap (option_map (λ (n : Node). n.set)) at) ∙ found)
+    picked_set set found = some_injective picked.node.set set (sym (ap (option_map (λ (n : Node). n.set)) at) ∙ found)
 
     pub picked_home : (set : Accesses) → set_at old.nodes id ≡ Some set → AreHome old.cells set
     picked_home set found = subst (AreHome old.cells) (picked_set set found) (basis.clear_home old jobs values picked.node sound there.0 there.1)
@@ -110,7 +98,7 @@ module _ {V : Type 0} {app : Application V} (basis : Basis app) where
     where
       by_search : (found : Bool) → list_any (λ (n : Node). n.running) progress.nodes ≡ found → SomeRuns progress.nodes
       by_search true is =
-          let found = any_one (λ (n : Node). n.running) progress.nodes is in
+          let found = some_passes (λ (n : Node). n.running) progress.nodes is in
           record { node = found.0; there = found.1; running = found.2 }
       by_search false is =
           let none = all_from (λ (n : Node). n.running ≡ false) progress.nodes (λ node there. none_passes (λ (n : Node). n.running) progress.nodes node is there) in

@@ -3,16 +3,16 @@ use Rattle.std.proofs.Common.{◌≡◌, ◌&&◌, not, Bool, true, false, cond,
 use Rattle.std.specs.Prelude.{Contains, unwrap_or}
 use Rattle.std.specs.List.{AllByRecursion, filter}
 use Rattle.std.specs.Option.{option_map}
+use Rattle.plain_laws.specs.Members.{all_from}
 use Rattle.kdg_graph.specs.declared.node_id.NodeId.{NodeId}
 use Rattle.kdg_graph.specs.Edges.{is_blocked, is_source, sources_of}
 use Rattle.kdg_graph.specs.Laws.{NodesHaveIds, SourcesAreNodes}
 use Rattle.kdg_graph.specs.Node.{Node}
 use Rattle.kdg_graph.specs.Nodes.{IsGraph, earlier_than, ids_of, node_at, tasks_of}
+use Rattle.kdg_graph.specs.NodeLaws.{found_node}
 use Rattle.app_laws.specs.Applications.{Application, tasks_before}
 use Rattle.run_laws.specs.Events.{clear_nodes, is_clear}
-use Rattle.run_laws.specs.Lists.{all_from}
 use Rattle.run_laws.specs.NodeLists.{tasks-earlier_than}
-use Rattle.graph_update.proofs.Renewing.{some_node}
 
 module _ {V : Type 0} (app : Application V) (nodes : List Node) where
   abbrev is_safe_node : Node → Bool
@@ -64,6 +64,6 @@ module _ {V : Type 0} (app : Application V) (nodes : List Node) where
   pub answer_is : SourcesAreNodes → IsGraph nodes → (id : NodeId) → Contains (sources_of nodes) id → (seen : List Node) → seen ≡ nodes → (answer : Bool)
       → ((node : Node) → node_at seen id ≡ Some node → answer ≡ app.is_safe node.task (tasks_before node.task.key (tasks_of seen))) → is_safe_id id ≡ answer
   answer_is are_nodes graph id source seen same answer is =
-      let node = some_node nodes id (are_nodes nodes id graph source) in
+      let node = found_node nodes id (are_nodes nodes id graph source) in
       let answers = subst (λ (seen : List Node). (node : Node) → node_at seen id ≡ Some node → answer ≡ app.is_safe node.task (tasks_before node.task.key (tasks_of seen))) same is in
       ap (λ (found : Option Node). unwrap_or (option_map is_safe_node found) false) node.1 ∙ sym (answers node.0 node.1)

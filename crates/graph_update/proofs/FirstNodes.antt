@@ -4,11 +4,13 @@ use Rattle.std.specs.List.{AllByRecursion}
 use Rattle.std.specs.Ordering.{is_lt}
 use Rattle.std.proofs.lemmas.Bool.{cond_both}
 use Rattle.std.proofs.lemmas.List.Elements.{All-from_recursion, All-get_or}
+use Rattle.plain_laws.specs.Lists.{All-joined}
 use Rattle.task_order.specs.declared.key.Key.{Key}
 use Rattle.task_order.specs.declared.start.Start.{Start}
 use Rattle.task_order.specs.declared.task.Task.{Task}
 use Rattle.task_order.specs.Key.{key_cmp}
 use Rattle.task_order.specs.TaskList.{IsNewKey, put_in, put_all}
+use Rattle.task_order.specs.TaskListLaws.{All-put_in}
 use Rattle.rw_sets.specs.Accesses.{Accesses}
 use Rattle.kdg_graph.specs.declared.node_id.NodeId.{NodeId}
 use Rattle.kdg_graph.specs.Laws.{PutsAddTasks}
@@ -17,7 +19,6 @@ use Rattle.kdg_graph.specs.Nodes.{IsGraph, put_node, tasks_of}
 use Rattle.app_laws.specs.Applications.{Application, AreFitStarts, set_in}
 use Rattle.app_laws.specs.Execution.{first_from}
 use Rattle.run_laws.specs.Answers.{AreFirstNodes}
-use Rattle.run_laws.specs.Lists.{all-joined, all-put_in}
 
 all-put_node : (P : Node → Type 0) (node : Node) (nodes : List Node) → P node → AllByRecursion P nodes → AllByRecursion P (put_node node nodes)
 all-put_node P node [] one all = (one, tt)
@@ -88,14 +89,14 @@ module _ {V : Type 0} (app : Application V) (cells : List V) (first : List Start
     next_is_new path is = subst (λ (p : List ℕ). IsNewKey (with_path p).key (tasks_of nodes)) (sym is) new_ones.0
 
     new_after : (later : Task) → later.key.path ≢ number ∷ [] → IsNewKey later.key (tasks_of nodes) → IsNewKey later.key (put_in task (tasks_of nodes))
-    new_after later differs new = all-put_in (λ (other : Task). other.key ≢ later.key) task (tasks_of nodes) (λ same. differs (sym (ap (λ (key : Key). key.path) same))) new
+    new_after later differs new = All-put_in (λ (other : Task). other.key ≢ later.key) task (tasks_of nodes) (λ same. differs (sym (ap (λ (key : Key). key.path) same))) new
 
     pub next_left : PutsAddTasks → (path : List ℕ) (id : NodeId) (set : Accesses) (now : List Node) → path ≡ number ∷ [] → set ≡ set_in app cells (with_path path) → IsGraph now
         → now ≡ put_node (new_node id (with_path path) set) nodes → AreLeft (number + 1) now
     next_left puts_tasks path id set now is set_is graph now_is =
         let node = new_node id (with_path path) set in
         let tasks : tasks_of now ≡ put_in task (tasks_of nodes) = ap tasks_of now_is ∙ puts_tasks node nodes ∙ ap (λ (p : List ℕ). put_in (with_path p) (tasks_of nodes)) is in
-        let new = all-joined (λ (later : Task). later.key.path ≢ number ∷ []) (λ (later : Task). IsNewKey later.key (tasks_of nodes)) (λ (later : Task). IsNewKey later.key (put_in task (tasks_of nodes)))
+        let new = All-joined (λ (later : Task). later.key.path ≢ number ∷ []) (λ (later : Task). IsNewKey later.key (tasks_of nodes)) (λ (later : Task). IsNewKey later.key (put_in task (tasks_of nodes)))
         new_after rest (other_paths number (suc number) (omega arith) (drop (suc number) first)) new_ones.1 in
         let all = ap (λ tasks. put_all tasks (tasks_of nodes)) (sym parts) ∙ left.puts in
         rw add-one (record {

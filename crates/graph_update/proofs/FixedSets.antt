@@ -1,9 +1,10 @@
 -- Where the sets of an application are fixed, each recorded set is the declared one.
-use Rattle.std.proofs.Common.{◌≡◌, ⊎_elim, Bool, true, false, cond, List, [], ◌∷◌, map, Some, refl, sym, ap, subst, ◌∙◌, eqb-true}
+use Rattle.std.proofs.Common.{◌≡◌, ⊎_elim, Bool, true, false, cond, List, [], ◌∷◌, map, Some, refl, sym, ap, subst, ◌∙◌}
 use Rattle.std.specs.Prelude.{Contains, unwrap_or}
 use Rattle.std.specs.List.{AllByRecursion, find}
 use Rattle.std.specs.Option.{option_map}
 use Rattle.std.specs.Ordering.{is_lt}
+use Rattle.plain_laws.specs.Members.{all_at, all_from, from_filter, here, in_map, there}
 use Rattle.task_order.specs.Key.{key_cmp}
 use Rattle.rw_sets.specs.Accesses.{Accesses, conflicts_with}
 use Rattle.cell_store.specs.declared.cell.Cell.{Cell}
@@ -15,6 +16,7 @@ use Rattle.kdg_graph.specs.Laws.{NodesHaveIds}
 use Rattle.kdg_graph.specs.Node.{Node}
 use Rattle.kdg_graph.specs.Nodes.{IsGraph, is_at, later_than, started, tasks_of}
 use Rattle.kdg_graph.specs.Rewrite.{set_after, with_sets, without}
+use Rattle.kdg_graph.specs.NodeLaws.{same_id}
 use Rattle.app_laws.specs.declared.app.SetAnswer.TheVariants as answer
 use Rattle.app_laws.specs.Applications.{Application, AreFitTasks, IsFitTask, set_in}
 use Rattle.run_laws.specs.Jobs.{Done, Job}
@@ -22,12 +24,8 @@ use Rattle.graph_update.specs.Engine.{HaveFixedSets}
 use Rattle.run_laws.specs.Events.{fresh_from, renewals, renewed}
 use Rattle.graph_update.specs.Basis.{EndBasis}
 use Rattle.run_laws.specs.Finishes.{IsEnd, IsPerformedTask}
-use Rattle.run_laws.specs.Lists.{all_at, all_from, from_filter, here, in_map, there}
 use Rattle.run_laws.specs.Progress.{Progress}
 use Rattle.graph_update.proofs.Renewing.{affected, change_of}
-
-same_id : (id : NodeId) (node : Node) → is_at id node ≡ true → node.id ≡ id
-same_id id node is = ap (λ n. let made : NodeId = record { at = n } in made) (eqb-true node.id.at id.at is)
 
 module _ {V : Type 0} (app : Application V) where
   -- a walk over the cells finds the recorded set

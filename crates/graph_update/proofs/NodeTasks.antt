@@ -1,20 +1,21 @@
 -- The task of the node of an id, and that it is the one of a job that was performed.
-use Rattle.std.proofs.Common.{◌≡◌, ◌≢◌, Bool, true, false, cond, Option, Some, List, [], ◌∷◌, sym, ap, subst, ◌∙◌, inl, inr, eq-eqb}
+use Rattle.std.proofs.Common.{◌≡◌, Bool, true, false, cond, Option, Some, List, [], ◌∷◌, ap, subst, ◌∙◌}
 use Rattle.std.specs.Prelude.{Contains, option_map}
 use Rattle.std.specs.List.{AllByRecursion, find}
 use Rattle.std.specs.Option.{unwrap_or}
+use Rattle.plain_laws.specs.Members.{here, there}
+use Rattle.plain_laws.specs.Lists.{All-middle}
 use Rattle.task_order.specs.declared.task.Task.{Task}
 use Rattle.kdg_graph.specs.declared.node_id.NodeId.{NodeId}
 use Rattle.kdg_graph.specs.Node.{Node}
-use Rattle.kdg_graph.specs.Nodes.{HaveOwnIds, node_at}
+use Rattle.kdg_graph.specs.Nodes.{node_at}
+use Rattle.kdg_graph.specs.NodeLaws.{not_at, found_by_id}
 use Rattle.app_laws.specs.Applications.{Application}
 use Rattle.run_laws.specs.Jobs.{Done}
 use Rattle.run_laws.specs.Acting.{no_task, task_named}
 use Rattle.run_laws.specs.Laws.{IsDone}
-use Rattle.run_laws.specs.Lists.{all_at, all_in_middle, cases, here, none, there}
 use Rattle.run_laws.specs.Progress.{Progress}
 use Rattle.run_laws.specs.Sound.{IsOfNode}
-use Rattle.graph_update.proofs.ClaimedNodes.{other_at}
 
 found_is_there : (test : Node → Bool) (nodes : List Node) (node : Node) → find test nodes ≡ Some node → Contains nodes node
 found_is_there test [] node is = cc
@@ -24,18 +25,9 @@ found_is_there test (other ∷ nodes) node is = by_case (test other) (found_is_t
     by_case true rest found = let same : other ≡ node = cc in subst (Contains (other ∷ nodes)) same (here other nodes)
     by_case false rest found = there other node nodes (rest found)
 
-found_by_id : (nodes : List Node) (node : Node) → HaveOwnIds nodes → Contains nodes node → node_at nodes node.id ≡ Some node
-found_by_id [] node own has = absurd (none node has)
-found_by_id (other ∷ nodes) node own has = elim (cases other node nodes has) [
-  | inl same ↦ ap (λ test. cond test (Some other) (node_at nodes node.id)) (eq-eqb other.id.at node.id.at (ap (λ (node : Node). node.id.at) same)) ∙ ap (λ (node : Node). Some node) same
-  | inr later ↦
-      ap (λ test. cond test (Some other) (node_at nodes node.id)) (other_at node.id other (λ same. all_at (λ (node : Node). node.id ≢ other.id) nodes node own.0 later (sym same)))
-      ∙ found_by_id nodes node own.1 later
-]
-
 module _ {V : Type 0} {app : Application V} (old : Progress V) (done : Done V) (is : IsDone app old done) where
   named : IsOfNode app old.nodes is.job
-  named = all_in_middle (IsOfNode app old.nodes) is.performed.before is.job is.performed.after (subst (AllByRecursion (IsOfNode app old.nodes)) is.performed.there is.sound.outs_match.named)
+  named = All-middle (IsOfNode app old.nodes) is.performed.before is.job is.performed.after (subst (AllByRecursion (IsOfNode app old.nodes)) is.performed.there is.sound.outs_match.named)
 
   pub own_task : task_named old.nodes done.node ≡ done.task
   own_task =

@@ -3,22 +3,17 @@ use Rattle.std.proofs.Common.{◌≡◌, ℕ, zero, suc, ◌<◌, ◌%◌, List,
 use Rattle.std.proofs.lemmas.Option.{slice_get-get_or, slice_get_read}
 use Rattle.std.proofs.Math.Nat.{mod-eq_of_lt}
 use lib.ListN.{length-map}
+use Rattle.plain_laws.specs.Options.{some_injective, none_is_not_some}
 use Rattle.kdg_graph.specs.declared.node_id.NodeId.{NodeId}
 use Rattle.kdg_graph.specs.Node.{Node}
 use Rattle.kdg_graph.specs.Nodes.{ids_of}
 use Rattle.app_laws.specs.Applications.{Application}
 use Rattle.run_laws.specs.Events.{IsOfClear, clear_nodes}
 
-Some-injective : {X : Type 0} (a b : X) → Some a ≡ Some b → a ≡ b
-Some-injective a b same = cc
-
-none_is_not_some : {X : Type 0} (x : X) → None ≡ Some x → ⊥
-none_is_not_some x same = cc
-
 -- the node whose id stands at a place
 pub id_at : (nodes : List Node) (i : ℕ) (id : NodeId) → Some id ≡ slice_get (ids_of nodes) i → (node : Node) × (slice_get nodes i ≡ Some node) × (node.id ≡ id)
 id_at [] i id is = absurd (none_is_not_some id (sym is))
-id_at (node ∷ nodes) zero id is = (node, refl, sym (Some-injective id node.id is))
+id_at (node ∷ nodes) zero id is = (node, refl, sym (some_injective id node.id is))
 id_at (node ∷ nodes) (suc i) id is = id_at nodes i id is
 
 none_left : (nodes : List Node) (pick : ℕ) → None ≡ slice_get (ids_of nodes) (pick % length (ids_of nodes)) → nodes ≡ []

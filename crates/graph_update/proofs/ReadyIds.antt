@@ -4,12 +4,16 @@ use Rattle.std.specs.Prelude.{Contains, IfSome}
 use Rattle.std.specs.List.{AllByRecursion, remove}
 use Rattle.std.proofs.lemmas.Bool.{true≢false}
 use Rattle.std.proofs.lemmas.Option.{slice_get-get_or}
+use Rattle.plain_laws.specs.Members.{found_is_there, all_at, all_from, in_filter, from_filter, in_map, from_map}
+use Rattle.plain_laws.specs.Options.{some_injective, none_is_not_some}
+use Rattle.plain_laws.specs.Lists.{All-joined}
 use Rattle.kdg_graph.specs.declared.node_id.NodeId.{NodeId}
 use Rattle.kdg_graph.specs.Edges.{sources_of}
 use Rattle.kdg_graph.specs.Laws.{NodesHaveIds}
 use Rattle.kdg_graph.specs.Node.{Node}
 use Rattle.kdg_graph.specs.Nodes.{HaveOwnIds, IsGraph, ids_of, is_at}
 use Rattle.kdg_graph.specs.Rewrite.{without}
+use Rattle.kdg_graph.specs.NodeLaws.{not_at, own_filtered}
 use Rattle.app_laws.specs.Applications.{Application}
 use Rattle.app_laws.specs.Order.{Pairwise}
 use Rattle.run_laws.specs.Jobs.{Done, Job}
@@ -20,17 +24,14 @@ use Rattle.graph_update.specs.Engine.{AreReady}
 use Rattle.graph_update.specs.Ready.{AreEnough, MayPick}
 use Rattle.run_laws.specs.Events.{IsOfClear, IsFinished, IsOverLimit, clear_nodes, is_clear}
 use Rattle.run_laws.specs.Laws.{Event, Moment}
-use Rattle.run_laws.specs.Lists.{all-joined, all_at, all_but_one, all_from, found_is_there, from_filter, from_map, in_filter, in_map, pairwise_but_one, pairwise_with_one}
+use Rattle.run_laws.specs.Lists.{all_but_one, pairwise_but_one, pairwise_with_one}
 use Rattle.crew.specs.Jobs.{IsPerformed}
 use Rattle.run_laws.specs.Progress.{Progress}
 use Rattle.run_laws.specs.Sound.{IsSound}
 use Rattle.run_laws.specs.Rest.{ClearNodesStayClear}
-use Rattle.graph_update.proofs.ClaimedNodes.{Some-injective, id_taken, other_at, own-filter}
+use Rattle.graph_update.proofs.ClaimedNodes.{id_taken}
 use Rattle.graph_update.proofs.ClearIds.{clear_are_safe, is_safe_id}
 use Rattle.graph_update.proofs.Picked.{IsPick, id_at, pick_is, picked_at}
-
-none_is_not_some : {X : Type 0} (x : X) → None ≡ Some x → ⊥
-none_is_not_some x same = cc
 
 abbrev Once : List NodeId → Type 0
 Once ids = Pairwise (λ id other. id ≢ other) ids
@@ -41,7 +42,7 @@ turned id other differ same = differ (sym same)
 -- a list about what stands at a place of it
 parted : {X : Type 0} (xs : List X) (place : ℕ) (x : X) → slice_get xs place ≡ Some x → xs ≡ take place xs ++ x ∷ drop (suc place) xs
 parted [] place x is = absurd (none_is_not_some x is)
-parted (y ∷ xs) zero x is = ap (λ first. first ∷ xs) (Some-injective y x is)
+parted (y ∷ xs) zero x is = ap (λ first. first ∷ xs) (some_injective y x is)
 parted (y ∷ xs) (suc place) x is = ap (λ rest. y ∷ rest) (parted xs place x is)
 
 -- where some are there, one stands at the remainder of each pick
@@ -66,7 +67,7 @@ same_pick among.Known pick = tt
 
 module _ {V : Type 0} (app : Application V) where
   clear_once : (nodes : List Node) → IsGraph nodes → Once (ids_of (clear_nodes app nodes))
-  clear_once nodes graph = own_once (clear_nodes app nodes) (own-filter (is_clear app nodes) nodes graph.own_ids)
+  clear_once nodes graph = own_once (clear_nodes app nodes) (own_filtered (is_clear app nodes) nodes graph.own_ids)
 
   pub all_are_ready : (nodes : List Node) (ready : Ready) → IsGraph nodes → ready.ids.items ≡ ids_of (clear_nodes app nodes) → AreReady app nodes ready
   all_are_ready nodes ready graph is = record {
@@ -119,7 +120,7 @@ module _ {V : Type 0} (app : Application V) where
   still_clear : (old now : List Node) (id other : NodeId) → clear_nodes app now ≡ without id (clear_nodes app old) → IsOfClear app old other → id ≢ other → IsOfClear app now other
   still_clear old now id other left clear differ =
       let named = from_map (λ (node : Node). node.id) (clear_nodes app old) other clear in
-      let stays = ap not (other_at id named.0 (λ same. differ (sym same ∙ named.2))) in
+      let stays = ap not (not_at id named.0 (λ same. differ (sym same ∙ named.2))) in
       subst (λ (nodes : List Node). Contains (ids_of nodes) other) (sym left)
       (subst (Contains (ids_of (without id (clear_nodes app old)))) named.2
       (in_map (λ (node : Node). node.id) (without id (clear_nodes app old)) named.0 (in_filter (λ (node : Node). not (is_at id node)) (clear_nodes app old) named.0 named.1 stays)))
@@ -137,14 +138,14 @@ module _ {V : Type 0} (app : Application V) where
       let others = pairwise_with_one (λ one other. one ≢ other) turned before id after once in
       record {
         clear = subst (AllByRecursion (IsOfClear app now)) (sym is)
-            (all-joined (IsOfClear app old) (λ other. id ≢ other) (IsOfClear app now) (λ other was differ. still_clear old now id other claimed was differ) (before ++ after) clear others);
+            (All-joined (IsOfClear app old) (λ other. id ≢ other) (IsOfClear app now) (λ other was differ. still_clear old now id other claimed was differ) (before ++ after) clear others);
         once = subst Once (sym is) (pairwise_but_one (λ one other. one ≢ other) before id after once);
         all = λ current.
             let all = are.all (sym same ∙ current) in
             let clear_old : List Node = clear_nodes app old in
             let named = id_at clear_old place id (sym at ∙ ap (λ (held : List NodeId). slice_get held place) all) in
             is ∙ ap (λ (held : List NodeId). remove held place) all
-            ∙ sym (id_taken clear_old place named.0 (own-filter (is_clear app old) old graph.own_ids) named.1)
+            ∙ sym (id_taken clear_old place named.0 (own_filtered (is_clear app old) old graph.own_ids) named.1)
             ∙ ap (λ one. ids_of (without one clear_old)) named.2 ∙ ap ids_of (sym claimed);
       }
 

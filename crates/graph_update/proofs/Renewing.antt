@@ -2,8 +2,8 @@
 use Rattle.std.proofs.Common.{◌≡◌, ℕ, suc, ◌+◌, ◌≤◌, Option, Some, None, List, [], ◌∷◌, ◌++◌, length, map, refl, sym, ap, subst, ◌∙◌, arith, append_assoc}
 use Rattle.std.specs.Prelude.{Contains, IsSome, filter, option_map}
 use Rattle.std.specs.Ordering.{is_lt}
-use Rattle.std.proofs.lemmas.Bool.{true≢false}
 use Rattle.std.proofs.lemmas.List.{append-nil, length-append, length-map, map-append}
+use Rattle.plain_laws.specs.Members.{all_at, from_filter, here, in_map, there}
 use Rattle.task_order.specs.Key.{key_cmp}
 use Rattle.task_order.specs.declared.task.Task.{Task}
 use Rattle.rw_sets.specs.Accesses.{Accesses, conflicts_with}
@@ -17,7 +17,6 @@ use Rattle.kdg_graph.specs.Rewrite.{AreChangesOf}
 use Rattle.kdg_graph.specs.Nodes.{HasNode, IsGraph, ids_of, later_than, node_at, tasks_of}
 use Rattle.app_laws.specs.Applications.{Application, AreFitTasks}
 use Rattle.run_laws.specs.Events.{renewals, renewed}
-use Rattle.run_laws.specs.Lists.{all_at, from_filter, here, in_map, there}
 
 -- what is found of a node is of a node that is found
 pub node_found : {X : Type 0} (part : Node → X) (found : Option Node) (is : X) → option_map part found ≡ Some is → (node : Node) × (found ≡ Some node) × (part node ≡ is)
@@ -34,13 +33,6 @@ pub part_is : {X : Type 0} (part : Node → X) (found : Option Node) (is : X) (n
 part_is part found is node has same =
     let one = node_found part found is has in
     ap part (one_found found node one.0 same one.1) ∙ one.2
-
-pub some_node : (nodes : List Node) (id : NodeId) → HasNode nodes id → (node : Node) × (node_at nodes id ≡ Some node)
-some_node nodes id has = go (node_at nodes id) has
-  where
-    go : (found : Option Node) → IsSome found → (node : Node) × (found ≡ Some node)
-    go None some = absurd (true≢false (sym some))
-    go (Some node) some = (node, refl)
 
 module _ {V : Type 0} (app : Application V) where
   pub fit_found : (nodes : List Node) (id : NodeId) (task : Task) → IdsFindNodes → AreFitTasks app (tasks_of nodes) → option_map (λ (node : Node). node.task) (node_at nodes id) ≡ Some task

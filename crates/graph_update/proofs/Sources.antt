@@ -1,13 +1,12 @@
 -- What the safe test asks of a source: that no earlier task conflicts with its, and who writes what where sets are fixed.
-use Rattle.std.proofs.Common.{◌≡◌, true, List, [], ◌∷◌, Option, Some, None, refl, sym, ap, subst, ◌∙◌}
+use Rattle.std.proofs.Common.{◌≡◌, List, [], ◌∷◌, Option, Some, None, refl, sym, ap, subst, ◌∙◌}
 use Rattle.std.specs.Prelude.{Contains}
 use Rattle.std.specs.List.{AllByRecursion}
 use Rattle.std.specs.Option.{option_map}
-use Rattle.std.specs.declared.cmp.Ordering.{Ordering}
-use Rattle.std.specs.declared.cmp.Ordering.TheVariants.{Less, Equal, Greater}
-use Rattle.std.specs.Ordering.{is_lt}
-use Rattle.std.proofs.lemmas.Bool.{true≢false}
 use Rattle.std.proofs.lemmas.Option.{none-some, same_Some}
+use Rattle.plain_laws.specs.Orderings.{less_from_test}
+use Rattle.plain_laws.specs.Members.{all_at, from_filter, in_map}
+use Rattle.plain_laws.specs.Lists.{All-weaker}
 use Rattle.task_order.specs.declared.task.Task.{Task}
 use Rattle.task_order.specs.Key.{key_cmp}
 use Rattle.rw_sets.specs.Accesses.{Accesses, Conflicts, IsWithin}
@@ -19,16 +18,10 @@ use Rattle.kdg_graph.specs.Nodes.{IsGraph, earlier_than, node_at, task_at, tasks
 use Rattle.app_laws.specs.declared.app.SetAnswer.TheVariants as answer
 use Rattle.app_laws.specs.Applications.{Application, AreFitTasks, AreWriters, FixedSetsAreKnown, IsFitTask, IsSource, set_in, tasks_before}
 use Rattle.run_laws.specs.Basis.{LowerLaws}
-use Rattle.run_laws.specs.Lists.{all-weaker, all_at, from_filter, in_map}
 use Rattle.run_laws.specs.NodeLists.{all-tasks, tasks-earlier_than, wider_conflict}
 use Rattle.graph_update.specs.Engine.{AreCovered, HaveFixedSets, IsKept}
 use Rattle.run_laws.specs.Progress.{Progress}
 use Rattle.run_laws.specs.Sound.{Covers}
-
-less_where_earlier : (order : Ordering) → is_lt order ≡ true → order ≡ Less
-less_where_earlier Less is = refl
-less_where_earlier Equal is = absurd (true≢false (sym is))
-less_where_earlier Greater is = absurd (true≢false (sym is))
 
 known_set : (set other : Accesses) → answer.Known set ≡ answer.Known other → set ≡ other
 known_set set other same = cc
@@ -48,7 +41,7 @@ module _ {V : Type 0} (app : Application V) where
     tasks = kept.sound.ready.tasks;
     cells = kept.values;
     fit = kept.sound.ready.cells;
-    within = all-weaker (Covers app progress.cells kept.values) (λ node. IsWithin (set_in app kept.values node.task) node.set) (λ node covers. covers.within) progress.nodes kept.sound.recorded_covers;
+    within = All-weaker (Covers app progress.cells kept.values) (λ node. IsWithin (set_in app kept.values node.task) node.set) (λ node covers. covers.within) progress.nodes kept.sound.recorded_covers;
   }
 
   module _ (nodes : List Node) (id : NodeId) (task : Task) (at : task_at nodes id ≡ Some task) where
@@ -77,7 +70,7 @@ module _ {V : Type 0} (app : Application V) where
               (all-tasks (λ (other : Task). ¬ Conflicts (set_in app covered.cells other) (set_in app covered.cells node.task)) (earlier_than node.task.key nodes)
               (λ other earlier conflict.
               let there = from_filter _ nodes other earlier in
-              none other there.0 (less_where_earlier (key_cmp other.task.key node.task.key) there.1)
+              none other there.0 (less_from_test (key_cmp other.task.key node.task.key) there.1)
               (wider_conflict lower _ _ node.set other.set (within node has) (within other there.0) conflict)));
         }
         )

@@ -9,11 +9,8 @@ use Rattle.kdg_graph.specs.declared.node_id.NodeId.{NodeId}
 use Rattle.kdg_graph.specs.Node.{Node}
 use Rattle.kdg_graph.specs.Nodes.{IsGraph, least_of, node_at, task_at, tasks_of}
 use Rattle.kdg_graph.specs.Rewrite.{IsRewritten, fresh_nodes, put_nodes, with_sets, without}
+use Rattle.kdg_graph.specs.NodeLaws.{with_no_sets}
 use Rattle.graph_update.proofs.ClaimedNodes.{none_taken}
-
-same_sets : (nodes : List Node) → with_sets [] nodes ≡ nodes
-same_sets [] = refl
-same_sets (node ∷ nodes) = ap (λ others. node ∷ others) (same_sets nodes)
 
 no_fresh : (ids : List NodeId) (nodes : List Node) → put_nodes (fresh_nodes ids []) nodes ≡ nodes
 no_fresh [] nodes = refl
@@ -34,7 +31,7 @@ module _ (id : NodeId) (changes : List SetChange) (none : changes ≡ []) (fresh
       let others : without id (node ∷ nodes) ≡ nodes =
       ap (λ test. cond (not test) (node ∷ without id nodes) (without id nodes)) own ∙ ap (λ one. without one nodes) same ∙ none_taken node.id nodes graph.own_ids.0 in
       let left = rewritten.nodes ∙ ap (λ new. put_nodes (fresh_nodes rewritten.ids new) (with_sets changes (without id (node ∷ nodes)))) empty ∙ no_fresh rewritten.ids (with_sets changes (without id (node ∷ nodes)))
-      ∙ ap (λ some. with_sets some (without id (node ∷ nodes))) none ∙ same_sets (without id (node ∷ nodes)) ∙ others in
+      ∙ ap (λ some. with_sets some (without id (node ∷ nodes))) none ∙ with_no_sets (without id (node ∷ nodes)) ∙ others in
       record {
         first = node;
         nodes_are = ap (λ rest. node ∷ rest) (sym left);

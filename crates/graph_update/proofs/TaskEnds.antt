@@ -3,6 +3,7 @@ use Rattle.std.proofs.Common.{◌≡◌, ℕ, suc, ◌+◌, ◌<◌, ◌≤◌, 
 use Rattle.std.specs.Prelude.{Contains, IsSome, option_map}
 use Rattle.std.specs.List.{AllByRecursion}
 use Rattle.std.specs.Option.{option_or}
+use Rattle.plain_laws.specs.Members.{none}
 use Rattle.task_order.specs.declared.task.Task.{Task}
 use Rattle.rw_sets.specs.Accesses.{Accesses}
 use Rattle.cell_store.specs.declared.cell.Cell.{Cell}
@@ -27,7 +28,6 @@ use Rattle.graph_update.specs.Engine.{FinishStaysSound, HaveFixedSets, IsKept, I
 use Rattle.run_laws.specs.Laws.{IsDone, FinishesKeepSound, MarksAndDrainsKeepSound}
 use Rattle.run_laws.specs.Events.{IsOfClear, IsFinished, IsOverLimit, budget_marked, fresh_from, renewals}
 use Rattle.run_laws.specs.Finishes.{IsEnded, IsPerformedTask}
-use Rattle.run_laws.specs.Lists.{none}
 use Rattle.graph_update.specs.Basis.{EndBasis}
 use Rattle.run_laws.specs.Progress.{Progress}
 use Rattle.run_laws.specs.Sound.{IsSound}

@@ -1,10 +1,10 @@
 -- The pending tasks of which a horizon tells, before and after a task's end.
-use Rattle.std.proofs.Common.{◌≡◌, true, false, cond, Some, List, [], ◌∷◌, ◌++◌, refl, sym, ap, subst, ◌∙◌}
+use Rattle.std.proofs.Common.{◌≡◌, Some, List, ◌∷◌, ◌++◌, sym, ap, subst, ◌∙◌}
 use Rattle.std.specs.Prelude.{Contains}
-use Rattle.std.specs.Ordering.{is_lt}
+use Rattle.plain_laws.specs.Members.{in_map}
 use Rattle.task_order.specs.declared.task.Task.{Task}
-use Rattle.task_order.specs.Key.{key_cmp}
-use Rattle.task_order.specs.TaskList.{put_all, put_in, without}
+use Rattle.task_order.specs.TaskList.{put_all, without}
+use Rattle.task_order.specs.TaskListLaws.{IsSplit, put_splits}
 use Rattle.kdg_graph.specs.declared.change.Fresh.{Fresh}
 use Rattle.kdg_graph.specs.declared.change.SetChange.{SetChange}
 use Rattle.kdg_graph.specs.declared.node_id.NodeId.{NodeId}
@@ -13,31 +13,8 @@ use Rattle.kdg_graph.specs.Node.{Node}
 use Rattle.kdg_graph.specs.Nodes.{IsGraph, node_at, started, task_at, tasks_of}
 use Rattle.kdg_graph.specs.Rewrite.{IsRewritten, fresh_tasks}
 use Rattle.app_laws.specs.Applications.{Application}
-use Rattle.run_laws.specs.Lists.{in_map}
 use Rattle.graph_update.specs.Basis.{EndBasis}
 use Rattle.graph_update.proofs.Sources.{node_of}
-
--- a task stands among these, and the rest are the others
-pub record IsSplit (task : Task) (tasks rest : List Task) : Type 0 where
-  pub before : List Task
-  pub after : List Task
-  pub all : tasks ≡ before ++ task ∷ after
-  pub others : rest ≡ before ++ after
-
--- a task that was put in stands among the others
-put_splits : (task : Task) (tasks : List Task) → IsSplit task (put_in task tasks) tasks
-put_splits task [] = record { before = []; after = []; all = refl; others = refl }
-put_splits task (other ∷ tasks) =
-    let rest = put_splits task tasks in
-    elim (is_lt (key_cmp other.key task.key)) as (λ past. IsSplit task (cond past (other ∷ put_in task tasks) (task ∷ other ∷ tasks)) (other ∷ tasks)) [
-      | true ↦ record {
-        before = other ∷ rest.before;
-        after = rest.after;
-        all = ap (λ (tasks : List Task). other ∷ tasks) rest.all;
-        others = ap (λ (tasks : List Task). other ∷ tasks) rest.others;
-      }
-      | false ↦ record { before = []; after = other ∷ tasks; all = refl; others = refl }
-    ]
 
 -- where a node starts, what is told of the tasks is told as before
 pub told_started : (Told : List Task → Type 0) → StartsKeepTasks → (id : NodeId) (nodes now : List Node) → now ≡ started id nodes → Told (tasks_of nodes) → Told (tasks_of now)

@@ -1,28 +1,14 @@
 -- Seats that are split from the first one, and joined to it again.
-use Rattle.std.proofs.Common.{◌≡◌, ◌≢◌, ◌==◌, eq-eqb, ne_eqb, not, cond, Bool, false, ℕ, zero, suc, ◌<◌, List, [], ◌∷◌, Some, refl, sym, ap, subst, ◌∙◌, arith}
+use Rattle.std.proofs.Common.{◌≡◌, ◌==◌, not, ℕ, suc, List, [], ◌∷◌, Some, refl, sym, ap, subst, ◌∙◌, arith}
 use Rattle.std.specs.Prelude.{Contains, filter}
+use Rattle.plain_laws.specs.Ranges.{down_from, down_from-others_stay, down_from-without_first}
 use Rattle.graph_update.specs.Engine.{EngineState}
 use Rattle.worker_gate.specs.Fits.{drained_count}
 use Rattle.worker_gate.specs.Hall.{first_view}
 use Rattle.worker_gate.specs.Steps.{both_views, first_half, second_half}
 use Rattle.worker_gate.specs.Turns.{HallState, SeatState}
 use Rattle.hall_trials.specs.Seated.{HasWorked}
-use Rattle.hall_trials.specs.Team.{IsFirst, IsSplit, down_from}
-
--- all are below
-others_stay : (m gone : ℕ) → m < gone → filter (λ number. not (number == gone)) (down_from m) ≡ down_from m
-others_stay zero gone below = refl
-others_stay (suc m) gone below =
-    let differs : suc m ≢ gone = λ same. absurd (omega (arith, same, below)) in
-    let test : (suc m == gone) ≡ false = ne_eqb (suc m) gone differs in
-    ap (λ (b : Bool). cond (not b) (suc m ∷ filter (λ number. not (number == gone)) (down_from m)) (filter (λ number. not (number == gone)) (down_from m))) test
-    ∙ ap (λ (rest : List ℕ). suc m ∷ rest) (others_stay m gone (omega (arith, below)))
-
--- without the greatest
-without_first : (m : ℕ) → filter (λ number. not (number == suc m)) (down_from (suc m)) ≡ down_from m
-without_first m =
-    ap (λ (b : Bool). cond (not b) (suc m ∷ filter (λ number. not (number == suc m)) (down_from m)) (filter (λ number. not (number == suc m)) (down_from m))) (eq-eqb (suc m) (suc m) refl)
-    ∙ others_stay m (suc m) (omega arith)
+use Rattle.hall_trials.specs.Team.{IsFirst, IsSplit}
 
 module _ {A V : Type 0} (hall : HallState (EngineState A V)) where
   abbrev Seat : Type 0
@@ -87,5 +73,5 @@ module _ {A V : Type 0} (hall : HallState (EngineState A V)) where
         ap (λ (s : Seat). s.view.unjoined) is
         ∙ ap (λ (xs : List ℕ). filter (λ k. not (k == other.view.number)) xs) split.unjoined_are
         ∙ ap (λ (k : ℕ). filter (λ number. not (number == k)) (down_from (suc n))) gone.number_is
-        ∙ without_first n;
+        ∙ down_from-without_first n;
   }

@@ -1,11 +1,12 @@
 -- The posts of a team's workers, from the first split to the last join.
-use Rattle.std.proofs.Common.{get_or, Option, Some, None, true≢false, ◌≡◌, ℕ, zero, suc, ◌+◌, ◌<◌, List, [], ◌∷◌, ◌++◌, length, length-append, refl, sym, ap, subst, ◌∙◌, arith}
-use Rattle.std.specs.Prelude.{Contains, IsSome}
+use Rattle.std.proofs.Common.{get_or, ◌≡◌, ℕ, zero, suc, ◌+◌, ◌<◌, List, [], ◌∷◌, ◌++◌, length, length-append, refl, sym, ap, subst, ◌∙◌, arith}
+use Rattle.std.specs.Prelude.{Contains}
+use Rattle.plain_laws.specs.Ranges.{down_from}
 use Rattle.graph_update.specs.Engine.{EngineState}
 use Rattle.worker_gate.specs.Steps.{both_views, first_half, second_half}
 use Rattle.worker_gate.specs.Turns.{HallState, SeatState}
 use Rattle.hall_trials.specs.Seated.{HasWorked, IsSeated, MayWork}
-use Rattle.hall_trials.specs.Team.{ArePosts, EachAt, EachPair, IsFirst, IsPosted, IsSplit, down_from}
+use Rattle.hall_trials.specs.Team.{ArePosts, EachAt, EachPair, IsFirst, IsPosted, IsSplit}
 use Rattle.hall_trials.proofs.Joining.{first_split, joined, may_join, other_split, still_split}
 
 -- ---- lists
@@ -26,12 +27,6 @@ each_before P (y ∷ xs) last each (suc k) x inside =
 each_last : {X : Type 0} (P : ℕ → X → Type 0) (xs : List X) (last : X) → EachAt P (xs ++ last ∷ []) → P (length xs) last
 each_last P [] last each = each 0 last (omega arith)
 each_last P (y ∷ xs) last each = each_last (λ n. P (suc n)) xs last (λ n z more. each (suc n) z (omega (arith, more)))
-
--- where nothing was taken, nothing is left
-pub nothing_left : {X : Type 0} (taken : Option X) (xs : List X) → (0 < length xs → IsSome taken) → ((x : X) → taken ≡ Some x → ⊥) → xs ≡ []
-nothing_left taken [] some never = refl
-nothing_left None (x ∷ xs) some never = absurd (true≢false (sym (some (omega arith))))
-nothing_left (Some y) (x ∷ xs) some never = absurd (never y refl)
 
 -- ---- posts
 

@@ -1,14 +1,10 @@
 -- Seats that are split from a hall's first one, and the posts of its workers.
-use Rattle.std.specs.Prelude.{◌≡◌, ◌<◌, ℕ, zero, suc, List, [], ◌∷◌, get_or, length}
+use Rattle.std.specs.Prelude.{◌≡◌, ◌<◌, ℕ, suc, List, [], get_or, length}
+use Rattle.plain_laws.specs.Ranges.{down_from}
 use Rattle.graph_update.specs.Engine.{EngineState}
 use Rattle.worker_gate.specs.Fits.{drained_count}
 use Rattle.worker_gate.specs.Turns.{HallState, SeatState}
 use Rattle.hall_trials.specs.Seated.{IsSeated}
-
--- the numbers from this one down to 1
-abbrev pub down_from : ℕ → List ℕ
-down_from zero = []
-down_from (suc n) = suc n ∷ down_from n
 
 -- what holds of each place and what is there, and of what is there in two lists
 abbrev pub EachAt : {X : Type 0} → (ℕ → X → Type 0) → List X → Type 0

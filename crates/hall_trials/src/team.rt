@@ -4,7 +4,8 @@ ghost use Rattle.std.specs.Prelude.{◌≡◌, ◌+◌, ◌<◌, ◌≤◌, ◌+
 ghost use Rattle.std.specs.List.{All};
 ghost use Rattle.run_laws.specs.Rest.{NoneRuns};
 ghost use Rattle.hall_trials.specs.Ends.{HasGoneOn};
-ghost use Rattle.hall_trials.specs.Team.{ArePosts, EachAt, EachPair, IsFirst, IsSplit, down_from};
+ghost use Rattle.plain_laws.specs.Ranges.{down_from};
+ghost use Rattle.hall_trials.specs.Team.{ArePosts, EachAt, EachPair, IsFirst, IsSplit};
 ghost use Rattle.hall_trials.specs.Seated.{HasWorked, MayWork};
 
 use crate::loops::work;

@@ -3,16 +3,17 @@ use Rattle.std.proofs.Common.{◌≡◌, ℕ, List, [], ◌∷◌, length, map, 
 use Rattle.std.specs.Prelude.{Option, unwrap_or, option_map, Result, Ok, Err, IfOk, IfErr}
 use Rattle.task_order.specs.declared.task.Task.{Task}
 use Rattle.rw_sets.specs.Accesses.{Accesses, IsAscending, IsInRange}
+use Rattle.rw_sets.specs.AccessLaws.{has_later}
 use Rattle.cell_store.specs.declared.cell.Cell.TheVariants.{Home, Out}
 use Rattle.cell_store.specs.Cells.{cell_at, part_of}
 use Rattle.cell_store.specs.Laws.{HomesByLocation}
 use Rattle.cell_store.specs.Part.{Part}
 use Rattle.cell_store.specs.Values.{homes}
-use Rattle.cell_store.proofs.Locations.{has_later}
 use Rattle.app_laws.specs.declared.app.Effect.{Effect}
 use Rattle.app_laws.specs.Applications.{Application, IsEffect, IsFitTask, IsTaken, effect_of}
+use Rattle.app_laws.specs.Names.{start_of_task}
 use Rattle.hook_app.specs.Deeds.{Deeds}
-use Rattle.hook_app.specs.Hooked.{AreFitCells, Hooked, hooked, set_at, start_of_task}
+use Rattle.hook_app.specs.Hooked.{AreFitCells, Hooked, hooked, set_at}
 use Rattle.hook_app.specs.Kept.{IsAnswered, IsAsked, bundle_with, effect_with}
 use Rattle.hook_app.specs.Lawful.{deed_done, set_in_range, values_taken}
 use Rattle.hook_app.specs.Values.{KeepsRead, put_values, values_at}

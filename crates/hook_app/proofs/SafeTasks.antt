@@ -1,28 +1,19 @@
 -- The earliest of the pending tasks decides whether a task is safe.
 use Rattle.std.proofs.Common.{◌≡◌, ◌∙◌, ◌+◌, ◌<◌, ◌≤◌, ℕ, true, false, List, [], ◌∷◌, Some, None, slice_get, ap, sym, refl, subst, arith, inl, inr}
-use Rattle.std.specs.Prelude.{nat_le, nat_lt}
+use Rattle.std.specs.Prelude.{nat_lt}
 use Rattle.std.specs.List.{AllByRecursion}
-use Rattle.std.specs.Ordering.{is_ge, is_lt, nat_cmp}
+use Rattle.std.specs.Ordering.{is_ge, is_lt}
 use Rattle.std.specs.declared.cmp.Ordering.{Ordering}
 use Rattle.std.specs.declared.cmp.Ordering.TheVariants.{Less, Equal, Greater}
 use Rattle.std.proofs.lemmas.Bool.{cases_Bool, false≢true}
 use Rattle.std.proofs.lemmas.Bool.Decides.{nat_tests}
 use Rattle.std.proofs.lemmas.Option.{same_Some}
 use Rattle.plain_laws.specs.Orderings.{less_from_test}
-use Rattle.task_order.specs.declared.key.Key.{Key}
 use Rattle.task_order.specs.declared.task.Task.{Task}
 use Rattle.task_order.specs.Key.{key_cmp, key_cmp_total}
 use Rattle.task_order.specs.TaskList.{IsAscending, is_earlier, tasks_before}
+use Rattle.task_order.specs.KeyLaws.{earlier_prio}
 use Rattle.hook_app.specs.Hooked.{is_ahead}
-
--- a key that is not later has no higher priority
-pub earlier_prio : (a b : Key) → is_lt (key_cmp a b) ≡ true → a.prio ≤ b.prio
-earlier_prio a b earlier = elim (cases_Bool (nat_le a.prio b.prio)) [
-  | inl low ↦ grind (arith, nat_tests, low)
-  | inr high ↦
-      let later : nat_cmp a.prio b.prio ≡ Greater = grind (arith, nat_tests, high) in
-      absurd (cc (rw later at earlier))
-]
 
 not_less : (order : Ordering) → is_ge order ≡ true → order ≡ Less → ⊥
 not_less Less is e = false≢true is

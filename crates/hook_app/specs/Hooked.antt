@@ -8,6 +8,7 @@ use Rattle.rw_sets.specs.Accesses.{Accesses, IsAscending, IsInRange}
 use Rattle.app_laws.specs.declared.app.SetAnswer.TheVariants as answer
 use Rattle.app_laws.specs.Applications.{Application, IsWholeLines}
 use Rattle.app_laws.specs.Execution.{Outcome}
+use Rattle.app_laws.specs.Names.{start_of_task}
 use Rattle.hook_app.specs.Deeds.{Deeds}
 use Rattle.hook_app.specs.Values.{values_at, put_values, KeepsRead}
 
@@ -22,10 +23,6 @@ pub record Hooked (D H : Type 0) : Type 0 where
 -- the set of this number
 abbrev pub set_at : List Accesses → ℕ → Accesses
 set_at sets at = slice_index_or sets at []
-
--- a task without its key
-abbrev pub start_of_task : Task → Start
-start_of_task task = record { prio = task.key.prio; body = task.body }
 
 -- the task is before whatever may still follow from each of these earlier tasks
 abbrev pub is_ahead : ℕ → Task → List Task → Bool

@@ -6,8 +6,9 @@ use Rattle.cell_store.specs.Part.{Part}
 use Rattle.cell_store.specs.Values.{homes}
 use Rattle.app_laws.specs.declared.app.Effect.{Effect}
 use Rattle.app_laws.specs.Execution.{Outcome}
+use Rattle.app_laws.specs.Names.{start_of_task}
 use Rattle.hook_app.specs.Deeds.{Deeds}
-use Rattle.hook_app.specs.Hooked.{AreValuesOf, FitTogether, set_at, start_of_task}
+use Rattle.hook_app.specs.Hooked.{AreValuesOf, FitTogether, set_at}
 
 -- the bundle with these values, in the order of the set
 abbrev pub bundle_with : {V : Type 0} → Accesses → List V → Part V

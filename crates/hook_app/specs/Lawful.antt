@@ -15,9 +15,9 @@ use Rattle.rw_sets.specs.Accesses.{Accesses, IsAscending, IsInRange as IsBelow}
 use Rattle.rw_sets.specs.LookupLaws.{merges_hold_both}
 use Rattle.app_laws.specs.Applications.{AgreeOn, IsInRange, IsSameOutcome, tasks_before, CellsAreCounted, SetsAreInRange, ActsAreFit, SetsAreLocal, ActsAreLocal, ActsIgnorePaths, ChildrenComeNoEarlier, SetsStayWithin, WalksAreTrue, FixedSetsAreKnown, IsSafeAlone, SafeTasksStaySafe, SafetyIgnoresPaths, IsLawful, PathsAreIgnored}
 use Rattle.app_laws.specs.Execution.{Outcome, children_from}
-use Rattle.app_laws.specs.Names.{renamed}
+use Rattle.app_laws.specs.Names.{renamed, start_of_task}
 use Rattle.hook_app.specs.Deeds.{Deeds}
-use Rattle.hook_app.specs.Hooked.{AreFitCells, AreValuesOf, IsFitDeed, FitTogether, acted, hooked, is_ahead, set_at, start_of_task}
+use Rattle.hook_app.specs.Hooked.{AreFitCells, AreValuesOf, IsFitDeed, FitTogether, acted, hooked, is_ahead, set_at}
 use Rattle.hook_app.specs.Values.{put_values, values_at}
 use Rattle.hook_app.specs.ValueLaws.{length-put_values, length-values_at, put_values-alike, put_values-elsewhere, put_values-fit, values_at-alike, values_at-fit}
 

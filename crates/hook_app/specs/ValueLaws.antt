@@ -8,8 +8,7 @@ use Rattle.plain_laws.specs.Lists.{All-get_or, get-set_same}
 use Rattle.rw_sets.specs.declared.access.Access.{Access}
 use Rattle.rw_sets.specs.declared.access.Access.TheVariants.{Read, Write}
 use Rattle.rw_sets.specs.Accesses.{Accesses, IsAscending, IsInRange, access_at, allows_write, writes}
-use Rattle.rw_sets.specs.AccessLaws.{access_first, access_other, absent_beyond, ascending_first, ascending_rest}
-use Rattle.cell_store.proofs.Locations.{has_later}
+use Rattle.rw_sets.specs.AccessLaws.{access_first, access_other, absent_beyond, ascending_first, ascending_rest, has_later}
 use Rattle.hook_app.specs.Values.{values_at, put_values, KeepsRead}
 
 -- ---- sets

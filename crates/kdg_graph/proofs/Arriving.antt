@@ -1,13 +1,14 @@
 -- What is known of the nodes before and behind one that comes or goes.
 use Rattle.std.proofs.Common.{◌≡◌, ◌≢◌, inl, inr, ℕ, zero, suc, ◌<◌, ◌≤◌, Bool, true, false, not, List, [], ◌∷◌, length, get_or, Option, Some, None, refl, sym, ◌∙◌, ap, subst, arith, eqb-true, ltb, ◌==◌, Contains, IfSome, filter, is_lt, ltb-true, true≢false, ◌++◌, set, ltb-false}
+use Rattle.plain_laws.specs.Orderings.{less_from_test}
+use Rattle.plain_laws.specs.Lists.{empty_from_length}
 use Rattle.kdg_graph.proofs.Common.{AreFiledWith, put_if, AllByRecursion, false_from_ne_true, Key, key_cmp_total, Access, Read, Write, Accesses, Conflicts, IsAscendingSet, access_at, clash, conflicts_with, ConflictsAreDecided, ConflictsAreMutual, NodeId, is_blocked, BlocksNoneAlone, fronts_after, stoppers, IsRank, clashes_at, clashing_at, front_after, is_blocked_at, is_first_before, up_to_writer, Node, IsGraph, earlier_than, ids_of, is_at, later_than, node_at, without, all_from, from_filter, here, in_filter, none, none_any, Contains-get_or, IsAscending, IsRankPast, Location, ids_for, tasks_of, is_unblocked, all_at, cases, none_passes}
 use Rattle.kdg_graph.proofs.Blocking.{access_of, any_from, before_first, blocked_by_first, from_fronts, from_up_to, same_found, first_before}
 use Rattle.kdg_graph.proofs.Filing.{again, named_by, lane_changed}
-use Rattle.kdg_graph.proofs.KeyOrder.{dropped, kept, Less_from_test, is_before, not_itself, earlier_not_past, is_past, rank_rest, ascending_filtered, filters_commute}
+use Rattle.kdg_graph.proofs.KeyOrder.{dropped, kept, is_before, not_itself, earlier_not_past, is_past, rank_rest, filters_commute}
 use Rattle.kdg_graph.proofs.Lanes.{length-ids}
-use Rattle.kdg_graph.proofs.LookUps.{not_at, ids_find_nodes, key_later, is_at-same}
-
--- ---- what a node that comes tells by its places at the locations of its set
+use Rattle.kdg_graph.proofs.LookUps.{ids_find_nodes, key_later}
+use Rattle.kdg_graph.specs.NodeLaws.{ascending_filtered, is_at-same, not_at}
 
 -- ---- its place among some nodes
 
@@ -158,7 +159,7 @@ front_blocked decided nodes id node other loc access graph is not_alone has =
           let first = a_member (earlier_than key stopping) some in
           let earlier = from_filter (is_before key) stopping first.0 first.1 in
           let met = stopper_conflicts decided loc access rest first.0 other earlier.0 clashing.1 in
-          let before : is_before other.task.key first.0 ≡ true = ap is_lt (key_cmp_total.trans first.0.task.key key other.task.key (Less_from_test _ earlier.1) (Less_from_test _ later.1)) in
+          let before : is_before other.task.key first.0 ≡ true = ap is_lt (key_cmp_total.trans first.0.task.key key other.task.key (less_from_test _ earlier.1) (less_from_test _ later.1)) in
           any_from (λ (n : Node). conflicts_with n.set other.set) (earlier_than other.task.key rest) first.0 (in_filter (is_before other.task.key) rest first.0 met.0 before) met.1
     ]
 
@@ -214,17 +215,13 @@ unblocked_leads decided both_ways nodes id gone graph is free =
 
 -- ---- where none is left
 
-none_there : (nodes : List Node) → length nodes ≡ 0 → nodes ≡ []
-none_there [] is = refl
-none_there (node ∷ nodes) is = absurd (omega (arith, is))
-
 -- the location that a node was taken out of last keeps no id where no other clashes there
 pub none_left_at : (others : List Node) (node : Node) (g : ℕ → Option Access) (p : ℕ × Access) (locations : List Location) (now : Location) (len : ℕ) → g p.0 ≡ None → p.0 < length locations → AreFiledWith others node g (set locations p.0 now)
     → len ≡ length (ids_for p.1 now) → ltb 0 len ≡ false → clashing_at p.0 p.1 others ≡ []
 none_left_at others node g p locations now len gone within filed is empty =
     let kept : ids_for p.1 now ≡ ids_of (clashing_at p.0 p.1 others) =
     sym (lane_changed locations p.0 now p.1 within) ∙ filed p.0 p.1 ∙ ap (λ found. ids_of (put_if (clash (Some p.1) found) node (clashing_at p.0 p.1 others))) gone in
-    none_there (clashing_at p.0 p.1 others) (omega (arith, ltb-false 0 len empty, is, ap length kept, length-ids (clashing_at p.0 p.1 others)))
+    empty_from_length (clashing_at p.0 p.1 others) (omega (arith, ltb-false 0 len empty, is, ap length kept, length-ids (clashing_at p.0 p.1 others)))
 
 -- then no front is behind the node
 pub fronts_of_none : (pairs : Accesses) (key : Key) (nodes : List Node) → AllByRecursion (λ p. clashing_at p.0 p.1 nodes ≡ []) pairs → fronts_after pairs key nodes ≡ []

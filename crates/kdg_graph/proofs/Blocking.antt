@@ -1,8 +1,13 @@
 -- Which nodes are blocked, which later ones are in conflict, and which of these change where a node comes or goes.
 use Rattle.std.proofs.Common.{◌≡◌, ◌≢◌, Bool, true, false, not, ◌&&◌, List, [], ◌∷◌, map, Some, refl, sym, ◌∙◌, ap, subst, Contains, ◌↔◌, IsSome, filter, Less, is_lt, true≢false, ◌==◌, ℕ, Option, None, arith, inl, inr, ◌⊎◌, ◌||◌, cond, ◌++◌, eqb-true, is_some}
-use Rattle.kdg_graph.proofs.Common.{tied_itself, AllByRecursion, cond_both, key_cmp, key_cmp_total, Conflicts, conflicts_with, ConflictsAreDecided, NodeId, SetChange, Node, HasNode, HaveOwnIds, IsGraph, earlier_than, ids_of, later_than, node_at, is_blocked, is_source, laters_of, sources_of, LatersAreInConflict, LatersAreNodes, LatersMayChange, RunningNodesAreNoSources, SourcesAreNodes, SourcesAreUnblocked, AreOfOwnNodes, all_at, all_from, from_filter, from_map, in_filter, in_map, none_any, none_passes, list_any, cases_eq, false≢true, or_cases, or_left, or_right, Key, IsAscending, Access, access_first, access_other, absent_beyond, ascending_first, ascending_rest, Accesses, IsAscendingSet, access_at, clash, ConflictsAreMutual, IsLaneAmong, clashes_at, clashing_at, is_blocked_at, is_first_before, is_id_at, is_at, tasks_of, cases, here, none, there, Task, Read, Write, allows_write, writes, put_node, front_after, up_to_writer, fronts_after, is_among, is_unblocked}
-use Rattle.kdg_graph.proofs.KeyOrder.{Less_from_test, ascending_filtered, is_before, not_itself}
-use Rattle.kdg_graph.proofs.LookUps.{ids_find_nodes, nodes_have_ids, key_later, is_at-same, not_at, same_id}
+use Rattle.plain_laws.specs.Members.{some_passes}
+use Rattle.plain_laws.specs.Bools.{same_tests}
+use Rattle.plain_laws.specs.Orderings.{less_from_test}
+use Rattle.rw_sets.specs.AccessLaws.{clash_where_written}
+use Rattle.kdg_graph.proofs.Common.{tied_itself, AllByRecursion, key_cmp, key_cmp_total, Conflicts, conflicts_with, ConflictsAreDecided, NodeId, SetChange, Node, HasNode, HaveOwnIds, IsGraph, earlier_than, ids_of, later_than, node_at, is_blocked, is_source, laters_of, sources_of, LatersAreInConflict, LatersAreNodes, LatersMayChange, RunningNodesAreNoSources, SourcesAreNodes, SourcesAreUnblocked, AreOfOwnNodes, all_at, all_from, from_filter, from_map, in_filter, in_map, none_any, none_passes, list_any, cases_eq, false≢true, or_left, or_right, Key, IsAscending, Access, access_first, access_other, absent_beyond, ascending_first, ascending_rest, Accesses, IsAscendingSet, access_at, clash, ConflictsAreMutual, IsLaneAmong, clashes_at, clashing_at, is_blocked_at, is_first_before, is_id_at, is_at, tasks_of, cases, here, none, there, Task, allows_write, writes, put_node, front_after, up_to_writer, fronts_after, is_among, is_unblocked}
+use Rattle.kdg_graph.proofs.KeyOrder.{is_before, not_itself}
+use Rattle.kdg_graph.proofs.LookUps.{ids_find_nodes, nodes_have_ids, key_later}
+use Rattle.kdg_graph.specs.NodeLaws.{same_id, is_at-same, not_at, own_filtered, ascending_filtered}
 
 -- ---- which nodes are sources, and which later nodes are in conflict
 
@@ -63,7 +68,7 @@ unblocked_from decided nodes node is other has earlier =
 from_unblocked : ConflictsAreDecided → (nodes : List Node) (node : Node) → IsUnblockedIn nodes node → is_blocked nodes node ≡ false
 from_unblocked decided nodes node free = none_any (λ (n : Node). conflicts_with n.set node.set) (earlier_than node.task.key nodes) (λ other has.
     let was : Contains nodes other × (is_lt (key_cmp other.task.key node.task.key) ≡ true) = from_filter (λ (n : Node). is_lt (key_cmp n.task.key node.task.key)) nodes other has in
-    decided_false decided other.set node.set _ refl (free other was.0 (Less_from_test _ was.1)))
+    decided_false decided other.set node.set _ refl (free other was.0 (less_from_test _ was.1)))
 
 pub sources_are_unblocked : ConflictsAreDecided → SourcesAreUnblocked
 sources_are_unblocked decided nodes id node graph is =
@@ -107,18 +112,11 @@ laters_are_in_conflict decided nodes node id later graph is =
     let among : Contains (laters_of nodes node) id ↔ Contains (conflicting nodes node) later = id_among nodes (conflicting nodes node) id later graph (later_among nodes node) is in (
       λ has.
           let tests = from_conflicting nodes node later (among.0 has) in
-          (Less_from_test _ tests.1, (decided node.set later.set).0 tests.2),
+          (less_from_test _ tests.1, (decided node.set later.set).0 tests.2),
       λ both. among.1 (in_filter (in_conflict node) (later_than node.task.key nodes) later (in_filter (is_later node) nodes later (ids_find_nodes nodes id later is).0 (ap is_lt both.0)) ((decided node.set later.set).1 both.1)),
     )
 
 -- ---- changes of later nodes
-
-pub own_filtered : (p : Node → Bool) (nodes : List Node) → HaveOwnIds nodes → HaveOwnIds (filter p nodes)
-own_filtered p [] own = tt
-own_filtered p (node ∷ nodes) own =
-    cond_both (p node) (node ∷ filter p nodes) (filter p nodes) HaveOwnIds
-    (λ _. (all_from (λ (other : Node). other.id ≢ node.id) (filter p nodes) (λ other has. all_at (λ (n : Node). n.id ≢ node.id) nodes other own.0 (from_filter p nodes other has).0), own_filtered p nodes own.1))
-    (λ _. own_filtered p nodes own.1)
 
 differ_as : (changes : List SetChange) (some : List Node) (id other : NodeId) → map (λ change. change.node) changes ≡ ids_of some → id ≡ other → AllByRecursion (λ (node : Node). node.id ≢ other) some → AllByRecursion (λ (change : SetChange). change.node ≢ id) changes
 differ_as [] some id other same is all = tt
@@ -155,16 +153,7 @@ laters_may_change nodes ended node changes graph is same = record {
   own = own_nodes changes (conflicting nodes node) same (own_filtered (in_conflict node) (later_than node.task.key nodes) (own_filtered (is_later node) nodes graph.own_ids));
 }
 
--- ---- a node is blocked where the first of the nodes at some location of its set is earlier
-
 -- ---- some of a list
-
-pub some_passes : {X : Type 0} (p : X → Bool) (xs : List X) → list_any p xs ≡ true → (x : X) × Contains xs x × (p x ≡ true)
-some_passes p [] is = absurd (false≢true is)
-some_passes {X} p (y ∷ xs) is = elim (or_cases (p y) (list_any p xs) is) [
-  | inl first ↦ (y, here y xs, first)
-  | inr later ↦ let rest : (x : X) × Contains xs x × (p x ≡ true) = some_passes p xs later in (rest.0, there y rest.0 xs rest.1, rest.2)
-]
 
 pub any_from : {X : Type 0} (p : X → Bool) (xs : List X) (x : X) → Contains xs x → p x ≡ true → list_any p xs ≡ true
 any_from p [] x has is = absurd (none x has)
@@ -172,11 +161,6 @@ any_from p (y ∷ xs) x has is = elim (cases y x xs has) [
   | inl same ↦ or_left (p y) (list_any p xs) (ap p same ∙ is)
   | inr later ↦ or_right (p y) (list_any p xs) (any_from p xs x later is)
 ]
-
-pub same_tests : (a b : Bool) → (a ≡ true → b ≡ true) → (b ≡ true → a ≡ true) → a ≡ b
-same_tests true b to from = sym (to refl)
-same_tests false true to from = from refl
-same_tests false false to from = refl
 
 -- ---- the pairs of a set
 
@@ -209,7 +193,7 @@ pub first_before : (key : Key) (nodes : List Node) (other : Node) → IsAscendin
 first_before key [] other up has is = absurd (none other has)
 first_before key (first ∷ nodes) other up has is = elim (cases first other nodes has) [
   | inl same ↦ ap (is_before key) same ∙ is
-  | inr later ↦ ap is_lt (key_cmp_total.trans first.task.key other.task.key key (key_later first nodes other up.0 later) (Less_from_test _ is))
+  | inr later ↦ ap is_lt (key_cmp_total.trans first.task.key other.task.key key (key_later first nodes other up.0 later) (less_from_test _ is))
 ]
 
 pub before_first : (key : Key) (nodes : List Node) → is_first_before key nodes ≡ true → (first : Node) × Contains nodes first × (is_before key first ≡ true)
@@ -266,8 +250,6 @@ blocked_there decided both_ways nodes node up is =
 pub blocked_by_first : ConflictsAreDecided → ConflictsAreMutual → (nodes : List Node) (node : Node) → IsAscending (tasks_of nodes) → IsAscendingSet node.set → is_blocked nodes node ≡ list_any (is_blocked_at nodes node) node.set
 blocked_by_first decided both_ways nodes node up set_up = same_tests (is_blocked nodes node) (list_any (is_blocked_at nodes node) node.set) (blocked_somewhere decided both_ways nodes node up) (blocked_there decided both_ways nodes node set_up)
 
--- ---- which nodes are blocked otherwise when a node comes or goes: only those of the fronts behind it
-
 -- ---- one node more among the earlier ones
 
 or_later : (first more rest : Bool) → (first || (more || rest)) ≡ (more || (first || rest))
@@ -300,12 +282,6 @@ clash_named None b is = absurd (true≢false (sym is))
 clash_named (Some x) None is = absurd (true≢false (sym is))
 clash_named (Some x) (Some y) is = refl
 
-writer_clashes : (a b : Option Access) → allows_write a ≡ true → is_some b ≡ true → clash a b ≡ true
-writer_clashes None b is named = absurd (true≢false (sym is))
-writer_clashes (Some Read) b is named = absurd (true≢false (sym is))
-writer_clashes (Some Write) None is named = absurd (true≢false (sym named))
-writer_clashes (Some Write) (Some y) is named = refl
-
 -- a test of a location that a set names
 named_passes : (test : ℕ → Bool) (loc : ℕ) (set : Accesses) → allows_write (access_at set loc) ≡ true → test loc ≡ true → list_any (λ (p : ℕ × Access). test p.0) set ≡ true
 named_passes test loc [] is passes = absurd (true≢false (sym is))
@@ -318,7 +294,7 @@ named_passes test loc (p ∷ set) is passes =
 
 -- who writes a location is in conflict with all who name it
 pub writer_conflicts : (loc : ℕ) (writer set : Accesses) → writes writer loc ≡ true → is_some (access_at set loc) ≡ true → conflicts_with writer set ≡ true
-writer_conflicts loc writer set is named = named_passes (λ at. clash (access_at writer at) (access_at set at)) loc writer is (writer_clashes (access_at writer loc) (access_at set loc) is named)
+writer_conflicts loc writer set is named = named_passes (λ at. clash (access_at writer at) (access_at set at)) loc writer is (clash_where_written (access_at writer loc) (access_at set loc) is named)
 
 -- where two sets conflict, one of the pairs of the first clashes with the second
 abbrev pub ClashingPair : Accesses → Accesses → Type 0

@@ -15,6 +15,7 @@ pub use Rattle.std.proofs.lemmas.List.Sums.{count_by-le-length, length-filter, s
 pub use Rattle.std.proofs.lemmas.Option.{get_or_from_slice_get, slice_get-map, slice_get_cases, slice_get_past, slice_get_read, slice_get_within}
 pub use Rattle.slab.proofs.SlabLemmas.{Contains-entries, ContainsKey-within, Updates-set, Updates-with_value}
 pub use Rattle.slab.specs.Slab.{ContainsKey, Slab, Updates, entries, entries_from, get, slab_len, values, with_value}
+pub use Rattle.plain_laws.specs.Members.{none, here, there, cases, all_at, all_from, in_filter, from_filter, in_map, from_map, none_passes, none_any}
 pub use Rattle.rw_sets.specs.AccessLaws.{absent_beyond, access_first, access_other, ascending_first, ascending_rest, beyond_lower}
 pub use Rattle.rw_sets.specs.Accesses.{Accesses, AllBeyond, Conflicts, IsAscending as IsAscendingSet, access_at, allows_write, clash, conflicts_with, excludes, is_write, same_accesses, writes}
 pub use Rattle.rw_sets.specs.Laws.{ConflictsAreDecided, ConflictsAreMutual}
@@ -45,4 +46,4 @@ pub use Rattle.kdg_graph.specs.declared.lane.Lane.{Lane}
 pub use Rattle.kdg_graph.specs.declared.node_id.NodeId.{NodeId}
 pub use Rattle.kdg_graph.specs.declared.source_lane.Standing.{Standing}
 pub use Rattle.kdg_graph.specs.declared.source_lane.Standing.TheVariants.{Absent, Recent, Settled}
-pub use Rattle.kdg_graph.proofs.Members.{all_at, all_from, any-map, any_same, cases, filter-map, find_none, from_filter, from_find, from_map, here, in_filter, in_map, none, none_any, none_found, none_passes, there}
+pub use Rattle.kdg_graph.proofs.Members.{any-map, any_same, filter-map, find_none, from_find, none_found}

@@ -1,13 +1,16 @@
 -- The first of the nodes that pass a test.
 use Rattle.std.proofs.Common.{◌≡◌, ℕ, suc, ◌<◌, Bool, true, false, ◌||◌, cond, List, [], ◌∷◌, length, take, get_or, Option, Some, None, refl, sym, ◌∙◌, ap, subst, Contains, IfSome, IsSome, filter, take-suc, Less, is_lt, is_some, true≢false, slice_get, option_map}
+use Rattle.plain_laws.specs.Bools.{or_false}
+use Rattle.plain_laws.specs.Orderings.{less_from_test}
+use Rattle.plain_laws.specs.Lists.{filter-all}
+use Rattle.task_order.specs.KeyLaws.{not_past_earlier}
 use Rattle.kdg_graph.proofs.Common.{AllByRecursion, list_any, list_any-append, Key, key_cmp, key_cmp_total, IsAscending, Access, Accesses, IsAscendingSet, access_at, clash, conflicts_with, NodeId, IsLaneAmong, clashes_at, Node, HasNode, IsGraph, ids_of, later_than, least_of, node_at, tasks_of, all_at, from_filter, here, clashing_at, Task, Read, writes, writers_of, WritersAreOfTasks, AreFiled, Location, lane_of, task_at, any_same, filter-map}
 use Rattle.kdg_graph.proofs.Blocking.{access_of, any_from, same_found}
 use Rattle.kdg_graph.proofs.Fronting.{filter_within, some_first, first_from, reads_by}
-use Rattle.kdg_graph.proofs.KeyOrder.{ascending_filtered, dropped, filters_commute, kept, same_filter, Less_from_test, all_later, filter-all, is_before, not_itself, turned, is_past}
+use Rattle.kdg_graph.proofs.KeyOrder.{dropped, filters_commute, kept, same_filter, all_later, is_before, not_itself, is_past}
 use Rattle.kdg_graph.proofs.Lanes.{among_filtered, graph_among}
 use Rattle.kdg_graph.proofs.LookUps.{key_later, nodes_have_ids, ids_find_nodes}
-
--- ---- the first of the nodes that pass one test or another
+use Rattle.kdg_graph.specs.NodeLaws.{ascending_filtered}
 
 -- ---- tests that agree
 
@@ -25,10 +28,6 @@ either_none p q (node ∷ nodes) none =
       | false ↦ λ is rest. λ i. cond (is i || q node) (node ∷ either_none p q nodes rest i) (either_none p q nodes rest i)
     ] in
     by_case (p node) refl none
-
-or-false : (a : Bool) → (a || false) ≡ a
-or-false true = refl
-or-false false = refl
 
 or-turned : (a b : Bool) → (a || b) ≡ (b || a)
 or-turned true true = refl
@@ -58,7 +57,7 @@ either_by p q node one other nodes ones others true true p_is q_is all is_one is
     ∙ sym (ap (λ (n : Node). Some (earlier_id one n)) (sym second ∙ first) ∙ ap (λ test. Some (cond test one.id one.id)) (not_itself one.task.key))
 either_by p q node one other nodes ones others true false p_is q_is all is_one is_other rest =
     let first : node ≡ one = cc in
-    let later : is_before node.task.key other ≡ false = turned node.task.key other.task.key (later_than_first q node other nodes others all is_other) in
+    let later : is_before node.task.key other ≡ false = not_past_earlier node.task.key other.task.key (later_than_first q node other nodes others all is_other) in
     ap least_of (kept (λ n. p n || q n) node nodes (λ i. p_is i || q_is i))
     ∙ sym (ap (λ test. Some (cond test other.id node.id)) later)
     ∙ ap (λ (n : Node). Some (earlier_id n other)) first
@@ -111,7 +110,7 @@ pub one_pair_more : (ps : Accesses) (i : ℕ) (p : ℕ × Access) (nodes : List 
 one_pair_more ps i p nodes inside at =
     same_filter (λ other. list_any (λ (q : ℕ × Access). clashes_at q.0 q.1 other) (take i ps) || clashes_at p.0 p.1 other) (λ other. list_any (λ (q : ℕ × Access). clashes_at q.0 q.1 other) (take (suc i) ps)) nodes (λ other _.
     let test : ℕ × Access → Bool = λ q. clashes_at q.0 q.1 other in
-    sym (ap (list_any test) (take-suc ps i p inside) ∙ list_any-append test (take i ps) (get_or ps i p ∷ []) ∙ ap (λ b. list_any test (take i ps) || b) (or-false (test (get_or ps i p)) ∙ ap test (sym at))))
+    sym (ap (list_any test) (take-suc ps i p inside) ∙ list_any-append test (take i ps) (get_or ps i p ∷ []) ∙ ap (λ b. list_any test (take i ps) || b) (or_false (test (get_or ps i p)) ∙ ap test (sym at))))
 
 -- ---- the walk
 
@@ -120,13 +119,11 @@ pub behind_first : (p : Node → Bool) (key : Key) (nodes : List Node) (node : N
 behind_first p key nodes node rest up is =
     let later : Contains (later_than key nodes) node = (from_filter p (later_than key nodes) node (subst (λ (l : List Node). Contains l node) (sym is) (here node rest))).0 in
     let past : is_past key node ≡ true = (from_filter (is_past key) nodes node later).1 in
-    let within : (other : Node) → is_past node.task.key other ≡ true → is_past key other ≡ true = λ other is_later. ap is_lt (key_cmp_total.trans key node.task.key other.task.key (Less_from_test _ past) (Less_from_test _ is_later)) in
+    let within : (other : Node) → is_past node.task.key other ≡ true → is_past key other ≡ true = λ other is_later. ap is_lt (key_cmp_total.trans key node.task.key other.task.key (less_from_test _ past) (less_from_test _ is_later)) in
     let up_found : IsAscending (tasks_of (node ∷ rest)) = subst (λ (l : List Node). IsAscending (tasks_of l)) is (ascending_filtered p (later_than key nodes) (ascending_filtered (is_past key) nodes up)) in
     ap (filter p) (sym (filter_within (is_past node.task.key) (is_past key) within nodes))
     ∙ filters_commute p (is_past node.task.key) (later_than key nodes) ∙ ap (filter (is_past node.task.key)) is ∙ dropped (is_past node.task.key) node rest (not_itself node.task.key)
     ∙ filter-all (is_past node.task.key) rest (all_later node.task.key rest up_found.0)
-
--- ---- the first of all later nodes, where a search among them may end
 
 -- ---- an early end
 

@@ -3,10 +3,9 @@ use Rattle.std.proofs.Common.{◌≡◌, ◌≢◌, ℕ, zero, suc, ◌<◌, ◌
 use Rattle.kdg_graph.proofs.Common.{Access, Accesses, AllBeyond, IsAscendingSet, access_at, absent_beyond, access_first, access_other, ascending_first, ascending_rest, Location, ids_for, lane_of, room_at, room_in, rooms_of, cases_eq, Read, Write, clash, excludes, NodeId, HasRoomFor, HasTakenFor, HaveNoLess, times_named, reserved_in, reserved_of, IsLaneAmong, clashes_at, clashing_at, put_if, without_if, Node, IsGraph, ids_of, is_at, node_at, put_node, without, take-length, flat_map-append, map-append, take_more, filter-append, Key, beyond_lower, AreFiledWith, is_same, lacking, midway, fronts_after, AreFiled, front_after, AreRefreshed, MarkedIds, is_unblocked, from_filter}
 use Rattle.kdg_graph.proofs.KeyOrder.{filter_with, filters_commute, no_more_kept, same_filter, is_before}
 use Rattle.kdg_graph.proofs.Lanes.{among_filtered, graph_among, length-ids}
-use Rattle.kdg_graph.proofs.LookUps.{ids_find_nodes, is_at-same}
+use Rattle.kdg_graph.proofs.LookUps.{ids_find_nodes}
 use Rattle.kdg_graph.proofs.Selecting.{length-put, retested_twice}
-
--- ---- lists of locations by the locations' numbers, and sets by their pairs
+use Rattle.kdg_graph.specs.NodeLaws.{is_at-same}
 
 -- ---- the location at a number
 
@@ -131,8 +130,6 @@ pair_found (q ∷ ps) (suc i) p up inside here =
     let beyond : q.0 < p.0 = subst (λ (r : ℕ × Access). q.0 < r.0) (sym here) (beyond_at q.0 ps i p (ascending_first q ps up) (omega (arith, inside))) in
     access_other q ps p.0 (λ same. omega (arith, same, beyond)) ∙ pair_found ps i p (ascending_rest q ps up) (omega (arith, inside)) here
 
--- ---- what the lanes of the locations are while a node is filed at one location after another
-
 -- ---- lanes that are filed
 
 pub filed_among : (nodes : List Node) (loc : ℕ) (access : Access) (ids : List NodeId) → IsGraph nodes → ids ≡ ids_of (clashing_at loc access nodes) → IsLaneAmong nodes (clashing_at loc access nodes) ids
@@ -252,8 +249,6 @@ again (x ∷ xs) (suc i) d e inside = again xs i d e (omega (arith, inside))
 pub no_ids : (nodes : List Node) → ids_of nodes ≡ [] → nodes ≡ []
 no_ids [] none = refl
 no_ids (node ∷ nodes) none = absurd (let wrong : node.id ∷ ids_of nodes ≡ [] = none in cc)
-
--- ---- what the lanes of the locations are while a node's set is exchanged at one location after another
 
 -- ---- the same access
 

@@ -1,9 +1,12 @@
 -- The places of the nodes that one node may block alone.
 use Rattle.std.proofs.Common.{◌≡◌, ℕ, zero, suc, ◌+◌, ◌-◌, ◌≤◌, Bool, true, false, cond, List, [], ◌∷◌, length, take, drop, Option, Some, None, refl, sym, ◌∙◌, ap, subst, arith, Contains, slice_get, filter, Less, is_lt, true≢false}
+use Rattle.plain_laws.specs.Orderings.{less_from_test}
+use Rattle.task_order.specs.KeyLaws.{not_past_earlier}
 use Rattle.kdg_graph.proofs.Common.{AllByRecursion, count_by-le-length, length-filter, false_from_ne_true, false≢true, Key, key_cmp, key_cmp_total, IsAscending, Access, Read, Write, access_at, allows_write, clash, writes, NodeId, IsRankPast, clashes_at, clashing_at, front_after, up_to_writer, Node, IsGraph, ids_of, later_than, least_of, node_at, tasks_of, from_filter, here}
-use Rattle.kdg_graph.proofs.KeyOrder.{ascending_filtered, dropped, filters_commute, kept, Less_from_test, not_itself, turned, drop_past, is_past}
+use Rattle.kdg_graph.proofs.KeyOrder.{dropped, filters_commute, kept, not_itself, drop_past, is_past}
 use Rattle.kdg_graph.proofs.Lanes.{length-ids}
 use Rattle.kdg_graph.proofs.LookUps.{key_later, nodes_have_ids}
+use Rattle.kdg_graph.specs.NodeLaws.{ascending_filtered}
 
 -- ---- the nodes behind a place
 
@@ -102,7 +105,7 @@ starts_by : (loc : ℕ) (node writer : Node) (nodes rest : List Node) (test : Bo
 starts_by loc node writer nodes rest true all is first = let same : node ≡ writer = cc in subst (λ (n : Node). is_past n.task.key node ≡ false) same (not_itself node.task.key)
 starts_by loc node writer nodes rest false all is first =
     let has : Contains nodes writer = (from_filter (clashes_at loc Read) nodes writer (subst (λ (l : List Node). Contains l writer) (sym first) (here writer rest))).0 in
-    turned node.task.key writer.task.key (key_later node nodes writer all has)
+    not_past_earlier node.task.key writer.task.key (key_later node nodes writer all has)
 
 -- up to the place that is past the first writer
 pub up_to_first : (loc : ℕ) (writer : Node) (nodes rest : List Node) (place : ℕ) → IsAscending (tasks_of nodes) → clashing_at loc Read nodes ≡ writer ∷ rest → IsRankPast writer.task.key nodes place → take place nodes ≡ up_to_writer loc nodes
@@ -116,7 +119,7 @@ up_to_first loc writer (node ∷ nodes) rest (suc place) up first rank =
 
 -- what isn't past a key isn't past a later one
 not_past : (key : Key) (writer node : Node) → is_past key writer ≡ true → is_past key node ≡ false → is_past writer.task.key node ≡ false
-not_past key writer node later is = false_from_ne_true _ (λ past. true≢false (sym (ap is_lt (key_cmp_total.trans key writer.task.key node.task.key (Less_from_test _ later) (Less_from_test _ past))) ∙ is))
+not_past key writer node later is = false_from_ne_true _ (λ past. true≢false (sym (ap is_lt (key_cmp_total.trans key writer.task.key node.task.key (less_from_test _ later) (less_from_test _ past))) ∙ is))
 
 pub ends_behind : (key : Key) (writer : Node) (nodes : List Node) (start end : ℕ) → is_past key writer ≡ true → IsRankPast key nodes start → IsRankPast writer.task.key nodes end → start ≤ end
 ends_behind key writer nodes zero end later from to = omega arith

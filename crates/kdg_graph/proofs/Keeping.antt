@@ -2,6 +2,7 @@
 use Rattle.std.proofs.Common.{◌≡◌, ◌≢◌, ℕ, zero, suc, Bool, true, false, cond, unwrap_or, Some, None, List, [], ◌∷◌, map, set, refl, sym, ◌∙◌, ap, subst, insert, remove, option_map, is_lt}
 use Rattle.kdg_graph.proofs.Common.{AllByRecursion, cond_both, IsAscending, IsNewKey, PutsKeepAscending, key_cmp, Accesses, IsAscendingSet, NodeId, SetChange, Node, IsGraph, HaveOwnIds, HaveSets, ids_of, is_at, put_node, started, tasks_of, set_after, with_sets}
 use Rattle.kdg_graph.proofs.KeyOrder.{tasks-put_node}
+use Rattle.kdg_graph.specs.NodeLaws.{start, start_keeps_id, start_keeps_task}
 
 -- ---- a change that keeps each node's id and task
 
@@ -33,15 +34,6 @@ graph_map f keeps_task keeps_id keeps_set nodes graph = record {
 }
 
 -- ---- a node is started
-
-abbrev pub start : NodeId → Node → Node
-start id node = cond (is_at id node) (record node { running = true }) node
-
-pub start_keeps_task : (id : NodeId) (node : Node) → (start id node).task ≡ node.task
-start_keeps_task id node = elim (is_at id node) as (λ test. (let n : Node = cond test (record node { running = true }) node in n.task) ≡ node.task) [ true ↦ refl | false ↦ refl ]
-
-pub start_keeps_id : (id : NodeId) (node : Node) → (start id node).id ≡ node.id
-start_keeps_id id node = elim (is_at id node) as (λ test. (let n : Node = cond test (record node { running = true }) node in n.id) ≡ node.id) [ true ↦ refl | false ↦ refl ]
 
 start_keeps_set : (id : NodeId) (node : Node) → IsAscendingSet node.set → IsAscendingSet (start id node).set
 start_keeps_set id node set = elim (is_at id node) as (λ test. IsAscendingSet (let n : Node = cond test (record node { running = true }) node in n.set)) [ true ↦ set | false ↦ set ]

@@ -1,8 +1,11 @@
 -- Nodes in key order, filters of them, and the place of a key among them.
-use Rattle.std.proofs.Common.{◌≡◌, ℕ, zero, suc, ◌<◌, ◌≤◌, Bool, true, false, cond, List, [], ◌∷◌, length, get_or, Option, Some, None, refl, sym, ◌∙◌, ap, arith, filter, insert, Ordering, Less, Equal, Greater, is_eq, is_lt, ◌&&◌, not, subst, Contains, true≢false, drop}
+use Rattle.std.proofs.Common.{◌≡◌, ℕ, zero, suc, ◌<◌, ◌≤◌, Bool, true, false, cond, List, [], ◌∷◌, length, get_or, Option, Some, None, refl, sym, ◌∙◌, ap, arith, filter, insert, Ordering, Less, Equal, Greater, is_eq, is_lt, not, subst, Contains, true≢false, drop}
 use Rattle.std.specs.List.Sorted.{IsPartitionedBy, IsPartitionPoint}
+use Rattle.plain_laws.specs.Orderings.{less_from_test, equal_from_test}
+use Rattle.task_order.specs.KeyLaws.{not_past_earlier}
 use Rattle.kdg_graph.proofs.Common.{AllByRecursion, tied_itself, ordering_reverse, Key, Task, key_cmp, key_cmp_total, IsAscending, put_in, Node, node_with_key, put_node, tasks_of, cond_both, false_from_ne_true, NodeId, put_if, IsGraph, is_at, node_at, without, here, there, IsRank, IsRankPast, later_than}
-use Rattle.kdg_graph.proofs.LookUps.{ids_find_nodes, key_later, none_at, same_id, without_none, Equal_from_test}
+use Rattle.kdg_graph.proofs.LookUps.{ids_find_nodes, key_later, none_at, without_none}
+use Rattle.kdg_graph.specs.NodeLaws.{same_id, ascending_filtered}
 
 -- ---- nodes in key order
 
@@ -21,15 +24,10 @@ tasks-put_node node (other ∷ nodes) =
 abbrev pub is_before : Key → Node → Bool
 is_before key node = is_lt (key_cmp node.task.key key)
 
-pub Less_from_test : (o : Ordering) → is_lt o ≡ true → o ≡ Less
-Less_from_test Less is = refl
-Less_from_test Equal is = cc
-Less_from_test Greater is = cc
-
 -- an earlier node has only earlier ones before it
 first_earlier : (key : Key) (node : Node) (nodes : List Node) → AllByRecursion (λ other. key_cmp node.task.key other.key ≡ Less) (tasks_of nodes) → (j : ℕ) (d : Node) → j < length nodes → is_before key (get_or nodes j d) ≡ true → is_before key node ≡ true
 first_earlier key node [] all j d inside earlier = absurd (omega (arith, inside))
-first_earlier key node (other ∷ nodes) all zero d inside earlier = ap is_lt (key_cmp_total.trans node.task.key other.task.key key all.0 (Less_from_test _ earlier))
+first_earlier key node (other ∷ nodes) all zero d inside earlier = ap is_lt (key_cmp_total.trans node.task.key other.task.key key all.0 (less_from_test _ earlier))
 first_earlier key node (other ∷ nodes) all (suc j) d inside earlier = first_earlier key node nodes all.1 j d (omega (arith, inside)) earlier
 
 pub is_partitioned : (key : Key) (nodes : List Node) → IsAscending (tasks_of nodes) → IsPartitionedBy (is_before key) nodes
@@ -77,7 +75,7 @@ with_key_at_point key (node ∷ nodes) zero d up inside point =
     none_behind key node.task.key nodes (key_cmp_total.antisymm key node.task.key ∙ ap ordering_reverse greater) up.0 in
     by_test (is_eq (key_cmp node.task.key key)) node (node_with_key nodes key) rest
 with_key_at_point key (node ∷ nodes) (suc place) d up inside point =
-    let less : key_cmp node.task.key key ≡ Less = Less_from_test _ (point.0 0 node (omega arith) (omega arith)) in
+    let less : key_cmp node.task.key key ≡ Less = less_from_test _ (point.0 0 node (omega arith) (omega arith)) in
     ap (λ test. cond test (Some node) (node_with_key nodes key)) (ap is_eq less)
     ∙ with_key_at_point key nodes place d up.1 (omega (arith, inside)) ((λ k e from upto. point.0 (suc k) e (omega arith) (omega (arith, upto))), (λ k e from upto. point.1 (suc k) e (omega (arith, from)) (omega (arith, upto))))
 
@@ -91,21 +89,14 @@ pub no_key_past_all : (key : Key) (nodes : List Node) (place : ℕ) → length n
 no_key_past_all key [] place beyond point = refl
 no_key_past_all key (node ∷ nodes) zero beyond point = absurd (omega (arith, beyond))
 no_key_past_all key (node ∷ nodes) (suc place) beyond point =
-    let less : key_cmp node.task.key key ≡ Less = Less_from_test _ (point.0 0 node (omega arith) (omega arith)) in
+    let less : key_cmp node.task.key key ≡ Less = less_from_test _ (point.0 0 node (omega arith) (omega arith)) in
     ap (λ test. cond test (Some node) (node_with_key nodes key)) (ap is_eq less)
     ∙ no_key_past_all key nodes place (omega (arith, beyond)) ((λ k e from upto. point.0 (suc k) e (omega arith) (omega (arith, upto))), (λ k e from upto. point.1 (suc k) e (omega (arith, from)) (omega (arith, upto))))
 
 -- ---- filters, and orders of keys
 
-pub turned : (a b : Key) → key_cmp a b ≡ Less → is_lt (key_cmp b a) ≡ false
-turned a b earlier = ap is_lt (key_cmp_total.antisymm b a ∙ ap ordering_reverse earlier)
-
 pub not_itself : (key : Key) → is_lt (key_cmp key key) ≡ false
 not_itself key = ap is_lt (tied_itself key_cmp_total key)
-
-pub filter-all : (p : Node → Bool) (nodes : List Node) → AllByRecursion (λ node. p node ≡ true) nodes → filter p nodes ≡ nodes
-filter-all p [] all = refl
-filter-all p (node ∷ nodes) all = ap (λ test. cond test (node ∷ filter p nodes) (filter p nodes)) all.0 ∙ ap (λ rest. node ∷ rest) (filter-all p nodes all.1)
 
 pub all_later : (key : Key) (nodes : List Node) → AllByRecursion (λ other. key_cmp key other.key ≡ Less) (tasks_of nodes) → AllByRecursion (λ node. is_lt (key_cmp key node.task.key) ≡ true) nodes
 all_later key [] all = tt
@@ -115,8 +106,6 @@ pub earlier_at : (P : Task → Type 0) (nodes : List Node) (at : ℕ) (d : Node)
 earlier_at P [] at d inside all = absurd (omega (arith, inside))
 earlier_at P (node ∷ nodes) zero d inside all = all.0
 earlier_at P (node ∷ nodes) (suc at) d inside all = earlier_at P nodes at d (omega (arith, inside)) all.1
-
--- ---- filters of nodes in key order, where a node comes or goes
 
 -- ---- one step of a filter
 
@@ -145,15 +134,6 @@ same_filter p q (node ∷ nodes) same =
     let rest : filter p nodes ≡ filter q nodes = same_filter p q nodes (λ other has. same other (there node other nodes has)) in
     λ i. cond (same node (here node nodes) i) (node ∷ rest i) (rest i)
 
-pub filter_twice : (p q : Node → Bool) (nodes : List Node) → filter p (filter q nodes) ≡ filter (λ node. q node && p node) nodes
-filter_twice p q [] = refl
-filter_twice p q (node ∷ nodes) =
-    let rest = filter_twice p q nodes in
-    elim (q node) as (λ b. filter p (cond b (node ∷ filter q nodes) (filter q nodes)) ≡ cond (b && p node) (node ∷ filter (λ n. q n && p n) nodes) (filter (λ n. q n && p n) nodes)) [
-      | true ↦ ap (λ l. cond (p node) (node ∷ l) l) rest
-      | false ↦ rest
-    ]
-
 -- a test that is passed only where another is keeps no more
 pub no_more_kept : (p q : Node → Bool) (nodes : List Node) → ((node : Node) → p node ≡ true → q node ≡ true) → length (filter p nodes) ≤ length (filter q nodes)
 no_more_kept p q [] each = omega arith
@@ -165,20 +145,6 @@ no_more_kept p q (node ∷ nodes) each =
     ] in
     by_case (p node) (q node) (each node)
 
--- ---- what a filter keeps
-
-all_filtered : (P : Task → Type 0) (p : Node → Bool) (nodes : List Node) → AllByRecursion P (tasks_of nodes) → AllByRecursion P (tasks_of (filter p nodes))
-all_filtered P p [] all = tt
-all_filtered P p (node ∷ nodes) all =
-    let rest = all_filtered P p nodes all.1 in
-    cond_both (p node) (node ∷ filter p nodes) (filter p nodes) (λ (l : List Node). AllByRecursion P (tasks_of l)) (λ _. (all.0, rest)) (λ _. rest)
-
-pub ascending_filtered : (p : Node → Bool) (nodes : List Node) → IsAscending (tasks_of nodes) → IsAscending (tasks_of (filter p nodes))
-ascending_filtered p [] up = tt
-ascending_filtered p (node ∷ nodes) up =
-    let rest = ascending_filtered p nodes up.1 in
-    cond_both (p node) (node ∷ filter p nodes) (filter p nodes) (λ (l : List Node). IsAscending (tasks_of l)) (λ _. (all_filtered (λ other. key_cmp node.task.key other.key ≡ Less) p nodes up.0, rest)) (λ _. rest)
-
 -- ---- a node that comes
 
 -- where none is earlier it comes first
@@ -187,7 +153,7 @@ put_first node [] all = refl
 put_first node (other ∷ nodes) all = ap (λ test. cond test (other ∷ put_node node nodes) (node ∷ other ∷ nodes)) all.0
 
 not_before : (key first : Key) (other : Node) → is_lt (key_cmp first key) ≡ false → key_cmp first other.task.key ≡ Less → is_before key other ≡ false
-not_before key first other is later = false_from_ne_true _ (λ earlier. true≢false (sym (ap is_lt (key_cmp_total.trans first other.task.key key later (Less_from_test _ earlier))) ∙ is))
+not_before key first other is later = false_from_ne_true _ (λ earlier. true≢false (sym (ap is_lt (key_cmp_total.trans first other.task.key key later (less_from_test _ earlier))) ∙ is))
 
 pub none_before : (key first : Key) (nodes : List Node) → is_lt (key_cmp first key) ≡ false → AllByRecursion (λ other. key_cmp first other.key ≡ Less) (tasks_of nodes) → AllByRecursion (λ other. is_before key other ≡ false) nodes
 none_before key first [] is all = tt
@@ -284,10 +250,10 @@ past_cons key node some place is rank = record {
 
 -- an earlier node isn't later, nor is one at the key
 pub earlier_not_past : (key : Key) (node : Node) → is_before key node ≡ true → is_past key node ≡ false
-earlier_not_past key node is = turned node.task.key key (Less_from_test _ is)
+earlier_not_past key node is = not_past_earlier node.task.key key (less_from_test _ is)
 
 tied_not_past : (key : Key) (node : Node) → is_eq (key_cmp node.task.key key) ≡ true → is_past key node ≡ false
-tied_not_past key node is = ap is_lt (key_cmp_total.antisymm key node.task.key ∙ ap ordering_reverse (Equal_from_test _ is))
+tied_not_past key node is = ap is_lt (key_cmp_total.antisymm key node.task.key ∙ ap ordering_reverse (equal_from_test _ is))
 
 greater_left : (o : Ordering) → is_lt o ≡ false → is_eq o ≡ false → o ≡ Greater
 greater_left Less lt eq = absurd (true≢false lt)
@@ -306,7 +272,7 @@ all_past key first some tied all = record {
 
 pub past_tied : (key : Key) (some : List Node) (place : ℕ) (d : Node) → IsAscending (tasks_of some) → IsRank key some place → place < length some → is_eq (key_cmp (get_or some place d).task.key key) ≡ true → IsRankPast key some (suc place)
 past_tied key [] place d up rank inside is = absurd (omega (arith, inside))
-past_tied key (node ∷ some) zero d up rank inside is = past_cons key node some 0 (tied_not_past key node is) (all_past key node.task.key some (Equal_from_test _ is) up.0)
+past_tied key (node ∷ some) zero d up rank inside is = past_cons key node some 0 (tied_not_past key node is) (all_past key node.task.key some (equal_from_test _ is) up.0)
 past_tied key (node ∷ some) (suc place) d up rank inside is =
     past_cons key node some (suc place) (earlier_not_past key node (rank.point.0 0 node (omega arith) (omega arith))) (past_tied key some place d up.1 (rank_rest key node some place rank) (omega (arith, inside)) is)
 

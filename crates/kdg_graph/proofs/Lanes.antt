@@ -3,8 +3,9 @@ use Rattle.std.proofs.Common.{◌≡◌, ◌≢◌, ℕ, zero, suc, ◌<◌, Boo
 use Rattle.kdg_graph.proofs.Common.{AllByRecursion, cond_both, Slab, ContainsKey, Updates, get, key_cmp, NodeId, Node, HasNode, ids_of, is_at, node_at, put_node, AreStored, tied_itself, key_cmp_total, IsAscending, IsLane, IsRank, IsLaneAmong, HaveOwnIds, IsGraph, tasks_of, without, IsStored, nodes_of, all_at, all_from, from_filter, there}
 use Rattle.kdg_graph.proofs.Blocking.{same_found}
 use Rattle.kdg_graph.proofs.Keeping.{ids-insert, ids-remove}
-use Rattle.kdg_graph.proofs.KeyOrder.{ascending_filtered, insert_at_point, is_before, not_itself}
-use Rattle.kdg_graph.proofs.LookUps.{same_id, found_by_id, ids_find_nodes, nodes_have_ids, IsPlaceOf, id_at-place, place_inside, without-place, without_none}
+use Rattle.kdg_graph.proofs.KeyOrder.{insert_at_point, is_before, not_itself}
+use Rattle.kdg_graph.proofs.LookUps.{ids_find_nodes, nodes_have_ids, IsPlaceOf, id_at-place, place_inside, without-place, without_none}
+use Rattle.kdg_graph.specs.NodeLaws.{same_id, found_by_id, ascending_filtered}
 
 -- ---- nodes that are kept under their ids, and lists of these ids
 

@@ -3,14 +3,17 @@ use Rattle.std.proofs.Common.{◌≡◌, Bool, true, false, not, cond, List, [],
 use Rattle.std.proofs.Math.Bool.{and_assoc, and-true}
 use Rattle.std.proofs.lemmas.List.Elements.{filter_more}
 use Rattle.std.specs.Int.{from_bool}
+use Rattle.plain_laws.specs.Orderings.{less_from_test}
+use Rattle.plain_laws.specs.Lists.{filter-all, filter_both}
 use Rattle.kdg_graph.proofs.Common.{NodeId, Node, IsGraph, ids_of, node_at, sources_of, is_unblocked, not_running, runs, unblocked_of, from_filter, option_eq, false_from_ne_true, map-append, Contains-get_or, key_cmp_total, IsAscending, Absent, Arrival, Standing, is_id, is_id_at, HasNode, is_at, least_of, tasks_of, AreLeft, AreSome, IsInOrder, IsLeft, IsNext, MarkedIds, arrived, has_number, ids_in, is_recent, recent_among, recent_in, settled_among, settled_from, settled_in, is_among, is_behind, is_later, is_left, left_in, listed_in, all_at, from_map, here, in_filter, filter-map}
 use Rattle.kdg_graph.proofs.Blocking.{found_some, same_found}
 use Rattle.kdg_graph.proofs.Fronting.{some_first}
-use Rattle.kdg_graph.proofs.KeyOrder.{filter_twice, filters_commute, ascending_filtered, dropped, kept, same_filter, Less_from_test, all_later, filter-all, not_itself, is_past}
-use Rattle.kdg_graph.proofs.LookUps.{nodes_have_ids, same_id}
+use Rattle.kdg_graph.proofs.KeyOrder.{filters_commute, dropped, kept, same_filter, all_later, not_itself, is_past}
+use Rattle.kdg_graph.proofs.LookUps.{nodes_have_ids}
 use Rattle.kdg_graph.proofs.Ordered.{first_unblocked}
 use Rattle.kdg_graph.proofs.Searches.{inside_at}
 use Rattle.kdg_graph.proofs.Selecting.{among_append}
+use Rattle.kdg_graph.specs.NodeLaws.{same_id, ascending_filtered}
 
 -- ---- the sources are the unblocked nodes that are not running
 
@@ -23,9 +26,7 @@ not_running_unblocked nodes graph =
     let some : List Node = filter (is_unblocked nodes) nodes in
     filter-map (λ (n : Node). n.id) (λ id. not (runs nodes id)) some
     ∙ ap ids_of (same_filter (λ node. not (runs nodes node.id)) rests some (λ node has. ap not (runs_as_found nodes node.id node (nodes_have_ids nodes node graph (from_filter (is_unblocked nodes) nodes node has).0)))
-    ∙ filters_commute rests (is_unblocked nodes) nodes ∙ filter_twice (is_unblocked nodes) rests nodes)
-
--- ---- the nodes that are left behind the one that was looked at last, of those in order and those that came since
+    ∙ filters_commute rests (is_unblocked nodes) nodes ∙ filter_both (is_unblocked nodes) rests nodes)
 
 -- ---- the first that passes a test
 
@@ -106,7 +107,7 @@ rest_behind p q nodes head rest up is same =
     let later : Node → Bool = is_past head.task.key in
     let up_found : IsAscending (tasks_of (head ∷ rest)) = subst (λ (l : List Node). IsAscending (tasks_of l)) is (ascending_filtered p nodes up) in
     same_filter q (λ node. p node && later node) nodes (λ node _. same node)
-    ∙ sym (filter_twice later p nodes) ∙ ap (filter later) is ∙ dropped later head rest (not_itself head.task.key) ∙ filter-all later rest (all_later head.task.key rest up_found.0)
+    ∙ sym (filter_both later p nodes) ∙ ap (filter later) is ∙ dropped later head rest (not_itself head.task.key) ∙ filter-all later rest (all_later head.task.key rest up_found.0)
 
 -- what is later than a node that is behind another is behind it too
 later_still : (nodes : List Node) (last : Option NodeId) (head node : Node) → is_behind nodes last head ≡ true → is_past head.task.key node ≡ true → is_behind nodes last node ≡ true
@@ -115,7 +116,7 @@ later_still nodes (Some id) head node behind past = by_found (node_at nodes id) 
   where
     by_found : (found : Option Node) → is_later found head ≡ true → is_later found node ≡ true
     by_found None behind = refl
-    by_found (Some other) behind = ap is_lt (key_cmp_total.trans other.task.key head.task.key node.task.key (Less_from_test _ behind) (Less_from_test _ past))
+    by_found (Some other) behind = ap is_lt (key_cmp_total.trans other.task.key head.task.key node.task.key (less_from_test _ behind) (less_from_test _ past))
 
 -- a test that another implies
 both_tests : (behind past : Bool) → (past ≡ true → behind ≡ true) → past ≡ (behind && past)
@@ -177,7 +178,7 @@ left_among : (nodes : List Node) (ids more : List NodeId) (last : Option NodeId)
 left_among nodes ids more last =
     same_filter (is_left nodes ids last) (λ node. is_left nodes (ids ++ more) last node && is_among ids node) nodes (λ node _.
     by_tests (is_among ids node) (is_among more node) (is_behind nodes last node) ∙ sym (ap (λ b. (b && is_behind nodes last node) && is_among ids node) (among_append ids more node)))
-    ∙ sym (filter_twice (is_among ids) (is_left nodes (ids ++ more) last) nodes)
+    ∙ sym (filter_both (is_among ids) (is_left nodes (ids ++ more) last) nodes)
   where
     by_tests : (among came behind : Bool) → (among && behind) ≡ (((among || came) && behind) && among)
     by_tests true came true = refl

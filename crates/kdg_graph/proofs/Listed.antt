@@ -1,22 +1,26 @@
 -- Ids of nodes, some in key order and others that came since, where a node or an id changes.
-use Rattle.std.proofs.Common.{◌≡◌, inl, inr, ℕ, ◌<◌, ◌||◌, Bool, true, false, not, cond, List, [], ◌∷◌, ◌++◌, length, get_or, set, refl, sym, ◌∙◌, ap, eq-eqb, ◌==◌, ne_eqb, true≢false, get_or-set_other, IsPermutation, ◌≤◌, append-nil, Some, subst, Contains, IfSome, IsSome, None, filter, is_lt, ◌≢◌, ◌+◌, Option, arith, slice_get, option_map, nat_cmp, take, unwrap_or, Ordering, Less, Equal, Greater, map}
+use Rattle.std.proofs.Common.{◌≡◌, inl, inr, ℕ, ◌<◌, ◌||◌, Bool, true, false, not, cond, List, [], ◌∷◌, ◌++◌, length, get_or, set, refl, sym, ◌∙◌, ap, eq-eqb, ◌==◌, ne_eqb, true≢false, get_or-set_other, ◌≤◌, append-nil, Some, subst, Contains, IfSome, IsSome, None, filter, is_lt, ◌≢◌, ◌+◌, Option, arith, slice_get, option_map, nat_cmp, take, unwrap_or, Ordering, Less, Equal, Greater, map}
 use Rattle.std.proofs.Math.Bool.{or-true}
 use Rattle.std.proofs.Math.Seq.{take-append_seam}
 use Rattle.std.proofs.lemmas.List.{get_or-take, length-append, length-take-le, take_at, take_more}
 use Rattle.std.proofs.lemmas.Cmp.{nat_cmp_total, on_total, then_total, ranked}
 use Rattle.std.proofs.lemmas.List.MinMax.{ranks_by}
 use Rattle.std.specs.Cmp.Lexicographic.{options_total, nat_list_cmp_total, slice_cmp}
+use Rattle.std.proofs.lemmas.Bool.{or_parts}
+use Rattle.plain_laws.specs.Lists.{All-pushed}
+use Rattle.plain_laws.specs.Options.{if_some_at}
 use Rattle.task_order.specs.PathCode.{path_beginning}
-use Rattle.kdg_graph.proofs.Common.{cases_eq, get_or-set_at, list_any-append, Arrival, NodeId, Standing, Absent, Node, ids_of, is_at, put_node, without, AreMarked, arrived, has_number, is_recent, is_settled, IsStrictWeakOrder, IsTotalOrder, AllByRecursion, All-from_recursion, recursion_from_All, All-permutation, key_cmp_total, HasNode, IsGraph, node_at, IsLaneAmong, AreSelected, HaveMarks, IsInOrder, MarkedIds, arrival_cmp, forgotten, ids_in, is_among, key_at, listed_in, recent_in, retested, settled_in, all_at, in_map, option_cmp, ordering_reverse, ordering_then, get_or_default, recent_among, TellsItsKey, sorted_far, get_or_from_slice_get, slice_get_within, Key, key_cmp, LowerBeginningsComeFirst, Settled, Recent, AreLater, AreInTurn, IsArrival, all_from, false_from_ne_true, length-map, SetChange, HaveOwnIds, started, with_sets, AreSome, from_filter, from_map, in_filter, none_any, none_found, filter-map}
+use Rattle.kdg_graph.proofs.Common.{cases_eq, get_or-set_at, list_any-append, Arrival, NodeId, Standing, Absent, Node, ids_of, is_at, put_node, without, AreMarked, arrived, has_number, is_recent, is_settled, IsStrictWeakOrder, IsTotalOrder, AllByRecursion, key_cmp_total, HasNode, IsGraph, node_at, IsLaneAmong, AreSelected, HaveMarks, IsInOrder, MarkedIds, arrival_cmp, forgotten, ids_in, is_among, key_at, listed_in, recent_in, retested, settled_in, all_at, in_map, option_cmp, ordering_reverse, ordering_then, get_or_default, recent_among, TellsItsKey, sorted_far, get_or_from_slice_get, slice_get_within, Key, key_cmp, LowerBeginningsComeFirst, Settled, Recent, AreLater, AreInTurn, IsArrival, all_from, false_from_ne_true, length-map, SetChange, HaveOwnIds, started, with_sets, AreSome, from_filter, from_map, in_filter, none_any, none_found, filter-map}
 use Rattle.kdg_graph.proofs.Blocking.{any_from}
-use Rattle.kdg_graph.proofs.Keeping.{changed, ids-map, start, start_keeps_id}
+use Rattle.kdg_graph.proofs.Keeping.{changed, ids-map}
 use Rattle.kdg_graph.proofs.KeyOrder.{is_before, same_filter, put_dropped, put_without}
-use Rattle.kdg_graph.proofs.LookUps.{ids_find_nodes, nodes_have_ids, is_at-same, not_at, same_id}
+use Rattle.kdg_graph.proofs.LookUps.{ids_find_nodes, nodes_have_ids}
 use Rattle.kdg_graph.proofs.Ordered.{length-without}
 use Rattle.kdg_graph.proofs.Rewrites.{in_put_old}
 use Rattle.kdg_graph.proofs.Searches.{same_key}
-use Rattle.kdg_graph.proofs.Selecting.{among_selected, at_some, found_node, has_room, put_in_place, some_of_lane, taken_out, among_append}
-use Rattle.kdg_graph.proofs.Settling.{neither, without_put}
+use Rattle.kdg_graph.proofs.Selecting.{among_selected, has_room, put_in_place, some_of_lane, taken_out, among_append}
+use Rattle.kdg_graph.proofs.Settling.{without_put}
+use Rattle.kdg_graph.specs.NodeLaws.{same_id, is_at-same, not_at, found_node, start, start_keeps_id}
 
 -- ---- which numbers the ids of a list have, and the marks of them, where one id comes in or goes out
 
@@ -123,9 +127,6 @@ arrivals_total nodes =
 pub earliest_first : (nodes : List Node) → IsStrictWeakOrder (λ (a b : Arrival). is_lt (arrival_cmp nodes a b))
 earliest_first nodes = ranks_by (arrivals_total nodes) (λ (a : Arrival). a)
 
-pub all_moved : {X : Type 0} (P : X → Type 0) (xs ys : List X) → AllByRecursion P xs → IsPermutation xs ys → AllByRecursion P ys
-all_moved P xs ys all moved = recursion_from_All P ys (All-permutation P xs ys moved (All-from_recursion P xs all))
-
 -- once all of them have their places, the same ids are in order
 pub all_placed : (nodes : List Node) (before : MarkedIds) (ids : List NodeId) → ((at : ℕ) → has_number at ids ≡ (has_number at (settled_in before) || has_number at (arrived (recent_in before)))) → in_order_of nodes (ids ++ []) ≡ listed_in nodes before
 all_placed nodes before ids same = same_in_order nodes (ids_in before) (ids ++ []) (λ at. ap (has_number at) (append-nil ids) ∙ same at ∙ sym (has_either before at))
@@ -157,7 +158,7 @@ set_by_putting nodes id before ids graph there in_order puts =
     let some : List Node = filter (is_among before) nodes in
     let found = found_node nodes id there in
     set_by_put id found.0 some before ids (ids_find_nodes nodes id found.0 found.1).1 in_order
-    (at_some (λ (n : Node). ids ≡ ids_of (put_node n some)) (node_at nodes id) found.0 found.1 (puts some (lane_in_order nodes before graph in_order)))
+    (if_some_at (λ (n : Node). ids ≡ ids_of (put_node n some)) (node_at nodes id) found.0 found.1 (puts some (lane_in_order nodes before graph in_order)))
 
 -- whether the node with an id is among others
 among_by_id : (nodes : List Node) (id : NodeId) (node : Node) (ids : List NodeId) (answer : Bool) → node_at nodes id ≡ Some node → has_number id.at ids ≡ answer → is_among ids node ≡ answer
@@ -351,16 +352,11 @@ pub record ArePut (nodes : List Node) (before : List NodeId) (was : List Standin
   pub marked : AreMarkedSoFar before was left ids standings
   pub reached : IsReached nodes ids end left
 
--- what holds of all but the last, and of the last
-pub all_but_last : {X : Type 0} (P : X → Type 0) (xs : List X) (x : X) → AllByRecursion P (xs ++ x ∷ []) → AllByRecursion P xs × P x
-all_but_last P [] x all = (tt, all.0)
-all_but_last P (first ∷ xs) x all = let rest = all_but_last P xs x all.1 in ((all.0, rest.0), rest.1)
-
 pub put_rest : (nodes : List Node) (before : List NodeId) (was : List Standing) (rest : List Arrival) (arrival : Arrival) (ids : List NodeId) (standings : List Standing) (end : ℕ) → ArePut nodes before was (rest ++ arrival ∷ []) ids standings end → get_or standings arrival.id.at Absent ≢ Recent → ArePut nodes before was rest ids standings end
 put_rest nodes before was rest arrival ids standings end put other = record {
   in_order = put.in_order;
   marked = marked_rest before was rest arrival ids standings put.marked other;
-  reached = (all_but_last _ rest arrival put.reached).0;
+  reached = (All-pushed _ rest arrival put.reached).0;
 }
 
 pub put_next : LowerBeginningsComeFirst → (nodes : List Node) (before : List NodeId) (was : List Standing) (all rest : List Arrival) (arrival : Arrival) (has : Contains all arrival) (ids now : List NodeId) (standings : List Standing) (end place : ℕ) → IsGraph nodes → AreInTurn nodes all → (1 < length all → AllByRecursion (TellsItsKey nodes) all)
@@ -394,15 +390,13 @@ room_next nodes before was left arrival ids standings end room graph there put i
 -- and is that of an earlier node than those from the place that was reached on
 pub known_next : (nodes : List Node) (before : List NodeId) (was : List Standing) (rest : List Arrival) (arrival : Arrival) (ids : List NodeId) (standings : List Standing) (end : ℕ) → ArePut nodes before was (rest ++ arrival ∷ []) ids standings end → get_or standings arrival.id.at Absent ≡ Recent
     → IfSome (node_at nodes arrival.id) (λ (node : Node). AreLater nodes node.task.key ids end)
-known_next nodes before was rest arrival ids standings end put is = (all_but_last _ rest arrival put.reached).1 (absent_recent before was (rest ++ arrival ∷ []) ids standings arrival.id.at put.marked is)
+known_next nodes before was rest arrival ids standings end put is = (All-pushed _ rest arrival put.reached).1 (absent_recent before was (rest ++ arrival ∷ []) ids standings arrival.id.at put.marked is)
 
 -- and is that of a node
 pub there_next : (nodes : List Node) (before : List NodeId) (was : List Standing) (all left : List Arrival) (arrival : Arrival) (ids : List NodeId) (standings : List Standing) (end : ℕ) → AllByRecursion (λ a. HasNode nodes a.id) (recent_among was all) → Contains all arrival → ArePut nodes before was left ids standings end → get_or standings arrival.id.at Absent ≡ Recent
     → HasNode nodes arrival.id
 there_next nodes before was all left arrival ids standings end there has put is =
     all_at (λ (a : Arrival). HasNode nodes a.id) (recent_among was all) arrival there (in_filter (λ (a : Arrival). is_recent (get_or was a.id.at Absent)) all arrival has (put.marked.came arrival.id.at (ap is_recent is)))
-
--- ---- the listed ids where the nodes change and the lists stay
 
 -- ---- whose ids are listed
 
@@ -414,7 +408,7 @@ number_listed nodes test some id node graph found is =
 
 -- what is not listed is in neither list
 in_neither : (some : MarkedIds) (node : Node) → is_among (ids_in some) node ≡ false → (is_among (settled_in some) node ≡ false) × (is_among (arrived (recent_in some)) node ≡ false)
-in_neither some node apart = neither (is_among (settled_in some) node) (is_among (arrived (recent_in some)) node) (sym (among_append (settled_in some) (arrived (recent_in some)) node) ∙ apart)
+in_neither some node apart = or_parts (is_among (settled_in some) node) (is_among (arrived (recent_in some)) node) (sym (among_append (settled_in some) (arrived (recent_in some)) node) ∙ apart)
 
 -- an id that came is that of a node
 came_as : (nodes : List Node) (recent : List Arrival) (arrival : Arrival) → AllByRecursion (λ a. HasNode nodes a.id) recent → Contains recent arrival → (node : Node) × Contains nodes node × (node.id ≡ arrival.id)

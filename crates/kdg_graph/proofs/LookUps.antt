@@ -1,23 +1,10 @@
 -- Nodes are found by their ids and by their keys.
-use Rattle.std.proofs.Common.{◌≡◌, ◌≢◌, ℕ, zero, suc, ◌<◌, Bool, true, false, not, cond, List, [], ◌∷◌, length, map, get_or, Some, refl, sym, ◌∙◌, ap, arith, eqb-true, eq-eqb, remove, inl, inr, None, subst, Contains, filter, Ordering, Less, Equal, Greater, is_eq, true≢false}
-use Rattle.kdg_graph.proofs.Common.{AllByRecursion, NodeId, Node, HaveOwnIds, is_at, node_at, without, tied_itself, Key, IsExactOrder, key_cmp, key_cmp_total, IsAscending, IsNewKey, ids_of, node_with_key, tasks_of, IdsFindNodes, IdsFindTheirNodes, KeysFindNodes, LeastIsEarliest, NewKeysFindNone, NodesHaveIds, NodesHaveKeys, NoneIsLeastOfNone, all_at, cases, from_filter, here, none, there}
-
--- ---- the place of a node by its id, and what a change there does
-
--- ---- ids and their test
-
-pub same_id : (id : NodeId) (node : Node) → is_at id node ≡ true → node.id ≡ id
-same_id id node is = ap (λ n. let made : NodeId = record { at = n } in made) (eqb-true node.id.at id.at is)
-
-pub is_at-same : (id : NodeId) (node : Node) → node.id ≡ id → is_at id node ≡ true
-is_at-same id node same = eq-eqb node.id.at id.at (ap (λ (other : NodeId). other.at) same)
-
-not_at_by : (id : NodeId) (node : Node) (test : Bool) → is_at id node ≡ test → node.id ≢ id → test ≡ false
-not_at_by id node true is differ = absurd (differ (same_id id node is))
-not_at_by id node false is differ = refl
-
-pub not_at : (id : NodeId) (node : Node) → node.id ≢ id → is_at id node ≡ false
-not_at id node differ = not_at_by id node _ refl differ
+use Rattle.std.proofs.Common.{◌≡◌, ◌≢◌, ℕ, zero, suc, ◌<◌, Bool, true, false, not, cond, List, [], ◌∷◌, length, map, get_or, Some, refl, sym, ◌∙◌, ap, arith, remove, inl, inr, None, subst, Contains, filter, Less, is_eq, true≢false}
+use Rattle.plain_laws.specs.Options.{some_injective}
+use Rattle.plain_laws.specs.Orderings.{equal_from_test}
+use Rattle.task_order.specs.KeyLaws.{differ_from_earlier}
+use Rattle.kdg_graph.proofs.Common.{AllByRecursion, NodeId, Node, HaveOwnIds, is_at, node_at, without, tied_itself, Key, IsExactOrder, key_cmp, key_cmp_total, IsAscending, IsNewKey, ids_of, node_with_key, tasks_of, IdsFindNodes, IdsFindTheirNodes, KeysFindNodes, LeastIsEarliest, NewKeysFindNone, NodesHaveIds, NodesHaveKeys, NoneIsLeastOfNone, cases, from_filter, here, none, there}
+use Rattle.kdg_graph.specs.NodeLaws.{same_id, is_at-same, not_at, found_by_id}
 
 -- ---- the place of a node
 
@@ -60,21 +47,7 @@ pub map_none : (f : Node → Node) (id : NodeId) (nodes : List Node) → ((node 
 map_none f id [] keeps all = refl
 map_none f id (node ∷ nodes) keeps all = λ i. keeps node all.0 i ∷ map_none f id nodes keeps all.1 i
 
--- ---- nodes are found by their ids and by their keys
-
-Some-injective : {X : Type 0} (a b : X) → Some a ≡ Some b → a ≡ b
-Some-injective a b same = cc
-
 -- ---- by id
-
-pub found_by_id : (nodes : List Node) (node : Node) → HaveOwnIds nodes → Contains nodes node → node_at nodes node.id ≡ Some node
-found_by_id [] node own has = absurd (none node has)
-found_by_id (other ∷ nodes) node own has = elim (cases other node nodes has) [
-  | inl same ↦ ap (λ test. cond test (Some other) (node_at nodes node.id)) (is_at-same node.id other (ap (λ (n : Node). n.id) same)) ∙ ap Some same
-  | inr later ↦
-      ap (λ test. cond test (Some other) (node_at nodes node.id)) (not_at node.id other (λ same. all_at (λ (n : Node). n.id ≢ other.id) nodes node own.0 later (sym same)))
-      ∙ found_by_id nodes node own.1 later
-]
 
 pub nodes_have_ids : NodesHaveIds
 nodes_have_ids nodes node graph has = found_by_id nodes node graph.own_ids has
@@ -83,17 +56,12 @@ pub ids_find_nodes : IdsFindNodes
 ids_find_nodes [] id node is = cc
 ids_find_nodes (other ∷ nodes) id node is =
     let by_case : (test : Bool) → is_at id other ≡ test → cond test (Some other) (node_at nodes id) ≡ Some node → Contains (other ∷ nodes) node × (node.id ≡ id) = elim [
-      | true ↦ λ at found. let same : other ≡ node = Some-injective other node found in (subst (λ (n : Node). Contains (other ∷ nodes) n) same (here other nodes), sym (ap (λ (n : Node). n.id) same) ∙ same_id id other at)
+      | true ↦ λ at found. let same : other ≡ node = some_injective other node found in (subst (λ (n : Node). Contains (other ∷ nodes) n) same (here other nodes), sym (ap (λ (n : Node). n.id) same) ∙ same_id id other at)
       | false ↦ λ _ found. let rest : Contains nodes node × (node.id ≡ id) = ids_find_nodes nodes id node found in (there other node nodes rest.0, rest.1)
     ] in
     by_case (is_at id other) refl is
 
 -- ---- by key
-
-pub Equal_from_test : (o : Ordering) → is_eq o ≡ true → o ≡ Equal
-Equal_from_test Less is = cc
-Equal_from_test Equal is = refl
-Equal_from_test Greater is = cc
 
 abbrev has_key : Key → Node → Bool
 has_key key node = is_eq (key_cmp node.task.key key)
@@ -102,15 +70,11 @@ test_from_key : (key : Key) (node : Node) → node.task.key ≡ key → has_key 
 test_from_key key node same = ap (λ k. is_eq (key_cmp k key)) same ∙ ap is_eq (tied_itself key_cmp_total key)
 
 key_from_test : IsExactOrder → (key : Key) (node : Node) → has_key key node ≡ true → node.task.key ≡ key
-key_from_test exact key node is = exact node.task.key key (Equal_from_test _ is)
+key_from_test exact key node is = exact node.task.key key (equal_from_test _ is)
 
 not_by : IsExactOrder → (key : Key) (node : Node) (test : Bool) → has_key key node ≡ test → node.task.key ≢ key → test ≡ false
 not_by exact key node true is differ = absurd (differ (key_from_test exact key node is))
 not_by exact key node false is differ = refl
-
--- a later key is another one
-differs_from_earlier : (a b : Key) → key_cmp a b ≡ Less → a ≢ b
-differs_from_earlier a b earlier same = let tied : key_cmp a b ≡ Equal = ap (λ k. key_cmp k b) same ∙ tied_itself key_cmp_total b in cc
 
 pub key_later : (node : Node) (nodes : List Node) (other : Node) → AllByRecursion (λ task. key_cmp node.task.key task.key ≡ Less) (tasks_of nodes) → Contains nodes other → key_cmp node.task.key other.task.key ≡ Less
 key_later node [] other all has = absurd (none other has)
@@ -121,7 +85,7 @@ found_by_key exact [] node up has = absurd (none node has)
 found_by_key exact (other ∷ nodes) node up has = elim (cases other node nodes has) [
   | inl same ↦ ap (λ test. cond test (Some other) (node_with_key nodes node.task.key)) (test_from_key node.task.key other (ap (λ (n : Node). n.task.key) same)) ∙ ap Some same
   | inr later ↦
-      ap (λ test. cond test (Some other) (node_with_key nodes node.task.key)) (not_by exact node.task.key other _ refl (differs_from_earlier other.task.key node.task.key (key_later other nodes node up.0 later)))
+      ap (λ test. cond test (Some other) (node_with_key nodes node.task.key)) (not_by exact node.task.key other _ refl (differ_from_earlier other.task.key node.task.key (key_later other nodes node up.0 later)))
       ∙ found_by_key exact nodes node up.1 later
 ]
 
@@ -132,7 +96,7 @@ pub keys_find_nodes : IsExactOrder → KeysFindNodes
 keys_find_nodes exact [] key node is = cc
 keys_find_nodes exact (other ∷ nodes) key node is =
     let by_case : (test : Bool) → has_key key other ≡ test → cond test (Some other) (node_with_key nodes key) ≡ Some node → Contains (other ∷ nodes) node × (node.task.key ≡ key) = elim [
-      | true ↦ λ at found. let same : other ≡ node = Some-injective other node found in (subst (λ (n : Node). Contains (other ∷ nodes) n) same (here other nodes), sym (ap (λ (n : Node). n.task.key) same) ∙ key_from_test exact key other at)
+      | true ↦ λ at found. let same : other ≡ node = some_injective other node found in (subst (λ (n : Node). Contains (other ∷ nodes) n) same (here other nodes), sym (ap (λ (n : Node). n.task.key) same) ∙ key_from_test exact key other at)
       | false ↦ λ _ found. let rest : Contains nodes node × (node.task.key ≡ key) = keys_find_nodes exact nodes key node found in (there other node nodes rest.0, rest.1)
     ] in
     by_case (has_key key other) refl is
@@ -168,7 +132,7 @@ ids_find_their_nodes nodes test graph = found_each nodes (filter test nodes) gra
 pub least_is_earliest : LeastIsEarliest
 least_is_earliest [] id graph is = cc
 least_is_earliest (node ∷ nodes) id graph is =
-    let same : node.id ≡ id = Some-injective node.id id is in (
+    let same : node.id ≡ id = some_injective node.id id is in (
       node,
       ap (λ test. cond test (Some node) (node_at nodes id)) (is_at-same id node same),
       λ other has differs. elim (cases node other nodes has) [

@@ -6,21 +6,19 @@ use Rattle.std.specs.Int.{from_bool}
 use Rattle.std.specs.List.{remove}
 use Rattle.std.proofs.lemmas.List.{take-append-le}
 use Rattle.std.proofs.lemmas.List.Elements.{Contains-push_cases, filter_agree, filter_more}
-use Rattle.kdg_graph.proofs.Common.{cases_eq, count_by-le-length, drop_more, get_or_from_slice_get, slice_get_within, list_any-IsPermutation, and_parts, from_map, in_map, length-filter, take_more, AllByRecursion, Arrival, NodeId, Standing, Absent, Recent, Settled, Node, HasNode, HaveOwnIds, IsGraph, ids_of, is_at, without, IsLaneAmong, IsInOrder, AreForgotten, AreMarked, AreRetested, AreSome, HasGone, HaveMarks, IsNext, MarkedIds, arrived, ids_in, listed_in, recent_in, settled_from, settled_in, has_number, is_among, is_recent, is_settled, recent_among, settled_among, all_at, all_from, from_filter, in_filter, here, there, filter-map, false_from_ne_true}
+use Rattle.std.proofs.lemmas.Bool.{or_parts}
+use Rattle.plain_laws.specs.Lists.{filter_both, filter_again}
+use Rattle.plain_laws.specs.Members.{filter_of_all}
+use Rattle.plain_laws.specs.Bools.{and_false}
+use Rattle.kdg_graph.proofs.Common.{cases_eq, count_by-le-length, drop_more, get_or_from_slice_get, slice_get_within, list_any-IsPermutation, and_parts, from_map, in_map, length-filter, take_more, AllByRecursion, Arrival, NodeId, Standing, Absent, Recent, Settled, Node, HasNode, HaveOwnIds, IsGraph, ids_of, is_at, without, IsLaneAmong, IsInOrder, AreForgotten, AreMarked, AreRetested, AreSome, HasGone, HaveMarks, IsNext, MarkedIds, arrived, ids_in, listed_in, recent_in, settled_from, settled_in, has_number, is_among, is_recent, is_settled, recent_among, settled_among, all_at, all_from, from_filter, in_filter, here, filter-map, false_from_ne_true}
 use Rattle.kdg_graph.proofs.Blocking.{any_from}
 use Rattle.kdg_graph.proofs.Lanes.{among_own_ids, length-ids, same_by_number}
-use Rattle.kdg_graph.proofs.LookUps.{ids_find_nodes, none_at, same_id, without_none}
+use Rattle.kdg_graph.proofs.LookUps.{ids_find_nodes, none_at, without_none}
 use Rattle.kdg_graph.proofs.Rooms.{all_mapped}
-use Rattle.kdg_graph.proofs.Selecting.{found_node}
-use Rattle.kdg_graph.proofs.Settling.{neither}
 use Rattle.kdg_graph.proofs.Listed.{ArePut, IsPutInto, IsReached, IsSetIn, IsTakenFrom, has_either, has_mark, number_listed, in_order_putting, in_order_taking, lane_in_order, mark_set, marked_set, reached_end, selected_set, set_as_it_is, set_by_arrival, set_by_putting, set_in_either}
+use Rattle.kdg_graph.specs.NodeLaws.{same_id, found_node}
 
 -- ---- filters of any list
-
--- what all pass
-pub filter_all : {X : Type 0} (p : X → Bool) (xs : List X) → ((x : X) → Contains xs x → p x ≡ true) → filter p xs ≡ xs
-filter_all p [] each = refl
-filter_all p (x ∷ xs) each = ap (λ b. cond b (x ∷ filter p xs) (filter p xs)) (each x (here x xs)) ∙ ap (λ l. x ∷ l) (filter_all p xs (λ y has. each y (there x y xs has)))
 
 -- what is as long as before
 pub filter_full : {X : Type 0} (p : X → Bool) (xs : List X) → length xs ≤ length (filter p xs) → filter p xs ≡ xs
@@ -31,21 +29,6 @@ filter_full p (x ∷ xs) fits =
       | false ↦ λ some. absurd (omega (arith, some, length-filter p xs, count_by-le-length p xs))
     ] in
     by_case (p x) fits
-
-pub filter_both : {X : Type 0} (p q : X → Bool) (xs : List X) → filter p (filter q xs) ≡ filter (λ x. q x && p x) xs
-filter_both p q [] = refl
-filter_both p q (x ∷ xs) =
-    elim (q x) as (λ b. filter p (cond b (x ∷ filter q xs) (filter q xs)) ≡ cond (b && p x) (x ∷ filter (λ y. q y && p y) xs) (filter (λ y. q y && p y) xs)) [
-      | true ↦ ap (λ l. cond (p x) (x ∷ l) l) (filter_both p q xs)
-      | false ↦ filter_both p q xs
-    ]
-
-pub filter_again : {X : Type 0} (p : X → Bool) (xs : List X) → filter p (filter p xs) ≡ filter p xs
-filter_again p xs = filter_both p p xs ∙ filter_agree (λ x. p x && p x) p (λ x. twice (p x)) xs
-  where
-    twice : (b : Bool) → (b && b) ≡ b
-    twice true = refl
-    twice false = refl
 
 drop_none : {X : Type 0} (xs : List X) → drop 0 xs ≡ xs
 drop_none [] = refl
@@ -75,10 +58,6 @@ front_all p xs i past was = ap (filter p) (sym (take_all i xs past)) ∙ was ∙
 
 -- ---- numbers of ids that are kept by their numbers
 
-and_no : (b : Bool) → (b && false) ≡ false
-and_no true = refl
-and_no false = refl
-
 pub has-kept : (keeps : ℕ → Bool) (ids : List NodeId) (at : ℕ) → has_number at (filter (λ id. keeps id.at) ids) ≡ (has_number at ids && keeps at)
 has-kept keeps [] at = refl
 has-kept keeps (id ∷ ids) at =
@@ -89,7 +68,7 @@ has-kept keeps (id ∷ ids) at =
         | true ↦ λ here_is stays. ap (λ b. b || has_number at kept) here_is ∙ sym (ap keeps (eqb-true at id.at here_is) ∙ stays)
         | false ↦ λ here_is goes.
             let gone : keeps at ≡ false = ap keeps (eqb-true at id.at here_is) ∙ goes in
-            rest ∙ ap (λ b. has_number at ids && b) gone ∙ and_no (has_number at ids) ∙ sym gone
+            rest ∙ ap (λ b. has_number at ids && b) gone ∙ and_false (has_number at ids) ∙ sym gone
       ]
       | false ↦ elim [
         | true ↦ λ apart stays. ap (λ b. b || has_number at kept) apart ∙ rest
@@ -114,7 +93,7 @@ has_itself ids id has = any_from (λ (i : NodeId). id.at == i.at) ids id has (eq
 
 -- where the marks tell who is there, all are marked
 pub all_settled : (standings : List Standing) (ids : List NodeId) → ((at : ℕ) → is_settled (get_or standings at Absent) ≡ has_number at ids) → settled_among standings ids ≡ ids
-all_settled standings ids told = filter_all (λ (id : NodeId). is_settled (get_or standings id.at Absent)) ids (λ id has. told id.at ∙ has_itself ids id has)
+all_settled standings ids told = filter_of_all (λ (id : NodeId). is_settled (get_or standings id.at Absent)) ids (λ id has. told id.at ∙ has_itself ids id has)
 
 -- ---- an id loses its mark
 
@@ -149,12 +128,12 @@ recent_unmarked standings arrivals id standing inside other =
 
 -- where it wasn't kept before, all stay
 not_there : (id : NodeId) (ids : List NodeId) → has_number id.at ids ≡ false → ids_but id ids ≡ ids
-not_there id ids absent = filter_all (λ (other : NodeId). not (other.at == id.at)) ids (λ other has. ap not (false_from_ne_true (other.at == id.at) (λ same.
+not_there id ids absent = filter_of_all (λ (other : NodeId). not (other.at == id.at)) ids (λ other has. ap not (false_from_ne_true (other.at == id.at) (λ same.
     true≢false (sym (has_itself ids other has) ∙ ap (λ n. has_number n ids) (eqb-true other.at id.at same) ∙ absent))))
 
 pub settled_stays : (standings : List Standing) (ids : List NodeId) (id : NodeId) (standing : Standing) → id.at < length standings → is_settled standing ≡ false → is_settled (get_or standings id.at Absent) ≡ false → settled_among (set standings id.at standing) ids ≡ settled_among standings ids
 settled_stays standings ids id standing inside other absent =
-    settled_unmarked standings ids id standing inside other ∙ not_there id (settled_among standings ids) (has-settled standings ids id.at ∙ ap (λ b. has_number id.at ids && b) absent ∙ and_no (has_number id.at ids))
+    settled_unmarked standings ids id standing inside other ∙ not_there id (settled_among standings ids) (has-settled standings ids id.at ∙ ap (λ b. has_number id.at ids && b) absent ∙ and_false (has_number id.at ids))
 
 -- at most one is lost
 loses_one : (id : NodeId) (some : List Node) → HaveOwnIds some → length some ≤ suc (length (without id some))
@@ -306,7 +285,7 @@ forgets nodes id some graph there_is are =
 waiting_settled : (standings : List Standing) (entries : List NodeId) (id : NodeId) → id.at < length standings → is_settled (get_or standings id.at Absent) ≡ false → IsSetIn false id (settled_among standings entries) (settled_among (set standings id.at Recent) entries)
 waiting_settled standings entries id inside absent =
     subst (IsSetIn false id (settled_among standings entries)) (sym (settled_stays standings entries id Recent inside refl absent))
-    (set_as_it_is id (settled_among standings entries) false (has-settled standings entries id.at ∙ ap (λ b. has_number id.at entries && b) absent ∙ and_no (has_number id.at entries)))
+    (set_as_it_is id (settled_among standings entries) false (has-settled standings entries id.at ∙ ap (λ b. has_number id.at entries && b) absent ∙ and_false (has_number id.at entries)))
 
 pub marked_waiting : (standings : List Standing) (entries : List NodeId) (arrivals : List Arrival) (arrival : Arrival) (id : NodeId) → AreMarked (settled_among standings entries) (recent_among standings arrivals) standings → id.at < length standings → arrival.id ≡ id → is_settled (get_or standings id.at Absent) ≡ false
     → AreMarked (settled_among (set standings id.at Recent) entries) (recent_among (set standings id.at Recent) (arrivals ++ arrival ∷ [])) (set standings id.at Recent)
@@ -484,4 +463,4 @@ still_absent nodes before after id graph there_is listed absent all =
     let found = found_node nodes id there_is in
     let its = ids_find_nodes nodes id found.0 found.1 in
     let unlisted : has_number id.at (ids_in after) ≡ false = number_listed nodes (is_among (ids_in before)) after id found.0 graph found.1 listed ∙ ap (λ (i : NodeId). has_number i.at (ids_in before)) its.1 ∙ absent in
-    ap (has_number id.at) (sym all) ∙ (neither (has_number id.at (settled_in after)) (has_number id.at (arrived (recent_in after))) (sym (has_either after id.at) ∙ unlisted)).0
+    ap (has_number id.at) (sym all) ∙ (or_parts (has_number id.at (settled_in after)) (has_number id.at (arrived (recent_in after))) (sym (has_either after id.at) ∙ unlisted)).0

@@ -1,10 +1,12 @@
 -- The list of all ids in key order, and the first of all nodes.
 use Rattle.std.proofs.Common.{◌≡◌, ℕ, suc, ◌<◌, ◌≤◌, true, false, not, List, [], ◌∷◌, length, drop, Option, Some, None, refl, sym, ◌∙◌, ap, subst, arith, IfSome, slice_get, filter}
+use Rattle.plain_laws.specs.Options.{if_some_at}
 use Rattle.kdg_graph.proofs.Common.{AllByRecursion, list_any, Key, conflicts_with, Lane, NodeId, IsOrder, IsRankPast, IsLaneAmong, Node, places_in, HasNode, IsGraph, earlier_than, ids_of, is_at, later_than, least_of, node_at, put_node, without, is_unblocked, unblocked_of}
 use Rattle.kdg_graph.proofs.Fronting.{first_from}
 use Rattle.kdg_graph.proofs.KeyOrder.{dropped, kept, none_before, put_without, is_before, not_itself, drop_past}
 use Rattle.kdg_graph.proofs.Lanes.{among_filtered, graph_among}
-use Rattle.kdg_graph.proofs.Selecting.{at_some, found_node, length-put}
+use Rattle.kdg_graph.proofs.Selecting.{length-put}
+use Rattle.kdg_graph.specs.NodeLaws.{found_node}
 
 -- ---- the order after a change
 
@@ -18,7 +20,7 @@ pub order_put : (id : NodeId) (nodes : List Node) (before ids : List NodeId) →
 order_put id nodes before ids graph has was put =
     let new = found_node nodes id has in
     let among : IsLaneAmong nodes (without id nodes) before = among_filtered (λ (n : Node). not (is_at id n)) nodes nodes (ids_of nodes) before (graph_among nodes graph) was in
-    at_some (λ (n : Node). ids ≡ ids_of (put_node n (without id nodes))) (node_at nodes id) new.0 new.1 (put (without id nodes) among) ∙ ap ids_of (put_without id nodes new.0 graph new.1)
+    if_some_at (λ (n : Node). ids ≡ ids_of (put_node n (without id nodes))) (node_at nodes id) new.0 new.1 (put (without id nodes) among) ∙ ap ids_of (put_without id nodes new.0 graph new.1)
 
 -- a node that goes is taken out
 pub order_without : (id : NodeId) (nodes : List Node) (before ids : List NodeId) → IsGraph nodes → before ≡ ids_of nodes → ((some : List Node) → IsLaneAmong nodes some before → ids ≡ ids_of (without id some)) → ids ≡ ids_of (without id nodes)
@@ -71,6 +73,6 @@ pub next_in_order : (nodes : List Node) (ids : List NodeId) (id : NodeId) (place
     → IfSome (node_at nodes id) (λ node. slice_get ids place ≡ least_of (later_than node.task.key nodes))
 next_in_order nodes ids id place graph has is behind =
     let of = found_node nodes id has in
-    let past : IsRankPast of.0.task.key nodes place = at_some (λ (n : Node). IsRankPast n.task.key nodes place) (node_at nodes id) of.0 of.1 (behind nodes (order_among nodes ids graph is)) in
+    let past : IsRankPast of.0.task.key nodes place = if_some_at (λ (n : Node). IsRankPast n.task.key nodes place) (node_at nodes id) of.0 of.1 (behind nodes (order_among nodes ids graph is)) in
     let first : slice_get ids place ≡ least_of (later_than of.0.task.key nodes) = ap (λ (l : List NodeId). slice_get l place) is ∙ first_from place nodes ∙ ap least_of (drop_past of.0.task.key nodes place past) in
     subst (λ (o : Option Node). IfSome o (λ node. slice_get ids place ≡ least_of (later_than node.task.key nodes))) (sym of.1) first

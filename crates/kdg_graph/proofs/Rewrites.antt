@@ -1,24 +1,17 @@
 -- What a rewrite does to the nodes and their tasks.
-use Rattle.std.proofs.Common.{◌≢◌, List, [], ◌∷◌, is_lt, ◌≡◌, Bool, true, false, cond, not, length, Some, refl, sym, ◌∙◌, ap, subst, arith, IsSome, filter, option_map, Less, is_eq, suc, unwrap_or, Option, None, find, ◌⊎◌, inl, inr, Contains, IfNone, IfSome, true≢false}
+use Rattle.std.proofs.Common.{◌≢◌, List, [], ◌∷◌, is_lt, ◌≡◌, Bool, true, false, cond, not, length, Some, refl, sym, ◌∙◌, ap, subst, arith, IsSome, option_map, Less, is_eq, suc, unwrap_or, Option, None, find, ◌⊎◌, inl, inr, Contains, IfNone, IfSome, true≢false}
+use Rattle.plain_laws.specs.Bools.{false_from_not}
+use Rattle.plain_laws.specs.Lists.{All-filter}
+use Rattle.task_order.specs.TaskListLaws.{All-put_in, All-put_all}
 use Rattle.kdg_graph.proofs.Common.{AllByRecursion, cond_both, Key, Task, key_cmp, IsNewKey, put_in, put_all, tied_itself, ordering_reverse, key_cmp_total, IsAscending, has_key, tasks_without_key, NodeId, SetChange, Fresh, Node, new_node, HasNode, HaveOwnIds, IsGraph, is_at, node_at, put_node, task_at, tasks_of, AreAdded, HaveNewKeys, fresh_nodes, fresh_tasks, put_nodes, with_sets, without, Accesses, set_after, IsExactOrder, WithoutMakesNew, least_of, node_with_key, started, PutsAddOneNode, RewritesAddNoOther, RewritesAddNodes, RewritesEndNodes, RewritesKeepNodes, RewritesReplaceTasks, StartsMarkOneNode, cases, from_filter, from_map, here, in_filter, in_map, none, there}
 use Rattle.kdg_graph.proofs.KeyOrder.{tasks-put_node}
-use Rattle.kdg_graph.proofs.LookUps.{none_at, same_id, without_none, is_at-same, not_at, ids_find_nodes, keys_find_nodes, new_keys_find_none, nodes_have_ids, nodes_have_keys}
+use Rattle.kdg_graph.proofs.LookUps.{none_at, without_none, ids_find_nodes, keys_find_nodes, new_keys_find_none, nodes_have_ids, nodes_have_keys}
+use Rattle.kdg_graph.specs.NodeLaws.{same_id, is_at-same, not_at}
 
 -- ---- keys that are new after tasks were put in
 
-all_put : (P : Task → Type 0) (task : Task) (tasks : List Task) → P task → AllByRecursion P tasks → AllByRecursion P (put_in task tasks)
-all_put P task [] one all = (one, tt)
-all_put P task (other ∷ tasks) one all =
-    cond_both (is_lt (key_cmp other.key task.key)) (other ∷ put_in task tasks) (task ∷ other ∷ tasks) (AllByRecursion P) (λ _. (all.0, all_put P task tasks one all.1)) (λ _. (one, all))
-
-all_put_all : (P : Task → Type 0) (new tasks : List Task) → AllByRecursion P new → AllByRecursion P tasks → AllByRecursion P (put_all new tasks)
-all_put_all P [] tasks each all = all
-all_put_all P (task ∷ new) tasks each all = all_put_all P new (put_in task tasks) each.1 (all_put P task tasks each.0 all)
-
 pub new_key_put_all : (key : Key) (new tasks : List Task) → IsNewKey key new → IsNewKey key tasks → IsNewKey key (put_all new tasks)
-new_key_put_all key = all_put_all (λ task. task.key ≢ key)
-
--- ---- what a rewrite does to the tasks of the nodes
+new_key_put_all key = All-put_all (λ task. task.key ≢ key)
 
 -- ---- the ended node
 
@@ -93,13 +86,9 @@ all_have_without ended (change ∷ changes) nodes differ has = (has_without ende
 
 -- ---- the fresh tasks
 
-all_filtered : (P : Task → Type 0) (p : Task → Bool) (tasks : List Task) → AllByRecursion P tasks → AllByRecursion P (filter p tasks)
-all_filtered P p [] all = tt
-all_filtered P p (task ∷ tasks) all = cond_both (p task) (task ∷ filter p tasks) (filter p tasks) (AllByRecursion P) (λ _. (all.0, all_filtered P p tasks all.1)) (λ _. all_filtered P p tasks all.1)
-
 all_new_without : (key : Key) (fresh : List Fresh) (tasks : List Task) → AllByRecursion (λ (item : Fresh). IsNewKey item.task.key tasks) fresh → AllByRecursion (λ (item : Fresh). IsNewKey item.task.key (tasks_without_key key tasks)) fresh
 all_new_without key [] tasks all = tt
-all_new_without key (item ∷ fresh) tasks all = (all_filtered (λ task. task.key ≢ item.task.key) (λ task. not (has_key key task)) tasks all.0, all_new_without key fresh tasks all.1)
+all_new_without key (item ∷ fresh) tasks all = (All-filter (λ task. task.key ≢ item.task.key) (λ task. not (has_key key task)) tasks all.0, all_new_without key fresh tasks all.1)
 
 -- new keys are new among fewer tasks
 pub new_without : (key : Key) (fresh : List Fresh) (tasks : List Task) → HaveNewKeys tasks fresh → HaveNewKeys (tasks_without_key key tasks) fresh
@@ -119,13 +108,6 @@ tasks-added nodes fresh now added = ap tasks_of added.nodes ∙ by_ids nodes add
 pub none_has_key : (id : NodeId) (nodes : List Node) (task : Task) (fresh : List Fresh) → AllByRecursion (λ (item : Fresh). IsNewKey item.task.key (tasks_of nodes)) fresh → task_at nodes id ≡ Some task → IsNewKey task.key (fresh_tasks fresh)
 none_has_key id nodes task [] all is = tt
 none_has_key id nodes task (item ∷ fresh) all is = ((λ same. ended_differs id nodes task item.task.key all.0 is (sym same)), none_has_key id nodes task fresh all.1 is)
-
--- ---- changes of sets one after another, and fresh nodes put in one after another
-
--- a run over a list ends where nothing is left
-pub nothing_left : {X : Type 0} (xs : List X) → length xs ≡ 0 → xs ≡ []
-nothing_left [] none = refl
-nothing_left (x ∷ xs) none = absurd (omega arith)
 
 -- ---- sets
 
@@ -172,10 +154,6 @@ pub all_have_with_sets : (changes others : List SetChange) (nodes : List Node) �
 all_have_with_sets changes [] nodes all = tt
 all_have_with_sets changes (other ∷ others) nodes all = (has_with_sets changes other.node nodes all.0, all_have_with_sets changes others nodes all.1)
 
-pub with_no_sets : (nodes : List Node) → with_sets [] nodes ≡ nodes
-with_no_sets [] = refl
-with_no_sets (node ∷ nodes) = ap (λ rest. node ∷ rest) (with_no_sets nodes)
-
 -- ---- fresh nodes
 
 still_new : (item : Fresh) (fresh : List Fresh) (tasks : List Task) → IsNewKey item.task.key (fresh_tasks fresh) → AllByRecursion (λ (other : Fresh). IsNewKey other.task.key tasks) fresh
@@ -194,8 +172,6 @@ new_keys_rest item fresh nodes id keys =
 
 pub added_first : (item : Fresh) (fresh : List Fresh) (nodes now : List Node) (id : NodeId) → AreAdded (put_node (new_node id item.task item.set) nodes) fresh now → AreAdded nodes (item ∷ fresh) now
 added_first item fresh nodes now id added = record { ids = id ∷ added.ids; one_each = ap suc added.one_each; nodes = added.nodes }
-
--- ---- which nodes are there after nodes were put in, and after a rewrite
 
 -- ---- nodes put in
 
@@ -288,15 +264,11 @@ in_fresh (id ∷ ids) (other ∷ fresh) item as_many has = elim (cases other ite
 abbrev after : List SetChange → Node → Node
 after changes node = record node { set = set_after changes node }
 
-not-true : (a : Bool) → not a ≡ true → a ≡ false
-not-true true is = absurd (true≢false (sym is))
-not-true false is = refl
-
 from_kept : (ended : NodeId) (changes : List SetChange) (old : List Node) (x : Node) → Contains (with_sets changes (without ended old)) x → (was : Node) × Contains old was × (was.id ≢ ended) × (x ≡ after changes was)
 from_kept ended changes old x has =
     let was : (node : Node) × Contains (without ended old) node × (after changes node ≡ x) = from_map (after changes) (without ended old) x has in
     let stays : Contains old was.0 × (not (is_at ended was.0) ≡ true) = from_filter (λ (n : Node). not (is_at ended n)) old was.0 was.1 in
-    (was.0, stays.0, (λ same. true≢false (sym (is_at-same ended was.0 same) ∙ not-true (is_at ended was.0) stays.1)), sym was.2)
+    (was.0, stays.0, (λ same. true≢false (sym (is_at-same ended was.0 same) ∙ false_from_not (is_at ended was.0) stays.1)), sym was.2)
 
 in_kept : (ended : NodeId) (changes : List SetChange) (old : List Node) (was : Node) → Contains old was → was.id ≢ ended → Contains (with_sets changes (without ended old)) (after changes was)
 in_kept ended changes old was has differs = in_map (after changes) (without ended old) was (in_filter (λ (n : Node). not (is_at ended n)) old was has (ap not (not_at ended was differs)))

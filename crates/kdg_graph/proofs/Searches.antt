@@ -1,12 +1,11 @@
 -- What a search among ids tells of the nodes that have them.
 use Rattle.std.proofs.Common.{◌≡◌, ℕ, zero, suc, ◌<◌, ◌≤◌, true, false, List, [], ◌∷◌, length, get_or, Ok, Err, Result, refl, sym, ◌∙◌, ap, subst, arith, true≢false, MatchResult, is_lt, Ordering, Less, Equal, Greater, ◌≢◌, inl, inr, eqb-true, eq-eqb, Bool, cond, Option, Some, None, Contains, slice_get, find, remove, option_map, is_eq}
+use Rattle.plain_laws.specs.Orderings.{equal_from_test}
 use Rattle.kdg_graph.proofs.Common.{false_from_ne_true, slice_get_past, ordering_reverse, Slab, get, Key, key_cmp, key_cmp_total, IsAscending, NodeId, Node, ids_of, tasks_of, AreStored, IsBetween, IsEnded, IsFound, IsGap, IsLane, IsRank, IsSearched, cmp_at, cmp_if, cmp_in_if, tied_itself, cases_lt, false≢true, get_or_from_slice_get, slice_get-map, slice_get_cases, slice_get_within, entries, Contains-entries, AreLater, IsRankPast, is_id_at, IsLaneAmong, IsGraph, is_at, node_at, node_with_key, without, key_at, IsStored, nodes_of, all_at, cases, find_none, from_find, none, none_found}
 use Rattle.kdg_graph.proofs.Blocking.{same_found}
 use Rattle.kdg_graph.proofs.KeyOrder.{earlier_at, is_before, is_partitioned, found_at_point, no_key_past_all, past_nothing, past_tied, past_untied}
 use Rattle.kdg_graph.proofs.Lanes.{length-ids, among_at, contains_at, same_by_number, unfiled, id_there, some_node}
-use Rattle.kdg_graph.proofs.LookUps.{Equal_from_test, ids_find_nodes, key_later}
-
--- ---- what a search among ids tells of the nodes that have them
+use Rattle.kdg_graph.proofs.LookUps.{ids_find_nodes, key_later}
 
 -- ---- what a look at a place tells
 
@@ -117,8 +116,6 @@ pub ended_inside : (slots : Slab Node) (key : Key) (ids : List NodeId) (result :
 ended_inside slots key ids (Ok place) tied = inside_tied slots key ids place tied
 ended_inside slots key ids (Err place) between = between.inside
 
--- ---- what a search for a key tells of the nodes of a graph
-
 -- ---- the node with the key
 
 pub none_at_gap : (key : Key) (nodes : List Node) (place : ℕ) → IsAscending (tasks_of nodes) → IsGap key nodes place → node_with_key nodes key ≡ None
@@ -146,7 +143,7 @@ with_key key [] node up has is = absurd (none node has)
 with_key key (other ∷ nodes) node up has is = elim (cases other node nodes has) [
   | inl same ↦ ap (λ test. cond test (Some other) (node_with_key nodes key)) (ap (has_key key) same ∙ is) ∙ ap (λ (n : Node). Some n) same
   | inr later ↦
-      let less : key_cmp other.task.key key ≡ Less = less_tied other.task.key node.task.key key (key_later other nodes node up.0 later) (Equal_from_test _ is) in
+      let less : key_cmp other.task.key key ≡ Less = less_tied other.task.key node.task.key key (key_later other nodes node up.0 later) (equal_from_test _ is) in
       ap (λ test. cond test (Some other) (node_with_key nodes key)) (ap is_eq less) ∙ with_key key nodes node up.1 later is
 ]
 

@@ -1,10 +1,16 @@
 -- Ids of the nodes that pass a test, where one comes in or goes out.
-use Rattle.std.proofs.Common.{◌≡◌, ◌≢◌, inl, inr, ℕ, suc, ◌+◌, ◌-◌, ◌<◌, ◌≤◌, ◌||◌, ◌&&◌, Bool, true, false, not, cond, List, [], ◌∷◌, ◌++◌, length, take, drop, get_or, append-nil, length-drop, Option, Some, None, refl, sym, ◌∙◌, ap, subst, arith, Contains, IfSome, IsSome, filter, flat_map, is_lt, Less, get_or-drop}
+use Rattle.std.proofs.Common.{◌≡◌, ◌≢◌, inl, inr, ℕ, suc, ◌+◌, ◌-◌, ◌<◌, ◌≤◌, ◌||◌, ◌&&◌, Bool, true, false, not, cond, List, [], ◌∷◌, ◌++◌, length, take, drop, get_or, append-nil, length-drop, Some, refl, sym, ◌∙◌, ap, subst, arith, Contains, IfSome, filter, flat_map, is_lt, Less, get_or-drop}
+use Rattle.plain_laws.specs.Members.{some_passes}
+use Rattle.plain_laws.specs.Bools.{same_tests}
+use Rattle.plain_laws.specs.Lists.{filter_both}
+use Rattle.plain_laws.specs.Options.{if_some_at}
+use Rattle.task_order.specs.KeyLaws.{not_past_earlier}
 use Rattle.kdg_graph.proofs.Common.{AllByRecursion, map-append, take_more, flat_map-append, count_by-le-length, length-filter, Key, key_cmp, IsAscending, NodeId, Node, HasNode, HaveOwnIds, IsGraph, ids_of, is_at, node_at, put_node, tasks_of, without, Access, Accesses, IsLaneAmong, front_after, fronts_after, AreRetested, AreSelected, AreSome, MarkedIds, forgotten, is_among, is_unblocked, listed_in, refreshed, retested, all_at, all_from, cases, from_filter, from_map, here, in_filter, in_map, none}
-use Rattle.kdg_graph.proofs.Blocking.{any_from, same_tests, some_passes, found_some, same_found, all_tasks}
-use Rattle.kdg_graph.proofs.KeyOrder.{is_before, turned, ascending_filtered, filter_twice, put_first, same_filter}
+use Rattle.kdg_graph.proofs.Blocking.{any_from, found_some, same_found, all_tasks}
+use Rattle.kdg_graph.proofs.KeyOrder.{is_before, put_first, same_filter}
 use Rattle.kdg_graph.proofs.Lanes.{length-ids}
-use Rattle.kdg_graph.proofs.LookUps.{is_at-same, not_at, same_id, ids_find_nodes, nodes_have_ids}
+use Rattle.kdg_graph.proofs.LookUps.{ids_find_nodes, nodes_have_ids}
+use Rattle.kdg_graph.specs.NodeLaws.{same_id, is_at-same, not_at, ascending_filtered}
 
 -- ---- one node more
 
@@ -26,7 +32,7 @@ put_among test more new (node ∷ nodes) up own has is_out is_in same = elim (ca
     put_here test more new node nodes up own is_out is_in same is =
         let later : AllByRecursion (λ (other : Node). is_before new.task.key other ≡ false) (filter test nodes) =
         all_from (λ (other : Node). is_before new.task.key other ≡ false) (filter test nodes) (λ other has.
-        ap (λ (n : Node). is_before n.task.key other) (sym is) ∙ turned node.task.key other.task.key (all_tasks (λ task. key_cmp node.task.key task.key ≡ Less) nodes other up.0 (from_filter test nodes other has).0)) in
+        ap (λ (n : Node). is_before n.task.key other) (sym is) ∙ not_past_earlier node.task.key other.task.key (all_tasks (λ task. key_cmp node.task.key task.key ≡ Less) nodes other up.0 (from_filter test nodes other has).0)) in
         let rest : filter test nodes ≡ filter more nodes = same_filter test more nodes (λ other has.
         sym (same other (not_at new.id other (λ equal. all_at (λ (n : Node). n.id ≢ node.id) nodes other own.0 has (equal ∙ ap (λ (n : Node). n.id) (sym is)))))) in
         ap (λ b. put_node new (cond b (node ∷ filter test nodes) (filter test nodes))) (ap test is ∙ is_out)
@@ -59,9 +65,6 @@ same_answer nodes id node one other test graph is same =
       | false ↦ λ _. refl
     ] in
     same_filter (retested one (id ∷ []) test) (retested other (id ∷ []) test) nodes (λ n has. by_case n has (is_at id n) refl)
-
-pub at_some : (P : Node → Type 0) (found : Option Node) (node : Node) → found ≡ Some node → IfSome found P → P node
-at_some P found node is holds = subst (λ (o : Option Node). IfSome o P) is holds
 
 -- a node is among the ids that are selected where it passes the test
 pub among_selected : (nodes : List Node) (test : Node → Bool) (ids : List NodeId) (node : Node) → IsGraph nodes → Contains nodes node → AreSelected nodes test ids → is_among ids node ≡ test node
@@ -101,7 +104,7 @@ but_is_forgotten nodes id test = same_filter (but id test) (forgotten (id ∷ []
     by_case false false = refl
 
 pub taken_out : (nodes : List Node) (test : Node → Bool) (id : NodeId) (ids : List NodeId) → ids ≡ ids_of (without id (filter test nodes)) → AreSelected nodes (forgotten (id ∷ []) test) ids
-taken_out nodes test id ids is = is ∙ ap ids_of (filter_twice (λ node. not (is_at id node)) test nodes ∙ but_is_forgotten nodes id test)
+taken_out nodes test id ids is = is ∙ ap ids_of (filter_both (λ node. not (is_at id node)) test nodes ∙ but_is_forgotten nodes id test)
 
 -- one id in
 abbrev with_one : NodeId → (Node → Bool) → Node → Bool
@@ -121,7 +124,7 @@ pub put_in_place : (nodes : List Node) (id : NodeId) (node : Node) (before ids :
 put_in_place nodes id node before ids test graph is is_out selected puts =
     let some : List Node = filter test nodes in
     let among : IsLaneAmong nodes some before = some_of_lane nodes test before graph.ascending selected in
-    at_some (λ (n : Node). ids ≡ ids_of (put_node n some)) (node_at nodes id) node is (puts some among) ∙ ap ids_of (put_one nodes id node test graph is is_out)
+    if_some_at (λ (n : Node). ids ≡ ids_of (put_node n some)) (node_at nodes id) node is (puts some among) ∙ ap ids_of (put_one nodes id node test graph is is_out)
 
 -- an id that comes in has room where each node has
 pub length-put : (node : Node) (nodes : List Node) → length (put_node node nodes) ≡ suc (length nodes)
@@ -141,13 +144,6 @@ has_room nodes id node ids test room graph is is_out selected fits =
       length-filter more nodes,
       count_by-le-length more nodes,
     )
-
-pub found_node : (nodes : List Node) (id : NodeId) → HasNode nodes id → (node : Node) × (node_at nodes id ≡ Some node)
-found_node nodes id has = go (node_at nodes id) has
-  where
-    go : (found : Option Node) → IsSome found → (node : Node) × (found ≡ Some node)
-    go None has = cc
-    go (Some node) has = (node, refl)
 
 -- ---- several are tested anew
 

@@ -1,24 +1,27 @@
 -- The unblocked nodes after a node came, went or changed, once the nodes in doubt are refreshed.
 use Rattle.std.proofs.Common.{◌≡◌, ◌≢◌, ℕ, ◌||◌, ◌&&◌, Bool, true, false, not, cond, List, [], ◌∷◌, ◌++◌, map, Some, refl, sym, ◌∙◌, ap, subst, Contains, filter, flat_map, is_lt, true≢false}
+use Rattle.std.proofs.lemmas.Bool.{or_parts}
+use Rattle.plain_laws.specs.Lists.{filter_both}
 use Rattle.kdg_graph.proofs.Common.{AllByRecursion, list_any, false_from_ne_true, Key, key_cmp, IsAscending, Accesses, access_at, clash, conflicts_with, Access, NodeId, SetChange, Node, HaveOwnIds, IsGraph, earlier_than, ids_of, is_at, node_at, put_node, started, tasks_of, is_blocked, is_same, lacking, fronts_after, AreFiled, Location, clashes_at, clashing_at, up_to_writer, with_sets, without, AreSelected, forgotten, is_among, is_unblocked, refreshed, unblocked_of, all_at, all_from, from_filter, in_filter, any-map, any_same, filter-map}
 use Rattle.kdg_graph.proofs.Blocking.{any_from, pair_of, ClashingPair, among_ids, blocked_front, blocked_put, clashing_pair, fronts_are_nodes, met_in_front, unblocked_outside}
 use Rattle.kdg_graph.proofs.Filing.{same_access}
-use Rattle.kdg_graph.proofs.Keeping.{changed, ids-map, start, start_keeps_id, start_keeps_task, with_set_if}
-use Rattle.kdg_graph.proofs.KeyOrder.{ascending_filtered, filter_twice, filters_commute, put_dropped, put_without, same_filter, is_before, not_itself}
-use Rattle.kdg_graph.proofs.LookUps.{ids_find_nodes, nodes_have_ids, is_at-same, map_none, none_at, not_at, without_none}
+use Rattle.kdg_graph.proofs.Keeping.{changed, ids-map, with_set_if}
+use Rattle.kdg_graph.proofs.KeyOrder.{filters_commute, put_dropped, put_without, same_filter, is_before, not_itself}
+use Rattle.kdg_graph.proofs.LookUps.{ids_find_nodes, nodes_have_ids, map_none, none_at, without_none}
 use Rattle.kdg_graph.proofs.Rewrites.{in_put_new}
 use Rattle.kdg_graph.proofs.Selecting.{among_append, but, but_is_forgotten, but_same, select_append, settled}
+use Rattle.kdg_graph.specs.NodeLaws.{ascending_filtered, is_at-same, not_at, start, start_keeps_id, start_keeps_set, start_keeps_task}
 
 -- ---- the nodes but for one
 
 -- the ids that are selected among the others are selected among all
 pub select_but : (nodes : List Node) (test : Node → Bool) (id : NodeId) (ids : List NodeId) → AreSelected (without id nodes) test ids → AreSelected nodes (but id test) ids
-select_but nodes test id ids is = is ∙ ap ids_of (filters_commute test (λ node. not (is_at id node)) nodes ∙ filter_twice (λ node. not (is_at id node)) test nodes)
+select_but nodes test id ids is = is ∙ ap ids_of (filters_commute test (λ node. not (is_at id node)) nodes ∙ filter_both (λ node. not (is_at id node)) test nodes)
 
 -- and those that are selected once its id is taken out are selected among the others
 pub select_left : (nodes : List Node) (test : Node → Bool) (id : NodeId) (ids : List NodeId) → AreSelected nodes (forgotten (id ∷ []) test) ids → AreSelected (without id nodes) test ids
 select_left nodes test id ids is =
-    is ∙ ap ids_of (sym (filters_commute test (λ node. not (is_at id node)) nodes ∙ filter_twice (λ node. not (is_at id node)) test nodes ∙ but_is_forgotten nodes id test))
+    is ∙ ap ids_of (sym (filters_commute test (λ node. not (is_at id node)) nodes ∙ filter_both (λ node. not (is_at id node)) test nodes ∙ but_is_forgotten nodes id test))
 
 -- a node that was put in is taken out again
 pub without_put : (new : Node) (nodes : List Node) → HaveOwnIds (put_node new nodes) → without new.id (put_node new nodes) ≡ nodes
@@ -53,10 +56,6 @@ fronts_put set new nodes =
     ap (λ behind. flat_map (λ p. up_to_writer p.0 (clashing_at p.0 p.1 behind)) set) (put_dropped (λ node. is_lt (key_cmp new.task.key node.task.key)) new nodes (not_itself new.task.key))
 
 -- ---- after a node came
-
-pub neither : (a b : Bool) → (a || b) ≡ false → (a ≡ false) × (b ≡ false)
-neither true b is = (is, elim b as (λ c. c ≡ false) [ true ↦ is | false ↦ refl ])
-neither false b is = (refl, is)
 
 -- to forget the fronts behind it is to refresh them
 fronts_forgotten : (new : Node) (now : List Node) (test : Node → Bool) (ids : List NodeId) → IsGraph now → Contains now new → AreSelected now (forgotten (ids_of (fronts_after new.set new.task.key now)) test) ids → AreSelected now (refreshed now (ids_of (fronts_after new.set new.task.key now)) test) ids
@@ -95,7 +94,7 @@ settled_put new rest now ids up graph is selected =
     let all : AreSelected now (refreshed now (new.id ∷ front) (but new.id test)) ids = select_append (is_unblocked now) now (new.id ∷ []) front (but new.id test) ids last in
     let left : without new.id now ≡ rest = ap (without new.id) is ∙ without_put new rest (subst HaveOwnIds is graph.own_ids) in
     settled now (new.id ∷ front) (but new.id test) ids (λ node has apart.
-    let tests = neither (is_at new.id node) (is_among front node) apart in
+    let tests = or_parts (is_at new.id node) (is_among front node) apart in
     let in_rest : Contains rest node = subst (λ (l : List Node). Contains l node) left (in_filter (λ n. not (is_at new.id n)) now node has (ap not tests.0)) in
     let outside : is_among (ids_of (fronts_after new.set new.task.key rest)) node ≡ false = ap (λ l. is_among (ids_of l) node) (sym (ap (fronts_after new.set new.task.key) is ∙ fronts_put new.set new rest)) ∙ tests.1 in
     but_same new.id test node tests.0 ∙ sym (unblocked_outside new rest node up in_rest outside) ∙ ap (λ l. is_unblocked l node) (sym is)) all
@@ -194,8 +193,8 @@ settled_exchanged id gone set nodes now ids graph after is are selected =
     let all : AreSelected now (refreshed now (id ∷ left ++ come) (but id (is_unblocked nodes))) ids = select_append (is_unblocked now) now (id ∷ []) (left ++ come) (but id (is_unblocked nodes)) ids (select_append (is_unblocked now) now left come first ids selected) in
     let up : IsAscending (tasks_of rest) = ascending_filtered (λ n. not (is_at id n)) nodes graph.ascending in
     settled now (id ∷ left ++ come) (but id (is_unblocked nodes)) ids (λ node has apart.
-    let tests = neither (is_at id node) (is_among (left ++ come) node) apart in
-    let fronts = neither (is_among left node) (is_among come node) (sym (among_append left come node) ∙ tests.1) in
+    let tests = or_parts (is_at id node) (is_among (left ++ come) node) apart in
+    let fronts = or_parts (is_among left node) (is_among come node) (sym (among_append left come node) ∙ tests.1) in
     let in_rest : Contains rest node = subst (λ (l : List Node). Contains l node) (without_changed id gone set nodes now graph after is are) (in_filter (λ n. not (is_at id n)) now node has (ap not tests.0)) in
     let outside : (pairs : Accesses) → is_among (ids_of (fronts_after pairs gone.task.key now)) node ≡ false → is_among (ids_of (fronts_after pairs gone.task.key rest)) node ≡ false =
     λ pairs out. ap (λ l. is_among (ids_of l) node) (sym (ap (fronts_after pairs gone.task.key) put ∙ fronts_put pairs new rest)) ∙ out in
@@ -203,9 +202,6 @@ settled_exchanged id gone set nodes now ids graph after is are selected =
     ∙ ap not (blocked_exchanged gone set rest node up in_rest (outside (lacking gone.set set) fronts.0) (outside (lacking set gone.set) fronts.1)) ∙ ap (λ l. is_unblocked l node) (sym put)) all
 
 -- ---- after a node started
-
-same_set : (id : NodeId) (node : Node) → (start id node).set ≡ node.set
-same_set id node = elim (is_at id node) as (λ test. (let n : Node = cond test (record node { running = true }) node in n.set) ≡ node.set) [ true ↦ refl | false ↦ refl ]
 
 pub ids-started : (id : NodeId) (nodes : List Node) → ids_of (started id nodes) ≡ ids_of nodes
 ids-started id = ids-map (start id) (start_keeps_id id)
@@ -219,20 +215,20 @@ any_started id key set nodes =
     let test : Node → Bool = λ other. conflicts_with other.set set in
     ap (list_any test) (filter_started id (is_before key) (is_before key) nodes (λ node i. is_lt (key_cmp (start_keeps_task id node i).key key)))
     ∙ any-map (start id) test (earlier_than key nodes)
-    ∙ any_same (λ node. test (start id node)) test (earlier_than key nodes) (λ node _ i. conflicts_with (same_set id node i) set)
+    ∙ any_same (λ node. test (start id node)) test (earlier_than key nodes) (λ node _ i. conflicts_with (start_keeps_set id node i) set)
 
 -- its start unblocks and blocks none
 pub unblocked_started : (id : NodeId) (nodes : List Node) → unblocked_of (started id nodes) ≡ unblocked_of nodes
 unblocked_started id nodes =
     let now : List Node = started id nodes in
     let same : (node : Node) → is_unblocked now (start id node) ≡ is_unblocked nodes node =
-    λ node. (λ i. not (list_any (λ other. conflicts_with other.set (same_set id node i)) (earlier_than (start_keeps_task id node i).key now))) ∙ ap not (any_started id node.task.key node.set nodes) in
+    λ node. (λ i. not (list_any (λ other. conflicts_with other.set (start_keeps_set id node i)) (earlier_than (start_keeps_task id node i).key now))) ∙ ap not (any_started id node.task.key node.set nodes) in
     ap ids_of (filter_started id (is_unblocked nodes) (is_unblocked now) nodes same) ∙ ids-started id (filter (is_unblocked nodes) nodes)
 
 -- and leaves it where it is filed
 clashing_started : (id : NodeId) (loc : ℕ) (access : Access) (nodes : List Node) → ids_of (clashing_at loc access (started id nodes)) ≡ ids_of (clashing_at loc access nodes)
 clashing_started id loc access nodes =
-    ap ids_of (filter_started id (clashes_at loc access) (clashes_at loc access) nodes (λ node i. clash (Some access) (access_at (same_set id node i) loc))) ∙ ids-started id (clashing_at loc access nodes)
+    ap ids_of (filter_started id (clashes_at loc access) (clashes_at loc access) nodes (λ node i. clash (Some access) (access_at (start_keeps_set id node i) loc))) ∙ ids-started id (clashing_at loc access nodes)
 
 pub filed_started : (id : NodeId) (nodes : List Node) (locations : List Location) → AreFiled nodes locations → AreFiled (started id nodes) locations
 filed_started id nodes locations filed loc access = filed loc access ∙ sym (clashing_started id loc access nodes)

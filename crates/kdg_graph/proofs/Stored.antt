@@ -1,15 +1,15 @@
 -- The nodes of a slab in key order, before and after a change.
 use Rattle.std.proofs.Common.{◌≡◌, ◌≢◌, inl, inr, ℕ, zero, suc, ◌+◌, Bool, true, false, cond, List, [], ◌∷◌, length, get_or, set, filter_map, count_by, Option, Some, None, refl, sym, ◌∙◌, ap, subst, arith, Contains, IsSome, is_some, filter, is_lt, Less, not, map, eq-eqb, true≢false}
+use Rattle.plain_laws.specs.Orderings.{less_from_test}
+use Rattle.task_order.specs.KeyLaws.{not_past_earlier}
 use Rattle.kdg_graph.proofs.Common.{AllByRecursion, length-filter, sum_by-cons, Slab, Updates, entries, entries_from, get, slab_len, values, ContainsKey-within, Updates-set, key_cmp, key_cmp_total, IsAscending, AreStored, Node, HaveOwnIds, put_node, tasks_of, AreKept, IsStored, in_order, nodes_of, cases, none, cases_eq, ContainsKey, with_value, Updates-with_value, PutsKeepAscending, IsNewKey, Accesses, IsAscendingSet, NodeId, HasNode, HaveSets, IsGraph, is_at, node_at, started, with_sets, without, all_at, all_from, from_filter, in_filter, in_map}
-use Rattle.kdg_graph.proofs.Blocking.{own_filtered}
-use Rattle.kdg_graph.proofs.Keeping.{changed, graph_put, graph_started, graph_with_set, start, start_keeps_id, with_set_if}
-use Rattle.kdg_graph.proofs.KeyOrder.{put_first, Less_from_test, is_before, turned, ascending_filtered}
+use Rattle.kdg_graph.proofs.Keeping.{changed, graph_put, graph_started, graph_with_set, with_set_if}
+use Rattle.kdg_graph.proofs.KeyOrder.{put_first, is_before}
 use Rattle.kdg_graph.proofs.Lanes.{differ_at, stored_others, new_id, stored_has, stored_key, stored_map, stored_put, stored_same}
-use Rattle.kdg_graph.proofs.LookUps.{key_later, not_at}
+use Rattle.kdg_graph.proofs.LookUps.{key_later}
 use Rattle.kdg_graph.proofs.Rewrites.{in_put_new, in_put_old}
 use Rattle.kdg_graph.proofs.Selecting.{length-put}
-
--- ---- the nodes of a slab are put in one after another, and any order of that gives the same list
+use Rattle.kdg_graph.specs.NodeLaws.{ascending_filtered, not_at, own_filtered, start, start_keeps_id}
 
 -- ---- two nodes are put in in either order
 
@@ -20,11 +20,11 @@ put_here : (node other : Node) (nodes : List Node) → is_before node.task.key o
 put_here node other nodes is = ap (λ past. cond past (other ∷ put_node node nodes) (node ∷ other ∷ nodes)) is
 
 puts_commute : (a b : Node) (nodes : List Node) → key_cmp a.task.key b.task.key ≡ Less → put_node b (put_node a nodes) ≡ put_node a (put_node b nodes)
-puts_commute a b [] less = put_behind b a [] (ap is_lt less) ∙ sym (put_here a b [] (turned a.task.key b.task.key less))
+puts_commute a b [] less = put_behind b a [] (ap is_lt less) ∙ sym (put_here a b [] (not_past_earlier a.task.key b.task.key less))
 puts_commute a b (other ∷ nodes) less =
     let by_case : (one two : Bool) → is_before a.task.key other ≡ one → is_before b.task.key other ≡ two → put_node b (put_node a (other ∷ nodes)) ≡ put_node a (put_node b (other ∷ nodes)) = elim [
       | true ↦ λ two is_one _.
-          let behind : is_before b.task.key other ≡ true = ap is_lt (key_cmp_total.trans other.task.key a.task.key b.task.key (Less_from_test _ is_one) less) in
+          let behind : is_before b.task.key other ≡ true = ap is_lt (key_cmp_total.trans other.task.key a.task.key b.task.key (less_from_test _ is_one) less) in
           ap (put_node b) (put_behind a other nodes is_one)
           ∙ put_behind b other (put_node a nodes) behind
           ∙ ap (λ l. other ∷ l) (puts_commute a b nodes less)
@@ -39,7 +39,7 @@ puts_commute a b (other ∷ nodes) less =
             ap (put_node b) (put_here a other nodes is_one)
             ∙ put_behind b a (other ∷ nodes) (ap is_lt less)
             ∙ ap (λ l. a ∷ l) (put_here b other nodes is_two)
-            ∙ sym (ap (put_node a) (put_here b other nodes is_two) ∙ put_here a b (other ∷ nodes) (turned a.task.key b.task.key less))
+            ∙ sym (ap (put_node a) (put_here b other nodes is_two) ∙ put_here a b (other ∷ nodes) (not_past_earlier a.task.key b.task.key less))
       ]
     ] in
     by_case (is_before a.task.key other) (is_before b.task.key other) refl refl
@@ -70,7 +70,7 @@ but_one slots key = record slots { slots = set slots.slots key None }
 
 none_earlier : (node : Node) (nodes : List Node) → AllByRecursion (λ other. key_cmp node.task.key other.key ≡ Less) (tasks_of nodes) → AllByRecursion (λ other. is_before node.task.key other ≡ false) nodes
 none_earlier node [] all = tt
-none_earlier node (other ∷ nodes) all = (turned node.task.key other.task.key all.0, none_earlier node nodes all.1)
+none_earlier node (other ∷ nodes) all = (not_past_earlier node.task.key other.task.key all.0, none_earlier node nodes all.1)
 
 -- the nodes of a slab are the ones that are kept there
 are_in_order : (slots : Slab Node) (nodes : List Node) → IsAscending (tasks_of nodes) → HaveOwnIds nodes → AreStored slots nodes → ((key : ℕ) (node : Node) → get slots key ≡ Some node → (node.id.at ≡ key) × Contains nodes node) → nodes_of slots ≡ nodes
@@ -143,8 +143,6 @@ count_stored p slots =
     length-filter (λ (entry : ℕ × Node). p entry.1) (entries slots)
     ∙ count_entries p 0 slots.slots
     ∙ sym (length-filter p (nodes_of slots) ∙ count_in_order p (values slots))
-
--- ---- what the nodes of a slab are after a change
 
 -- ---- looking up
 

@@ -12,3 +12,4 @@ pub mod Kept
 pub mod Fronts
 pub mod Walk
 pub mod Exchange
+pub mod NodeLaws

@@ -1,6 +1,5 @@
 -- Where no task makes others, an execution creates no more tasks than it begins with.
 use Rattle.std.proofs.Common.{◌≡◌, ◌∙◌, ℕ, zero, suc, List, [], ◌∷◌, length, length-append, ap, refl, sym, arith}
-use Rattle.app_laws.proofs.Steps.{after_none}
 use Rattle.task_order.specs.declared.start.Start.{Start}
 use Rattle.task_order.specs.declared.task.Task.{Task}
 use Rattle.task_order.specs.Laws.{PutsAddOne}
@@ -8,6 +7,7 @@ use Rattle.task_order.specs.TaskList.{put_all}
 use Rattle.app_laws.specs.Applications.{Application, IsFitTask}
 use Rattle.app_laws.specs.Execution.{Execution, Operator, acts, after_steps, children_from, created_after, created_by, start_of}
 use Rattle.app_laws.specs.Laws.{EndsWithinLimit, IsFitExecution}
+use Rattle.app_laws.specs.StepLaws.{after_none}
 use Rattle.crew.specs.declared.answers.OverCause.{OverCause}
 use Rattle.crew.specs.declared.answers.OverCause.TheVariants as cause
 use Rattle.list_rounds.specs.Rounds.{IsRunFault, start_state}

@@ -1,7 +1,5 @@
 -- Where the first tasks alone are more than the budget.
 use Rattle.std.proofs.Common.{◌≡◌, ◌∙◌, ℕ, ◌+◌, ◌<◌, List, [], ◌∷◌, length, ap, refl, sym, subst, inr, arith}
-use Rattle.app_laws.proofs.Steps.{after_none}
-use Rattle.app_laws.proofs.Apart.{length-first_from}
 use Rattle.task_order.specs.declared.start.Start.{Start}
 use Rattle.task_order.specs.declared.task.Task.{Task}
 use Rattle.task_order.specs.Laws.{PutsAddOne}
@@ -9,6 +7,8 @@ use Rattle.task_order.specs.TaskList.{put_in, put_all}
 use Rattle.app_laws.specs.Execution.{Execution, Operator, created_after, created_by, first_from, start_of}
 use Rattle.app_laws.specs.Laws.{EndsWithinLimit}
 use Rattle.app_laws.specs.Serial.{IsOverBudget}
+use Rattle.app_laws.specs.TaskLaws.{length-first_from}
+use Rattle.app_laws.specs.StepLaws.{after_none}
 use Rattle.graph_update.specs.Engine.{IsBeginFault}
 use Rattle.graph_update.specs.declared.answers.BeginFault.{BeginFault}
 use Rattle.graph_update.specs.declared.answers.BeginFault.TheVariants as fault

@@ -1,6 +1,7 @@
 use Rattle.std.proofs.Common.{nat_lt, ◌≡◌, ℕ, ◌+◌, ◌*◌, ◌<◌, ◌≤◌, List, [], ◌∷◌, Bool, true, false, cond, Option, Some, None, Ok, Err, is_some, is_none, not, length, length-take, take, drop, get_or, refl, ap, sym, ◌∙◌, arith, unwrap_or, inl, inr, ◌-◌}
 use Rattle.std.specs.Option.{option_and_then, option_or}
 use Rattle.std.specs.Str.{bytes_eq}
+use Rattle.plain_laws.specs.Options.{option_or-none}
 use Rattle.kdg_prog.specs.Words.{Word, IsHeading, is_big, heading_len, big_of, number_of, pairs_of, settings_before, settings_of, given_value, name_of, is_bad, is_value, workers_value, mode_value, seed_value, until_value, clock_value, from_value, budget_value, switch_value, options_of, options_given, option_for, command_named, command_of, if_made, command_in, most_for, number_within}
 use Rattle.kdg_prog.specs.Draft.{is_given, with_value, options_of_draft}
 use Rattle.kdg_prog.specs.declared.words.Command.{Command}
@@ -156,10 +157,6 @@ none_from_is_some : {X : Type 0} (option : Option X) → is_some option ≡ fals
 none_from_is_some None none = refl
 none_from_is_some (Some x) none = cc
 
-option_or-None : {X : Type 0} (option : Option X) → option_or option None ≡ option
-option_or-None None = refl
-option_or-None (Some x) = refl
-
 -- what the options have, with one more
 given_along : (words : List Word) (draft : Draft) (index : ℕ) (name : OptionName) → IsRead words draft index → index + 1 < length words → option_for (command_in words) (get_or words index []) ≡ Some name → is_given draft name ≡ false → (other : OptionName) → one_more (λ n. given_value n (settings_before words index)) name (get_or words (index + 1) []) other ≡ given_value other (settings_before words (index + 2))
 given_along words draft index name read more named new other =
@@ -173,7 +170,7 @@ given_along words draft index name read more named new other =
           let none : given_value name settings ≡ None = none_from_is_some (given_value name settings) (sym (read.given name) ∙ new) in
           let moved : given_value other settings ≡ None = ap (λ written. option_map (λ setting. setting.1) (find (λ setting. bytes_eq setting.0 written) settings)) (sym alike) ∙ none in
           rw (same) (sym (longer ∙ rw (same, moved) refl)))
-      | inr differs ↦ rw (differs) (sym (longer ∙ rw (differs) (option_or-None (given_value other settings))))
+      | inr differs ↦ rw (differs) (sym (longer ∙ rw (differs) (option_or-none (given_value other settings))))
     ]
 
 pub read_more : (words : List Word) (draft : Draft) (index : ℕ) (name : OptionName) → IsRead words draft index → index + 1 < length words → option_for (command_in words) (get_or words index []) ≡ Some name → is_given draft name ≡ false → is_value name (get_or words (index + 1) []) ≡ true → IsRead words (with_value draft name (get_or words (index + 1) [])) (index + 2)

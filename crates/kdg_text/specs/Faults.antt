@@ -1,5 +1,5 @@
 -- Lines in order, each judged beside those before it, and the first that has a fault.
-use Rattle.std.specs.Prelude.{◌≡◌, ◌==◌, ℕ, ◌+◌, if◌then◌else◌, List, [], ◌∷◌, ◌++◌, Option, None, Some, Result, Ok, Err}
+use Rattle.std.specs.Prelude.{◌≡◌, ◌==◌, ℕ, ◌+◌, if◌then◌else◌, List, [], ◌∷◌, ◌++◌, Option, None, Some, Result, Ok, Err, Bool}
 use Rattle.std.specs.Option.{option_or, option_map, option_map_or}
 use Rattle.kdg_text.specs.declared.fault.Fault.{Fault}
 use Rattle.kdg_text.specs.declared.fault.LineFault.{LineFault}
@@ -16,6 +16,14 @@ abbrev pub forms_from : {L : Type 0} → (List ℕ → Option L) → ℕ → Lis
 forms_from form_of n [] = []
 forms_from form_of n (line ∷ lines) =
     option_map_or (λ form. record { number = n; form = form } ∷ forms_from form_of (n + 1) lines) (form_of line) (forms_from form_of (n + 1) lines)
+
+-- a fault of this kind that is no limit
+abbrev pub fault_of_kind : ℕ → LineFault
+fault_of_kind kind = record { kind = kind; bound = 0 }
+
+-- the fault, where the test holds
+abbrev pub fault_where : Bool → LineFault → Option LineFault
+fault_where test fault = if test then Some fault else None
 
 -- a fault of the line of that number
 abbrev pub fault_on : ℕ → LineFault → Fault

@@ -2,3 +2,4 @@ pub mod Lines
 pub mod Numbers
 pub mod Tokens
 pub mod Faults
+pub mod FaultLaws

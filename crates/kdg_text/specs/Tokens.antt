@@ -1,6 +1,7 @@
 -- How a line is cut into tokens.
-use Rattle.std.specs.Prelude.{ℕ, Bool, false, ◌||◌, not, ◌==◌, if◌then◌else◌, List, [], ◌∷◌}
+use Rattle.std.specs.Prelude.{ℕ, Bool, false, ◌||◌, not, ◌==◌, if◌then◌else◌, List, [], ◌∷◌, bytes_eq, map}
 use Rattle.std.specs.List.{list_any, onto_first}
+use Rattle.std.specs.Char.{to_ascii_lowercase}
 
 -- one of the bytes that are tokens of their own
 abbrev pub is_mark : List ℕ → ℕ → Bool
@@ -35,3 +36,7 @@ tokens_of marks (byte ∷ bytes) = with_byte marks byte (begins_with_word marks 
 abbrev pub begins_blank : List ℕ → Bool
 begins_blank [] = false
 begins_blank (byte ∷ bytes) = is_blank byte
+
+-- whether a word is this one, which is in small letters, where the case of letters is one's own
+abbrev pub spells : List ℕ → List ℕ → Bool
+spells word small = bytes_eq (map to_ascii_lowercase word) small

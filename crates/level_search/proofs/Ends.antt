@@ -8,7 +8,7 @@ use Rattle.task_order.specs.declared.task.Task.{Task}
 use Rattle.task_order.specs.Key.{end, is_before}
 use Rattle.app_laws.specs.Execution.{Execution, Operator, after_steps, is_clear_before, run_to_end, steps_until}
 use Rattle.app_laws.specs.Laws.{IsFirstClear, StepsAdd, StopsWhenClear}
-use Rattle.app_laws.proofs.Steps.{ended_stays, none_before_end}
+use Rattle.app_laws.specs.StepLaws.{ended_stays, none_before_end}
 
 clear_where_none : {V : Type 0} (e : Execution V) → e.pending ≡ [] → is_clear_before end e ≡ true
 clear_where_none e none = ap (λ (tasks : List Task). not (list_any (λ (task : Task). is_before task.key end) tasks)) none

@@ -4,7 +4,7 @@ use Rattle.std.specs.List.{AllByRecursion}
 use Rattle.std.specs.declared.cmp.Ordering.TheVariants.{Less}
 use Rattle.std.proofs.Common.{arith, ap, sym, subst, ◌∙◌, length-append}
 use Rattle.std.proofs.lemmas.List.{append-nil, append_assoc, map-append}
-use Rattle.plain_laws.specs.Lists.{All-weaker}
+use Rattle.plain_laws.specs.Lists.{All-weaker, All-append}
 use Rattle.task_order.specs.declared.start.Start.{Start}
 use Rattle.task_order.specs.declared.task.Task.{Task}
 use Rattle.task_order.specs.Key.{child_key, key_cmp}
@@ -22,15 +22,11 @@ use Rattle.level_search.proofs.OneVisit.{IsNext, all_children, cells_stay, child
 
 -- ---- lists of tasks
 
-all_append : (P : Task → Type 0) (tasks others : List Task) → AllByRecursion P tasks → AllByRecursion P others → AllByRecursion P (tasks ++ others)
-all_append P [] others all also = also
-all_append P (task ∷ tasks) others all also = (all.0, all_append P tasks others all.1 also)
-
 ascending_append : (tasks others : List Task) → IsAscending tasks → IsAscending others
     → AllByRecursion (λ task. AllByRecursion (λ other. key_cmp task.key other.key ≡ Less) others) tasks → IsAscending (tasks ++ others)
 ascending_append [] others up also before = also
 ascending_append (task ∷ tasks) others up also before =
-    (all_append (λ other. key_cmp task.key other.key ≡ Less) tasks others up.0 before.0, ascending_append tasks others up.1 also before.1)
+    (All-append (λ other. key_cmp task.key other.key ≡ Less) tasks others up.0 before.0, ascending_append tasks others up.1 also before.1)
 
 -- ---- the children of the visits of one level
 
@@ -57,7 +53,7 @@ module _ (pattern : Pattern) (is-pattern : IsPattern pattern) (level : ℕ) wher
       → length cells ≡ vertex_count pattern → AllByRecursion P (children_after pattern tasks cells)
   all_after P [] cells visits made count = tt
   all_after P (task ∷ tasks) cells visits made count =
-      all_append P (children_from task.key 0 (act pattern task cells).children) (children_after pattern tasks (act pattern task cells).cells)
+      All-append P (children_from task.key 0 (act pattern task cells).children) (children_after pattern tasks (act pattern task cells).cells)
       (all_children task.key P (IsNext pattern level) made.0 0 (act pattern task cells).children (children_are pattern is-pattern level task cells visits.0 count))
       (all_after P tasks (act pattern task cells).cells visits.1 made.1 (cells_stay pattern is-pattern task cells ∙ count))
 
@@ -142,7 +138,7 @@ module _ (pattern : Pattern) (is-pattern : IsPattern pattern) (basis : Basis) wh
       All-weaker (IsVisitAt pattern level) (IsBeforeChildren task.key (suc level)) (λ other visit. lower_before task.key (suc level) other (omega (arith, visit.at_level))) tasks visits.1 in
       let pending : after.pending ≡ tasks ++ (later ++ children) =
       children_last basis task.key 0 outcome.children (suc level) (tasks ++ later) (prios_are pattern level outcome.children are)
-      (all_append (IsBeforeChildren task.key (suc level)) tasks later here before.0)
+      (All-append (IsBeforeChildren task.key (suc level)) tasks later here before.0)
       ∙ append_assoc tasks later children in
       ap (λ (n : ℕ). after_steps (act pattern) n e) one ∙ basis.adds (act pattern) e 1 (length tasks)
       ∙ ap (after_steps (act pattern) (length tasks)) (one_step e task (tasks ++ later) is)
@@ -158,7 +154,7 @@ module _ (pattern : Pattern) (is-pattern : IsPattern pattern) (basis : Basis) wh
           → AllByRecursion (λ other. AllByRecursion (IsBeforeChildren other.key (suc level)) (later ++ children_from task.key 0 (act pattern task e.cells).children)) others
       still_before [] all earlier befores = tt
       still_before (other ∷ others) all earlier befores = (
-        all_append (IsBeforeChildren other.key (suc level)) later (children_from task.key 0 (act pattern task e.cells).children) befores.0
+        All-append (IsBeforeChildren other.key (suc level)) later (children_from task.key 0 (act pattern task e.cells).children) befores.0
             (all_children task.key (IsBeforeChildren other.key (suc level)) (IsNext pattern level) (next_before pattern level task other visits.0 all.0 earlier.0) 0 (act pattern task e.cells).children
             (children_are pattern is-pattern level task e.cells visits.0 count)),
         still_before others all.1 earlier.1 befores.1,

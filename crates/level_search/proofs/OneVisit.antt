@@ -12,11 +12,12 @@ use Rattle.task_order.specs.declared.task.Task.{Task}
 use Rattle.task_order.specs.Key.{child_key, key_cmp}
 use Rattle.task_order.specs.TaskList.{IsAscending}
 use Rattle.app_laws.specs.Execution.{Outcome, children_from}
+use Rattle.app_laws.specs.Names.{start_of_task}
 use Rattle.mtx_reader.specs.declared.pattern.Pattern.{Pattern}
 use Rattle.mtx_reader.specs.Ascending.{IsIn, all_from_in, all_in, from_filter, from_map}
 use Rattle.mtx_reader.specs.Patterns.{IsPattern}
 use Rattle.mtx_reader.specs.Places.{Place, IsWithin}
-use Rattle.hook_app.specs.Hooked.{set_at, start_of_task}
+use Rattle.hook_app.specs.Hooked.{set_at}
 use Rattle.hook_app.specs.Values.{values_at}
 use Rattle.hook_app.specs.ValueLaws.{found, length-put_values}
 use Rattle.level_walk.specs.declared.level.Level.{Level}

@@ -1,28 +1,24 @@
 -- Pending tasks by their priorities alone.
-use Rattle.std.specs.Prelude.{◌≡◌, ℕ, suc, ◌≤◌, false, List, [], ◌∷◌, refl}
+use Rattle.std.specs.Prelude.{◌≡◌, ℕ, suc, ◌≤◌, List, [], ◌∷◌, refl}
 use Rattle.std.specs.List.{AllByRecursion}
 use Rattle.std.specs.Ordering.{is_lt}
 use Rattle.std.proofs.Common.{arith, ap, inl, inr, ◌⊎◌}
 use Rattle.std.proofs.lemmas.Bool.{cond_both}
-use Rattle.std.proofs.lemmas.Bool.Decides.{nat_tests}
 use Rattle.plain_laws.specs.Lists.{All-weaker}
 use Rattle.task_order.specs.declared.key.Key.{Key}
 use Rattle.task_order.specs.declared.start.Start.{Start}
 use Rattle.task_order.specs.declared.task.Task.{Task}
 use Rattle.task_order.specs.Key.{key_cmp}
 use Rattle.task_order.specs.TaskList.{put_in, put_all}
-use Rattle.task_order.proofs.TaskLists.{AllByRecursion-put_in}
+use Rattle.task_order.specs.TaskListLaws.{All-put_in}
+use Rattle.task_order.specs.KeyLaws.{earlier_prio, later_prio}
 use Rattle.app_laws.specs.Execution.{children_from}
-use Rattle.hook_app.proofs.SafeTasks.{earlier_prio}
 use Rattle.mtx_reader.specs.Ascending.{IsIn}
 
 -- priorities don't fall
 abbrev pub IsByPriority : List Task → Type 0
 IsByPriority [] = Unit {0}
 IsByPriority (task ∷ tasks) = AllByRecursion (λ other. task.key.prio ≤ other.key.prio) tasks × IsByPriority tasks
-
-later_high : (a b : Key) → is_lt (key_cmp a b) ≡ false → b.prio ≤ a.prio
-later_high a b after = grind (arith, nat_tests)
 
 -- ---- what is so of each
 
@@ -36,8 +32,8 @@ pub put_by_priority : (task : Task) (tasks : List Task) → IsByPriority tasks �
 put_by_priority task [] up = (tt, tt)
 put_by_priority task (other ∷ tasks) up =
     cond_both (is_lt (key_cmp other.key task.key)) (other ∷ put_in task tasks) (task ∷ other ∷ tasks) IsByPriority
-    (λ before. (AllByRecursion-put_in (λ (t : Task). other.key.prio ≤ t.key.prio) task tasks (earlier_prio other.key task.key before) up.0, put_by_priority task tasks up.1))
-    (λ after. let low : task.key.prio ≤ other.key.prio = later_high other.key task.key after in
+    (λ before. (All-put_in (λ (t : Task). other.key.prio ≤ t.key.prio) task tasks (earlier_prio other.key task.key before) up.0, put_by_priority task tasks up.1))
+    (λ after. let low : task.key.prio ≤ other.key.prio = later_prio other.key task.key after in
     ((low, All-weaker (λ (t : Task). other.key.prio ≤ t.key.prio) (λ (t : Task). task.key.prio ≤ t.key.prio) (λ t above. omega (arith, low, above)) tasks up.0), up))
 
 pub put_all_by_priority : (new tasks : List Task) → IsByPriority tasks → IsByPriority (put_all new tasks)

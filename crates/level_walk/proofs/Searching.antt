@@ -9,7 +9,7 @@ use Rattle.plain_laws.specs.Lists.{All-weaker, get-set_same}
 use Rattle.task_order.specs.declared.start.Start.{Start}
 use Rattle.task_order.specs.declared.task.Task.{Task}
 use Rattle.task_order.specs.TaskList.{put_all}
-use Rattle.task_order.proofs.TaskLists.{AllByRecursion-put_all}
+use Rattle.task_order.specs.TaskListLaws.{All-put_all}
 use Rattle.app_laws.specs.Execution.{Execution, Outcome, acts, after_steps, children_from}
 use Rattle.mtx_reader.specs.declared.pattern.Pattern.{Pattern}
 use Rattle.mtx_reader.specs.Ascending.{IsIn, all_in, from_filter, from_map, in_filter, in_map}
@@ -252,17 +252,17 @@ module _ (pattern : Pattern) (is-pattern : IsPattern pattern) (from : ℕ) where
     sets_level = record {
       count = length-set cells task.body.at (At task.key.prio) ∙ at.count;
       by_priority = put_all_by_priority (children_from task.key 0 visits_then) others at.by_priority.1;
-      due = AllByRecursion-put_all (IsDue pattern from cells_then) (children_from task.key 0 visits_then) others (all_children (IsDue pattern from cells_then) task.key 0 visits_then child_due)
+      due = All-put_all (IsDue pattern from cells_then) (children_from task.key 0 visits_then) others (all_children (IsDue pattern from cells_then) task.key 0 visits_then child_due)
           (All-weaker (IsDue pattern from cells) (IsDue pattern from cells_then) (λ other due. record { visit = due.visit; walk = due.walk; few = omega (arith, due.few, one_more) }) others at.due.1);
       walked = λ loc l is. elim (set_then loc l is) [
         | inl here ↦ subst (λ (v : ℕ). HasWalk pattern from (suc v) l) (sym here.0) (subst (HasWalk pattern from (suc task.body.at)) (sym here.1) at.due.0.walk)
         | inr there ↦ at.walked loc l there.1
       ];
       no_higher = λ loc l is. elim (set_then loc l is) [
-        | inl here ↦ AllByRecursion-put_all (λ (t : Task). l ≤ t.key.prio) (children_from task.key 0 visits_then) others
+        | inl here ↦ All-put_all (λ (t : Task). l ≤ t.key.prio) (children_from task.key 0 visits_then) others
             (all_children (λ (t : Task). l ≤ t.key.prio) task.key 0 visits_then (λ child there. omega (arith, child_late child there, here.1)))
             (All-weaker (λ (t : Task). task.key.prio ≤ t.key.prio) (λ (t : Task). l ≤ t.key.prio) (λ t above. omega (arith, above, here.1)) others at.by_priority.0)
-        | inr there ↦ AllByRecursion-put_all (λ (t : Task). l ≤ t.key.prio) (children_from task.key 0 visits_then) others
+        | inr there ↦ All-put_all (λ (t : Task). l ≤ t.key.prio) (children_from task.key 0 visits_then) others
             (all_children (λ (t : Task). l ≤ t.key.prio) task.key 0 visits_then (λ child here. omega (arith, child_late child here, (at.no_higher loc l there.1).0)))
             (at.no_higher loc l there.1).1
       ];

@@ -1,6 +1,6 @@
 -- How a search begins, and what its levels are at its end.
-use Rattle.std.specs.Prelude.{◌≡◌, ℕ, zero, suc, ◌+◌, ◌-◌, ◌<◌, ◌≤◌, nat_lt, not, true, false, List, [], ◌∷◌, length, Option, None, Some, slice_get, refl, MatchOption}
-use Rattle.std.specs.List.{AllByRecursion, list_any}
+use Rattle.std.specs.Prelude.{◌≡◌, ℕ, zero, suc, ◌+◌, ◌-◌, ◌<◌, ◌≤◌, nat_lt, true, false, List, [], ◌∷◌, length, Option, None, Some, slice_get, refl, MatchOption}
+use Rattle.std.specs.List.{AllByRecursion}
 use Rattle.std.specs.Option.{option_map}
 use Rattle.std.proofs.Common.{arith, sym, subst, ◌∙◌, inl, inr}
 use Rattle.std.proofs.lemmas.Bool.{cond_both}
@@ -10,13 +10,15 @@ use Rattle.std.proofs.lemmas.Option.{same_Some, slice_get_within}
 use Rattle.plain_laws.specs.Lists.{All-push}
 use Rattle.task_order.specs.declared.start.Start.{Start}
 use Rattle.task_order.specs.declared.task.Task.{Task}
-use Rattle.task_order.specs.Key.{end as never, is_before}
+use Rattle.task_order.specs.Key.{end as never}
 use Rattle.task_order.specs.TaskList.{put_all}
 use Rattle.app_laws.specs.Execution.{Execution, acts, after_steps, first_from, is_clear_before, start_of, steps_until}
 use Rattle.app_laws.specs.Laws.{IsFirstClear, StopsWhenClear}
+use Rattle.app_laws.specs.StepLaws.{none_before_end}
+use Rattle.app_laws.specs.Names.{start_of_task}
 use Rattle.mtx_reader.specs.declared.pattern.Pattern.{Pattern}
 use Rattle.mtx_reader.specs.Patterns.{IsPattern}
-use Rattle.hook_app.specs.Hooked.{set_at, start_of_task}
+use Rattle.hook_app.specs.Hooked.{set_at}
 use Rattle.hook_app.specs.Values.{values_at}
 use Rattle.output_log.specs.Entries.{Entry}
 use Rattle.level_walk.specs.declared.level.Level.{Level}
@@ -107,10 +109,6 @@ module _ (pattern : Pattern) (is-pattern : IsPattern pattern) (from : ℕ) (from
 
 -- ---- the law
 
-none_pending : (pending : List Task) → not (list_any (λ (task : Task). is_before task.key never) pending) ≡ true → pending ≡ []
-none_pending [] clear = refl
-none_pending (task ∷ pending) clear = absurd cc
-
 run_is : {V : Type 0} (steps : Option ℕ) (e : ℕ → Execution V) (P : ℕ → Type 0) (last : Execution V) → option_map e steps ≡ Some last → MatchOption steps (Unit {0}) P
     → (count : ℕ) × (e count ≡ last) × P count
 run_is None e P last is known = absurd cc
@@ -124,7 +122,7 @@ levels_are_shortest stops pattern from limit last is-pattern from-one ends =
     (clears (steps_until act limit never start) (stops act start limit never)) in
     let at : IsSearched pattern from last.cells last.pending =
     subst (λ (e : Execution Level). IsSearched pattern from e.cells e.pending) ran.1 (steps_kept pattern is-pattern from ran.0 start (start_searched pattern is-pattern from from-one)) in
-    let none : last.pending ≡ [] = none_pending last.pending (subst (λ (e : Execution Level). is_clear_before never e ≡ true) ran.1 ran.2) in
+    let none : last.pending ≡ [] = none_before_end last.pending (subst (λ (e : Execution Level). is_clear_before never e ≡ true) ran.1 ran.2) in
     let ended : IsSearched pattern from last.cells [] = subst (IsSearched pattern from last.cells) none at in record {
       one_each = ended.count;
       shortest = λ loc level is. is_shortest pattern is-pattern from from-one last.cells loc level ended (let within = slice_get_within last.cells loc level is in omega (arith, within, ended.count)) is;

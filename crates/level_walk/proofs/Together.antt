@@ -11,7 +11,7 @@ use Rattle.plain_laws.specs.Lists.{length-filter_le}
 use Rattle.plain_laws.specs.Ranges.{All-map-range}
 use Rattle.task_order.specs.declared.start.Start.{Start}
 use Rattle.rw_sets.specs.Accesses.{Accesses, IsAscending, IsInRange}
-use Rattle.app_laws.specs.Applications.{AreFitStarts, IsWholeLines}
+use Rattle.app_laws.specs.LineLaws.{whole_behind}
 use Rattle.mtx_reader.specs.declared.pattern.Pattern.{Pattern}
 use Rattle.mtx_reader.specs.Ascending.{IsIn, all_from_in, from_filter, from_map}
 use Rattle.mtx_reader.specs.Patterns.{IsPattern}
@@ -26,16 +26,6 @@ use Rattle.level_walk.specs.VisitLaws.{own_at}
 use Rattle.level_walk.specs.Walks.{edges_from, vertex_count}
 use Rattle.level_walk.proofs.Between.{few_places}
 use Rattle.level_walk.proofs.Searching.{edge_within}
-
-ends_with_line_feed : (text : List ℕ) → IsWholeLines (text ++ 10 ∷ [])
-ends_with_line_feed [] = refl
-ends_with_line_feed (byte ∷ []) = refl
-ends_with_line_feed (byte ∷ next ∷ text) = ends_with_line_feed (next ∷ text)
-
-whole_behind : (front text : List ℕ) → IsWholeLines (front ++ (text ++ 10 ∷ []))
-whole_behind [] text = ends_with_line_feed text
-whole_behind (byte ∷ []) text = ends_with_line_feed (byte ∷ text)
-whole_behind (byte ∷ next ∷ front) text = whole_behind (next ∷ front) text
 
 module _ (pattern : Pattern) (is-pattern : IsPattern pattern) where
   pub few_edges : (vertex : ℕ) → length (edges_from pattern vertex) ≤ 16_785_409
@@ -94,11 +84,6 @@ module _ (pattern : Pattern) (is-pattern : IsPattern pattern) where
         subst (λ (vs : List Level). IsFitDeed (walking pattern) (vertex_sets (vertex_count pattern)) 1 start vs ((walking pattern).deed start vs)) (sym one.1)
         (visited_fit start one.0 visit (subst (AreValuesOf (walking pattern) (set_at (vertex_sets (vertex_count pattern)) start.body.at)) one.1 are));
   }
-
-  pub first_fit : (from : ℕ) → 1 ≤ from → AreFitStarts (levelling pattern) (first_visits pattern from)
-  first_fit from from-one =
-      cond_both (nat_lt (vertex_count pattern) from) [] (visit_of 0 from ∷ []) (AreFitStarts (levelling pattern)) (λ beyond. tt)
-      (λ among. let near : from ≤ vertex_count pattern = grind (arith, nat_tests, among) in (record { kind = refl; vertex = omega (arith, near, from-one); arg = refl; level = omega arith }, tt))
 
 all_unset : (count : ℕ) → AllByRecursion (λ (level : Level). Unit {0}) (replicate count Unset)
 all_unset zero = tt

@@ -13,9 +13,10 @@ use Rattle.cell_store.specs.Home.{IsHome}
 use Rattle.cell_store.specs.Part.{Part}
 use Rattle.cell_store.specs.Values.{homes, values_of}
 use Rattle.app_laws.specs.declared.child.Child.{Child}
+use Rattle.app_laws.specs.Names.{start_of_task}
 use Rattle.mtx_reader.specs.declared.pattern.Pattern.{Pattern}
 use Rattle.mtx_reader.specs.Places.{Place, IsWithin}
-use Rattle.hook_app.specs.Hooked.{AreValuesOf, set_at, start_of_task}
+use Rattle.hook_app.specs.Hooked.{AreValuesOf, set_at}
 use Rattle.hook_app.specs.Kept.{bundle_with, effect_with}
 use Rattle.hook_app.specs.OneLocation.{found_is, one_value, own_set, put_is}
 use Rattle.level_walk.specs.declared.level.Level.{Level}

@@ -12,19 +12,19 @@ use Rattle.task_order.specs.TaskList.{IsAscending, put_all}
 use Rattle.cell_store.specs.declared.cell.Cell.{Cell}
 use Rattle.cell_store.specs.Values.{homes, values_of}
 use Rattle.output_log.specs.Entries.{Entry, IsInKeyOrder, IsNewEntry, entries_before, joined_texts, with_entry}
-use Rattle.output_log.proofs.LogEntries.{IsInKeyOrder-last}
+use Rattle.output_log.specs.EntryLaws.{IsInKeyOrder-last, AreBefore, put_behind}
 use Rattle.app_laws.specs.declared.serial_run.Finals.{Finals}
 use Rattle.app_laws.specs.Applications.{Application, AreFitStarts}
 use Rattle.app_laws.specs.Execution.{Execution, first_from}
 use Rattle.app_laws.specs.Order.{is_prefix}
 use Rattle.app_laws.specs.Serial.{IsRun}
-use Rattle.app_laws.proofs.Apart.{length-first_from}
+use Rattle.app_laws.specs.TaskLaws.{length-first_from}
 use Rattle.commuting.specs.Clear.{IsClear}
 use Rattle.commuting.specs.Commuting.{BothEnd}
 use Rattle.commuting.specs.Rounds.{TakesRounds}
 use Rattle.commuting.specs.Standing.{ComeBefore, IsEndWith, StandsFor}
 use Rattle.commuting.specs.States.{State, after_task, execution_from, run_from, state_of}
-use Rattle.commuting.proofs.Logs.{new_where_unlogged}
+use Rattle.commuting.specs.EndLaws.{both_before, end_beside, given_up, new_where_unlogged, none_before}
 use Rattle.crew.specs.declared.answers.OverCause.{OverCause}
 use Rattle.crew.specs.declared.answers.OverCause.TheVariants as cause
 use Rattle.list_rounds.specs.declared.parts.RunParts.{RunParts}
@@ -32,9 +32,8 @@ use Rattle.list_rounds.specs.Acting.{HasActed, IsTooMany}
 use Rattle.list_rounds.specs.Basis.{Basis}
 use Rattle.list_rounds.specs.Course.{GoesOnFrom, HasCome, IsDrained, IsEndBehind, IsOnCourse, drainable, state_in, undrainable}
 use Rattle.list_rounds.specs.Rounds.{IsOverLimit, IsRunFault, most_tasks, start_state}
-use Rattle.list_rounds.proofs.Beside.{end_beside, given_up}
 use Rattle.list_rounds.proofs.Family.{all_after}
-use Rattle.list_rounds.proofs.Lists.{AreEarlier, before_is_earlier, before_later, both_before, earlier_than_later, none_before, put_behind}
+use Rattle.list_rounds.proofs.Lists.{before_is_earlier, before_later, earlier_than_later}
 
 module _ {V : Type 0} {app : Application V} (basis : Basis app) where
   -- ---- the start
@@ -128,7 +127,7 @@ module _ {V : Type 0} {app : Application V} (basis : Basis app) where
 
       earlier_after : ComeBefore course.drained (after_task app.act task (state_in old)).pending
       earlier_after =
-          all_after basis course.stands.ready clear.pending (λ (key : Key). AreEarlier key course.drained)
+          all_after basis course.stands.ready clear.pending (λ (key : Key). AreBefore key course.drained)
           (λ parent number prio later. earlier_than_later basis.transitive course.drained parent (child_key parent number prio) (basis.children_later parent number prio later)) course.earlier
 
       some_pending : 0 < length old.pending
@@ -155,7 +154,7 @@ module _ {V : Type 0} {app : Application V} (basis : Basis app) where
         log_after : entries_after ≡ course.drained ++ now.log.entries
         log_after =
             put_behind task.key (app.act task (values_of old.store)).text course.drained old.log.entries
-            (all_at (λ (other : Task). AreEarlier other.key course.drained) old.pending task course.earlier clear.pending)
+            (all_at (λ (other : Task). AreBefore other.key course.drained) old.pending task course.earlier clear.pending)
             ∙ ap (λ log. course.drained ++ log) (sym acted.log)
 
         pub acts_keep_course : IsOnCourse app start now

@@ -1,5 +1,5 @@
 -- The children of a task that acts.
-use Rattle.std.proofs.Common.{◌≡◌, ℕ, suc, ◌+◌, ◌<◌, ◌≤◌, ◌^◌, List, [], ◌∷◌, ◌++◌, length, map, refl, sym, ap, ◌∙◌, subst, arith}
+use Rattle.std.proofs.Common.{◌≡◌, ℕ, ◌+◌, ◌<◌, ◌≤◌, ◌^◌, List, [], ◌∷◌, ◌++◌, length, map, refl, sym, ap, ◌∙◌, subst, arith}
 use Rattle.std.specs.Prelude.{Contains}
 use Rattle.std.specs.List.{AllByRecursion}
 use Rattle.std.proofs.lemmas.List.{length-map}
@@ -11,20 +11,15 @@ use Rattle.task_order.specs.declared.start.Start.{Start}
 use Rattle.task_order.specs.declared.task.Task.{Task}
 use Rattle.task_order.specs.Key.{child_key}
 use Rattle.task_order.specs.TaskList.{HasDistinctKeys, IsNewKey, put_all, without}
-use Rattle.task_order.proofs.TaskLists.{AllByRecursion-put_all}
+use Rattle.task_order.specs.TaskListLaws.{All-put_all}
 use Rattle.app_laws.specs.declared.child.Child.{Child}
 use Rattle.app_laws.specs.Applications.{Application, AreFitStarts, IsFitTask, handed, starts_of}
 use Rattle.app_laws.specs.Execution.{children_from}
-use Rattle.app_laws.proofs.Apart.{length-children_from}
+use Rattle.app_laws.specs.TaskLaws.{length-children_from, all_children}
 use Rattle.commuting.specs.Clear.{IsReady}
 use Rattle.commuting.specs.States.{State, after_task}
 use Rattle.list_rounds.specs.Basis.{Basis}
 use Rattle.list_rounds.proofs.Lists.{new_in_front}
-
-all_children : (P : Key → Type 0) (parent : Key) → ((number prio : ℕ) → parent.prio ≤ prio → P (child_key parent number prio)) → (number : ℕ) (starts : List Start)
-    → AllByRecursion (λ (start : Start). parent.prio ≤ start.prio) starts → AllByRecursion (λ (task : Task). P task.key) (children_from parent number starts)
-all_children P parent each number [] later = tt
-all_children P parent each number (start ∷ starts) later = (each number start.prio later.0, all_children P parent each (suc number) starts later.1)
 
 module _ {V : Type 0} (app : Application V) (cells : List V) where
   -- children that are handed over are the operator's
@@ -58,7 +53,7 @@ module _ {V : Type 0} {app : Application V} (basis : Basis app) {state : State V
   all_after P each all =
       let Own = λ (other : Task). P other.key in
       let own = all_at Own state.pending task all there in
-      AllByRecursion-put_all Own (children_from task.key 0 (app.act task state.cells).children) (without task.key state.pending)
+      All-put_all Own (children_from task.key 0 (app.act task state.cells).children) (without task.key state.pending)
       (all_children P task.key (λ number prio later. each task.key number prio later own) 0 (app.act task state.cells).children (basis.lawful.children_come_no_earlier task state.cells ready.cells fit))
       (All-filter Own _ state.pending all)
 

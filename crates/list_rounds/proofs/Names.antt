@@ -1,55 +1,35 @@
 -- A run goes on where its pending tasks get other paths.
-use Rattle.std.proofs.Common.{◌≡◌, ◌≢◌, false, ℕ, ◌+◌, List, [], ◌∷◌, ◌++◌, length, map, Some, refl, sym, ap, ◌∙◌, subst, arith, append-nil, append_assoc}
+use Rattle.std.proofs.Common.{◌≡◌, false, ℕ, ◌+◌, List, [], ◌∷◌, ◌++◌, length, Some, refl, sym, ap, ◌∙◌, subst, arith, append-nil, append_assoc}
 use Rattle.std.specs.Prelude.{IfSome}
-use Rattle.std.specs.List.{AllByRecursion, flat_map}
-use Rattle.std.specs.declared.cmp.Ordering.TheVariants.{Less}
+use Rattle.std.specs.List.{AllByRecursion}
 use Rattle.std.proofs.lemmas.List.{length-map}
-use Rattle.std.proofs.lemmas.List.Folds.{flat_map-map}
-use Rattle.plain_laws.specs.Lists.{All-behind, All-shuffled}
-use Rattle.plain_laws.specs.Members.{all_at, all_from}
-use Rattle.task_order.specs.declared.start.Start.{Start}
+use Rattle.plain_laws.specs.Lists.{All-behind}
 use Rattle.task_order.specs.declared.task.Task.{Task}
-use Rattle.task_order.specs.Key.{end, key_cmp}
+use Rattle.task_order.specs.Key.{end}
 use Rattle.task_order.specs.TaskList.{put_all}
 use Rattle.cell_store.specs.Values.{homes, values_of}
-use Rattle.output_log.specs.Entries.{Entry, IsInKeyOrder, IsNewEntry, ShareNoKey, joined_by_key, joined_texts, with_entry, with_texts}
-use Rattle.output_log.proofs.LogEntries.{IsInKeyOrder-last}
-use Rattle.app_laws.specs.Applications.{Application, AreFitStarts, AreFitTasks, IgnoresNames, IsFitTask, PathsAreIgnored}
+use Rattle.output_log.specs.Entries.{Entry, IsInKeyOrder, ShareNoKey, joined_by_key, joined_texts, with_texts}
+use Rattle.output_log.specs.EntryLaws.{IsInKeyOrder-last, joined_behind, same_texts, share_turned}
+use Rattle.app_laws.specs.Applications.{Application, IgnoresNames, PathsAreIgnored}
 use Rattle.app_laws.specs.Execution.{Execution, first_from}
-use Rattle.app_laws.specs.Names.{AreListed, start_of_task}
 use Rattle.app_laws.specs.Order.{is_prefix}
 use Rattle.app_laws.specs.RenamingLaws.{as_many_listed}
 use Rattle.app_laws.specs.Renumbering.{AreRenumbered}
-use Rattle.app_laws.proofs.Apart.{length-first_from}
+use Rattle.app_laws.specs.TaskLaws.{length-first_from}
+use Rattle.app_laws.specs.ListedLaws.{listed_fit}
 use Rattle.commuting.specs.Clear.{IsReady}
 use Rattle.commuting.specs.Commuting.{BothEnd}
 use Rattle.commuting.specs.Renaming.{ComesToSame, HasSameTexts}
 use Rattle.commuting.specs.Standing.{IsLaterLog, IsRestOf, StandsFor}
 use Rattle.commuting.specs.States.{State, run_from, state_of}
+use Rattle.commuting.specs.EndLaws.{none_before}
 use Rattle.list_rounds.specs.declared.parts.RunParts.{RunParts}
 use Rattle.list_rounds.specs.Basis.{Basis}
 use Rattle.list_rounds.specs.Course.{GoesOnFrom, HasCome, IsEndBehind, IsOnCourse, state_in}
 use Rattle.list_rounds.specs.Renaming.{IsRenumbered}
 use Rattle.list_rounds.proofs.Beside.{both_through}
-use Rattle.list_rounds.proofs.Lists.{none_before, put_behind}
 
 -- ---- texts where later entries come behind, among some without a text
-
-share_turned : (entries others : List Entry) → ShareNoKey entries others → ShareNoKey others entries
-share_turned entries others new =
-    all_from (λ (entry : Entry). IsNewEntry entry.0 others) entries
-    (λ entry has. all_from (λ (other : Entry). other.0 ≢ entry.0) others
-    (λ other among same. all_at (λ (first : Entry). first.0 ≢ other.0) entries entry (all_at (λ (last : Entry). IsNewEntry last.0 entries) others other new among) has (sym same)))
-
-joined_behind : (front back others : List Entry) → AllByRecursion (λ other. AllByRecursion (λ entry. key_cmp entry.0 other.0 ≡ Less) front) others
-    → joined_by_key (front ++ back) others ≡ front ++ joined_by_key back others
-joined_behind front back [] later = refl
-joined_behind front back (other ∷ others) later =
-    ap (with_entry other.0 other.1) (joined_behind front back others later.1) ∙ put_behind other.0 other.1 front (joined_by_key back others) later.0
-
-same_texts : (log other : List Entry) → map (λ (entry : Entry). entry.1) log ≡ map (λ (entry : Entry). entry.1) other → joined_texts log ≡ joined_texts other
-same_texts log other same =
-    sym (flat_map-map (λ text. text) (λ (entry : Entry). entry.1) log) ∙ ap (flat_map (λ text. text)) same ∙ flat_map-map (λ text. text) (λ (entry : Entry). entry.1) other
 
 module _ {V : Type 0} {app : Application V} (basis : Basis app) where
   texts_behind : (drained silent rest : List Entry) → IsInKeyOrder (drained ++ silent) → with_texts silent ≡ [] → IsLaterLog drained rest → ShareNoKey (drained ++ silent) rest → ShareNoKey silent rest
@@ -62,14 +42,6 @@ module _ {V : Type 0} {app : Application V} (basis : Basis app) where
       ∙ ap (λ texts. joined_texts drained ++ texts) (ap joined_texts (basis.joins_commute silent rest back logs.ordered unheard) ∙ basis.silent_joins rest silent logs.ordered back turned none)
 
   -- ---- the tasks that are listed
-
-  starts_fit : (tasks : List Task) → AreFitTasks app tasks → AreFitStarts app (map start_of_task tasks)
-  starts_fit [] fit = tt
-  starts_fit (task ∷ tasks) fit = (fit.0, starts_fit tasks fit.1)
-
-  listed_fit : (pending : List Task) (first : List Start) → AreListed pending first → AreFitTasks app pending → AreFitStarts app first
-  listed_fit pending first listed fit =
-      subst (AreFitStarts app) (sym listed.starts) (starts_fit listed.tasks (All-shuffled (IsFitTask app) pending listed.tasks listed.same fit))
 
   -- ---- the run from the new tasks
 
@@ -86,7 +58,7 @@ module _ {V : Type 0} {app : Application V} (basis : Basis app) where
     next_ready : IsReady app (state_in now)
     next_ready =
         let ready = course.stands.ready in
-        subst (IsReady app) next_is (basis.starts_ready (values_of old.store) names.first ready.cells (listed_fit old.pending names.first names.listed ready.tasks))
+        subst (IsReady app) next_is (basis.starts_ready (values_of old.store) names.first ready.cells (listed_fit app old.pending names.first names.listed ready.tasks))
 
     -- from the start to the state in which the tasks got other paths
     behind_here : (limit : ℕ) (e middle last : Execution V) → run_from app.act limit end (state_in old) ≡ Some last → IsEndBehind course.ended_before course.text_before e middle

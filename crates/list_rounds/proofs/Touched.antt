@@ -1,37 +1,15 @@
 -- The pending tasks of which a horizon tells, before and after a task acts.
-use Rattle.std.proofs.Common.{◌≡◌, ℕ, suc, ◌+◌, ◌<◌, true, false, cond, List, [], ◌∷◌, ◌++◌, length, drop, get_or, refl, sym, ap, subst, ◌∙◌, add-one, drop-cons}
+use Rattle.std.proofs.Common.{◌≡◌, ℕ, suc, ◌+◌, ◌<◌, List, ◌∷◌, ◌++◌, length, drop, get_or, sym, ap, subst, ◌∙◌, add-one, drop-cons}
 use Rattle.std.specs.Prelude.{Contains}
-use Rattle.std.specs.Ordering.{is_lt}
 use Rattle.task_order.specs.declared.key.Key.{Key}
 use Rattle.task_order.specs.declared.task.Task.{Task}
-use Rattle.task_order.specs.Key.{child_key, key_cmp}
+use Rattle.task_order.specs.Key.{child_key}
 use Rattle.task_order.specs.Laws.{PutRestoresWithout}
 use Rattle.task_order.specs.TaskList.{IsAscending, put_all, put_in, without}
+use Rattle.task_order.specs.TaskListLaws.{IsSplit, put_splits}
 use Rattle.app_laws.specs.declared.child.Child.{Child}
 use Rattle.app_laws.specs.Applications.{starts_of}
 use Rattle.app_laws.specs.Execution.{children_from}
-
--- a task stands among these, and the rest are the others
-pub record IsSplit (task : Task) (tasks rest : List Task) : Type 0 where
-  pub before : List Task
-  pub after : List Task
-  pub all : tasks ≡ before ++ task ∷ after
-  pub others : rest ≡ before ++ after
-
--- a task that was put in stands among the others
-put_splits : (task : Task) (tasks : List Task) → IsSplit task (put_in task tasks) tasks
-put_splits task [] = record { before = []; after = []; all = refl; others = refl }
-put_splits task (other ∷ tasks) =
-    let rest = put_splits task tasks in
-    elim (is_lt (key_cmp other.key task.key)) as (λ past. IsSplit task (cond past (other ∷ put_in task tasks) (task ∷ other ∷ tasks)) (other ∷ tasks)) [
-      | true ↦ record {
-        before = other ∷ rest.before;
-        after = rest.after;
-        all = ap (λ (tasks : List Task). other ∷ tasks) rest.all;
-        others = ap (λ (tasks : List Task). other ∷ tasks) rest.others;
-      }
-      | false ↦ record { before = []; after = other ∷ tasks; all = refl; others = refl }
-    ]
 
 -- what is told of all tasks is told of what comes of the others, once the task went
 pub told_of_others : PutRestoresWithout → (task : Task) (tasks : List Task) → IsAscending tasks → Contains tasks task → (Before After : List Task → Type 0)

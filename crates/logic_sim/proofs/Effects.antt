@@ -3,6 +3,7 @@ use Rattle.std.proofs.Common.{◌≡◌, ◌∙◌, ℕ, ◌<◌, Bool, true, fa
 use Rattle.std.specs.Prelude.{◌==◌, if◌then◌else◌, IsSome, slice_index, slice_set}
 use Rattle.std.specs.List.{AllByRecursion}
 use Rattle.std.proofs.lemmas.List.{map-append}
+use Rattle.app_laws.specs.EffectLaws.{same_effects}
 use Rattle.bench_reader.specs.declared.deck.Form.{Form}
 use Rattle.bench_reader.specs.declared.deck.Form.TheVariants.{Input, Gate, Dff}
 use Rattle.task_order.specs.declared.start.Start.{Start}
@@ -36,10 +37,6 @@ record IsTakenBy (set : Accesses) (bundle : Part ℕ) (cells : List ℕ) : Type 
   ascending : IsAscending set
   below : (loc : ℕ) → IsSome (access_at set loc) → loc < length cells
   is : bundle ≡ part_of (homes cells) set
-
-same_effects : {one two : Part ℕ} {made others : List Child} {line more : List ℕ} → one ≡ two → made ≡ others → line ≡ more
-    → ◌≡◌ {A = Effect ℕ} (record { bundle = one; children = made; text = line }) (record { bundle = two; children = others; text = more })
-same_effects e f h = cc
 
 module _ {set : Accesses} {bundle : Part ℕ} {cells : List ℕ} (taken : IsTakenBy set bundle cells) where
   cell_found : (loc : ℕ) → IsSome (access_at set loc) → cell_in bundle loc ≡ Home (slice_index cells loc)

@@ -12,6 +12,7 @@ use Rattle.task_order.specs.declared.task.Body.{Body}
 use Rattle.task_order.specs.declared.task.Task.{Task}
 use Rattle.task_order.specs.Key.{key_cmp}
 use Rattle.task_order.specs.TaskList.{IsAscending}
+use Rattle.task_order.specs.KeyLaws.{earlier_prio}
 use Rattle.rw_sets.specs.Accesses.{writes}
 use Rattle.app_laws.specs.Applications.{AreFitTasks}
 use Rattle.logic_sim.specs.Circuit.{IsFitTask}
@@ -22,7 +23,7 @@ use Rattle.logic_sim.specs.Event.{Simulation, change_kind, delay_of, plan_place,
 use Rattle.logic_sim.specs.Horizon.{ArePending, IsLeast, comes_at, first_time, never}
 use Rattle.logic_sim.specs.Lawful.{change_set-written, eval_set-written}
 use Rattle.logic_sim.specs.Meaning.{change_set, eval_set, set_for, simulation}
-use Rattle.logic_sim.specs.Safety.{earlier_prio, moment-change, moment-plan}
+use Rattle.logic_sim.specs.Safety.{moment-change, moment-plan}
 use Rattle.logic_sim.proofs.Nearness.{any_or}
 
 -- none of what is later has an earlier time

@@ -9,13 +9,9 @@ use Rattle.std.proofs.lemmas.List.Elements.{All-from_get_or}
 use Rattle.std.proofs.lemmas.List.Folds.{list_any-append, list_any_more}
 use Rattle.std.proofs.lemmas.Map.Keys.{IsDistinct-head, IsDistinct-push, IsDistinct-tail}
 use Rattle.std.proofs.lemmas.Map.Steps.{length-le_from_distinct_below}
-use Rattle.plain_laws.specs.Bools.{or_true}
+use Rattle.plain_laws.specs.Bools.{or_true, or_false}
 use Rattle.logic_sim.specs.Queue.{AreAdded, IsQueue}
 use Rattle.logic_sim.specs.Wiring.{is_among}
-
-or_false : (b : Bool) → (b || false) ≡ b
-or_false true = refl
-or_false false = refl
 
 -- a signal that waits, or is none, is put in to no effect
 pub put_idle : (waits : List Bool) (signal : ℕ) → get_or waits signal true ≡ true → set waits signal true ≡ waits

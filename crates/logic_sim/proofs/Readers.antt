@@ -7,7 +7,7 @@ use Rattle.std.proofs.lemmas.List.{append-nil, get_or_read, get_or-replicate, ge
 use Rattle.std.proofs.lemmas.List.Elements.{All-from_get_or, All-from_recursion, All-same}
 use Rattle.std.proofs.lemmas.List.Folds.{list_any_more}
 use Rattle.std.proofs.lemmas.Option.{slice_get-get_or}
-use Rattle.plain_laws.specs.Bools.{or_true}
+use Rattle.plain_laws.specs.Bools.{or_true, or_false}
 use Rattle.bench_reader.specs.Decks.{IsWired}
 use Rattle.bench_reader.specs.declared.deck.Form.{Form}
 use Rattle.bench_reader.specs.declared.deck.Form.TheVariants.{Input, Gate, Dff}
@@ -43,10 +43,6 @@ pushed false old gates gate is absent = ap (λ (zs : List ℕ). zs ++ gate ∷ [
 kept : (added : Bool) (old gates : List ℕ) (gate : ℕ) → All (λ other. other < gate) old → gates ≡ old ++ (if added then gate ∷ [] else []) → last_is gate gates ≡ true → gates ≡ old ++ gate ∷ []
 kept true old gates gate below is present = is
 kept false old gates gate below is present = absurd (false≢true (sym (last_is-below gate old below) ∙ ap (last_is gate) (sym (is ∙ append-nil old)) ∙ present))
-
-or_false : (b : Bool) → (b || false) ≡ b
-or_false true = refl
-or_false false = refl
 
 is_among-more : (fan_in : List ℕ) (k number : ℕ) → k < length fan_in → is_among (take (k + 1) fan_in) number ≡ (is_among (take k fan_in) number || (get_or fan_in k 0 == number))
 is_among-more fan_in k number below = list_any_more (λ other. other == number) fan_in k 0 below

@@ -4,6 +4,7 @@ use Rattle.std.specs.Prelude.{Contains, IsSome}
 use Rattle.std.specs.List.{AllByRecursion}
 use Rattle.std.proofs.lemmas.List.Elements.{All-from_recursion, All-get_or}
 use Rattle.std.proofs.lemmas.List.FromFn.{get_or-map-range_with_len, length-map-range_with_len, map-range_with_len_more}
+use Rattle.rw_sets.specs.PairLaws.{contains_later}
 use Rattle.bench_reader.specs.Decks.{IsSoundlyWired, IsWired}
 use Rattle.bench_reader.specs.declared.deck.Form.{Form}
 use Rattle.bench_reader.specs.declared.deck.Form.TheVariants.{Input, Gate, Dff}
@@ -14,7 +15,7 @@ use Rattle.rw_sets.specs.Accesses.{Accesses, access_at, merged}
 use Rattle.logic_sim.specs.Bundles.{IsReadable}
 use Rattle.logic_sim.specs.Event.{Simulation, plan_place, value_place}
 use Rattle.logic_sim.specs.Laws.{filter_range, length-filter_range}
-use Rattle.logic_sim.specs.Lawful.{eval_set-named, listed_later, plan_listed, wired}
+use Rattle.logic_sim.specs.Lawful.{eval_set-named, plan_listed, wired}
 use Rattle.logic_sim.specs.Meaning.{eval_accesses, eval_set}
 use Rattle.logic_sim.specs.Tables.{sets_among}
 use Rattle.logic_sim.specs.Wiring.{fan_in_of, readers_of, reads, signal_at}
@@ -63,7 +64,7 @@ readers_few signals number = length-filter_range (reads signals number) (length 
 of_reads : (fan_in : List ℕ) (gate : ℕ) (P : ℕ → Type 0) → ((p : ℕ × Access) → Contains (eval_accesses fan_in gate) p → P p.0) → AllByRecursion (λ signal. P (value_place signal)) fan_in
 of_reads [] gate P each = tt
 of_reads (signal ∷ fan_in) gate P each =
-    (each (value_place signal, Read) (0, omega arith, refl), of_reads fan_in gate P (λ p listed. each p (listed_later (value_place signal, Read) (eval_accesses fan_in gate) p listed)))
+    (each (value_place signal, Read) (0, omega arith, refl), of_reads fan_in gate P (λ p listed. each p (contains_later (value_place signal, Read) (eval_accesses fan_in gate) p listed)))
 
 -- the set of an evaluation names the values of the fan-ins
 pub fan_in_named : (c : Simulation) (gate : ℕ) → AllByRecursion (λ signal. IsSome (access_at (eval_set c.deck gate) (value_place signal))) (fan_in_of (signal_at c.deck.signals gate).form)

@@ -2,14 +2,14 @@
 use Rattle.std.proofs.Common.{◌≡◌, ◌≢◌, ◌∙◌, ℕ, ◌+◌, ◌-◌, ◌*◌, ◌^◌, ◌<◌, ◌≤◌, ◌⊎◌, Bool, true, false, List, [], ◌∷◌, Some, None, slice_get, length, min, ap, sym, refl, subst, inl, inr, arith}
 use Rattle.std.specs.Prelude.{◌==◌, ◌%◌, ◌&&◌, ◌||◌, not, nat_le, nat_lt, slice_index}
 use Rattle.std.specs.List.{AllByRecursion, filter, list_all, list_any}
-use Rattle.std.specs.Ordering.{is_lt, nat_cmp}
+use Rattle.std.specs.Ordering.{is_lt}
 use Rattle.std.specs.declared.cmp.Ordering.TheVariants.{Less}
-use Rattle.std.proofs.lemmas.Bool.{and_from, and_parts, cases_Bool, cases_lt, eq-eqb, eqb-true, false≢true, false_from_ne_true, le-leb, le-ltb, leb-true, lt-ltb, ltb-true, or_from}
+use Rattle.std.proofs.lemmas.Bool.{and_from, and_parts, cases_Bool, eq-eqb, eqb-true, false≢true, false_from_ne_true, le-leb, le-ltb, leb-true, lt-ltb, ltb-true, or_from}
 use Rattle.std.proofs.lemmas.Bool.Decides.{nat_tests}
 use Rattle.plain_laws.specs.Bools.{and_false}
+use Rattle.task_order.specs.KeyLaws.{earlier_prio, later_prio}
 use Rattle.bench_reader.specs.Decks.{IsSoundlyWired}
 use Rattle.bench_reader.specs.declared.deck.Form.{Form}
-use Rattle.task_order.specs.declared.key.Key.{Key}
 use Rattle.task_order.specs.declared.task.Body.{Body}
 use Rattle.task_order.specs.declared.task.Task.{Task}
 use Rattle.task_order.specs.Key.{key_cmp}
@@ -25,19 +25,10 @@ use Rattle.logic_sim.specs.Horizon.{AreSettled, ArePending, IsLeast, any_near, f
 use Rattle.logic_sim.specs.Lawful.{wired}
 use Rattle.logic_sim.specs.Laws.{delays_are_positive, no_input_from_flip_flop, no_input_from_gate}
 use Rattle.logic_sim.specs.Meaning.{change_set, eval_set, set_for, simulation}
-use Rattle.logic_sim.specs.Safety.{earlier_prio, moment-change, moment-plan, threat-change, threat-plan}
+use Rattle.logic_sim.specs.Safety.{moment-change, moment-plan, threat-change, threat-plan}
 use Rattle.logic_sim.specs.Wiring.{fan_in_of, is_among, readers_of, signal_at}
 use Rattle.logic_sim.proofs.Nearness.{any_kept, any_near_exact, any_or, any_swap, entry_exact, none_of_all}
 use Rattle.logic_sim.proofs.OwnMoments.{lt_delayed, lt_min, plans_tell}
-
--- a key that is not earlier has no lower priority
-later_prio : (a b : Key) → is_lt (key_cmp a b) ≡ false → b.prio ≤ a.prio
-later_prio a b later = elim (cases_lt a.prio b.prio) [
-  | inl low ↦
-      let before : nat_cmp a.prio b.prio ≡ Less = grind (arith, nat_tests, low) in
-      absurd (cc (rw before at later))
-  | inr high ↦ high
-]
 
 le_not : (a b : ℕ) → nat_le a b ≡ not (nat_lt b a)
 le_not a b = grind (arith, nat_tests)

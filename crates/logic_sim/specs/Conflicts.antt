@@ -7,9 +7,9 @@ use Rattle.rw_sets.specs.declared.access.Access.{Access}
 use Rattle.rw_sets.specs.declared.access.Access.TheVariants.{Read, Write}
 use Rattle.rw_sets.specs.Accesses.{Accesses, Conflicts, access_at, allows_write, clash, writes}
 use Rattle.rw_sets.specs.AccessLaws.{ascending_none}
-use Rattle.rw_sets.specs.PairLaws.{pairs_are_named, pairs_are_written}
+use Rattle.rw_sets.specs.PairLaws.{contains_later, pairs_are_named, pairs_are_written}
 use Rattle.logic_sim.specs.Event.{Simulation, plan_place, value_place}
-use Rattle.logic_sim.specs.Lawful.{change_set-named, change_set-written, changed_is, eval_set-named, listed_later}
+use Rattle.logic_sim.specs.Lawful.{change_set-named, change_set-written, changed_is, eval_set-named}
 use Rattle.logic_sim.specs.Meaning.{change_set, eval_accesses, eval_set}
 use Rattle.logic_sim.specs.Wiring.{fan_in_of, is_among, signal_at}
 
@@ -55,7 +55,7 @@ value_listed : (fan_in : List ℕ) (gate signal : ℕ) → is_among fan_in signa
 value_listed [] gate signal among = absurd (false≢true among)
 value_listed (first ∷ fan_in) gate signal among = elim (or_cases (first == signal) (is_among fan_in signal) among) [
   | inl here ↦ (0, omega arith, ap (λ (s : ℕ). (value_place s, Read)) (eqb-true first signal here))
-  | inr later ↦ listed_later (value_place first, Read) (eval_accesses fan_in gate) (value_place signal, Read) (value_listed fan_in gate signal later)
+  | inr later ↦ contains_later (value_place first, Read) (eval_accesses fan_in gate) (value_place signal, Read) (value_listed fan_in gate signal later)
 ]
 
 abbrev fan_ins : Deck → ℕ → List ℕ

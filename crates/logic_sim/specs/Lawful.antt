@@ -10,7 +10,8 @@ use Rattle.std.proofs.lemmas.Bool.Decides.{nat_tests}
 use Rattle.std.proofs.lemmas.List.Elements.{All-get_or, recursion_from_All}
 use Rattle.std.proofs.lemmas.List.Folds.{list_all-append, list_all-map}
 use Rattle.std.proofs.lemmas.Option.{slice_get-get_or, same_Some}
-use Rattle.plain_laws.specs.Lists.{get-set_same}
+use Rattle.plain_laws.specs.Lists.{get-set_same, get-set_other}
+use Rattle.app_laws.specs.LineLaws.{whole_behind}
 use Rattle.bench_reader.specs.Decks.{IsSoundlyWired, IsWired}
 use Rattle.bench_reader.specs.declared.deck.Form.{Form}
 use Rattle.bench_reader.specs.declared.deck.Form.TheVariants.{Input, Gate, Dff}
@@ -23,7 +24,7 @@ use Rattle.rw_sets.specs.Accesses.{Accesses, IsAscending, access_at, allows_writ
 use Rattle.rw_sets.specs.AccessLaws.{access_first, access_other, ascending_cons, ascending_none}
 use Rattle.rw_sets.specs.LookupLaws.{merges_hold_both}
 use Rattle.rw_sets.specs.MergeLaws.{ascending_merged}
-use Rattle.rw_sets.specs.PairLaws.{pairs_are_named, pairs_are_written}
+use Rattle.rw_sets.specs.PairLaws.{contains_later, pairs_are_named, pairs_are_written}
 use Rattle.app_laws.specs.Applications.{AgreeOn, IsFitTask as IsTaskOf, IsInRange, IsWholeLines, set_in, tasks_before, CellsAreCounted, SetsAreInRange, ActsAreFit, SetsAreLocal, IsSameOutcome, ActsAreLocal, ActsIgnorePaths, ChildrenComeNoEarlier, SetsStayWithin, WalksAreTrue, FixedSetsAreKnown, IsSafeAlone, SafeTasksStaySafe, SafetyIgnoresPaths, IsLawful, PathsAreIgnored}
 use Rattle.app_laws.specs.Execution.{Outcome, children_from}
 use Rattle.app_laws.specs.Names.{renamed}
@@ -40,12 +41,9 @@ of_listed P [] p all (k, lt, e) = absurd (omega arith)
 of_listed P (q ∷ qs) p all (zero, lt, e) = subst P e all.0
 of_listed P (q ∷ qs) p all (suc k, lt, e) = of_listed P qs p all.1 (k, omega arith, e)
 
-pub listed_later : (q : ℕ × Access) (qs : Accesses) (p : ℕ × Access) → Contains qs p → Contains (q ∷ qs) p
-listed_later q qs p (k, lt, e) = (suc k, omega arith, e)
-
 pub plan_listed : (fan_in : List ℕ) (gate : ℕ) → Contains (eval_accesses fan_in gate) (plan_place gate, Write)
 plan_listed [] gate = (0, omega arith, refl)
-plan_listed (signal ∷ fan_in) gate = listed_later (value_place signal, Read) (eval_accesses fan_in gate) (plan_place gate, Write) (plan_listed fan_in gate)
+plan_listed (signal ∷ fan_in) gate = contains_later (value_place signal, Read) (eval_accesses fan_in gate) (plan_place gate, Write) (plan_listed fan_in gate)
 
 -- the set of a change, by locations
 pub changed_is : (signal loc : ℕ) → IsSome (access_at (change_set signal) loc) → value_place signal ≡ loc
@@ -62,14 +60,6 @@ change_set-written signal = ap allows_write (access_first (value_place signal, W
 
 pub change_set-ascending : (signal : ℕ) → IsAscending (change_set signal)
 change_set-ascending signal = ascending_cons (value_place signal, Write) [] tt ascending_none
-
--- what one location has, where a list is changed at one
-get-set_other : (cells : List ℕ) (place loc value : ℕ) → loc ≢ place → slice_get (slice_set cells place value) loc ≡ slice_get cells loc
-get-set_other [] place loc value differs = refl
-get-set_other (cell ∷ cells) zero zero value differs = absurd (differs refl)
-get-set_other (cell ∷ cells) zero (suc loc) value differs = refl
-get-set_other (cell ∷ cells) (suc place) zero value differs = refl
-get-set_other (cell ∷ cells) (suc place) (suc loc) value differs = get-set_other cells place loc value (λ e. differs (ap suc e))
 
 get-set_alike : (cells others : List ℕ) (place loc value : ℕ) → place < length cells → place < length others →
     slice_get cells loc ≡ slice_get others loc → slice_get (slice_set cells place value) loc ≡ slice_get (slice_set others place value) loc
@@ -92,16 +82,6 @@ updated-elsewhere : (idle : Bool) (place value : ℕ) (children : List Start) (t
     slice_get (updated idle place value children text cells).cells loc ≡ slice_get cells loc
 updated-elsewhere true place value children text cells loc differs = refl
 updated-elsewhere false place value children text cells loc differs = get-set_other cells place loc value differs
-
-ends_with_line_feed : (text : List ℕ) → IsWholeLines (text ++ 10 ∷ [])
-ends_with_line_feed [] = refl
-ends_with_line_feed (byte ∷ []) = refl
-ends_with_line_feed (byte ∷ next ∷ text) = ends_with_line_feed (next ∷ text)
-
-whole_behind : (front text : List ℕ) → IsWholeLines (front ++ (text ++ 10 ∷ []))
-whole_behind [] text = ends_with_line_feed text
-whole_behind (byte ∷ []) text = ends_with_line_feed (byte ∷ text)
-whole_behind (byte ∷ next ∷ front) text = whole_behind (next ∷ front) text
 
 module _ (c : Simulation) where
   updated-alike : (set : Accesses) (idle : Bool) (place value : ℕ) (children : List Start) (text cells others : List ℕ) → place < length cells → place < length others → AgreeOn set cells others →
@@ -231,7 +211,7 @@ module _ (c : Simulation) where
   values_alike [] gate cells others agree = refl
   values_alike (signal ∷ fan_in) gate cells others agree =
       let here : value_in cells signal ≡ value_in others signal = agree (value_place signal, Read) (0, omega arith, refl) in
-      let rest = values_alike fan_in gate cells others (λ p listed. agree p (listed_later (value_place signal, Read) (eval_accesses fan_in gate) p listed)) in
+      let rest = values_alike fan_in gate cells others (λ p listed. agree p (contains_later (value_place signal, Read) (eval_accesses fan_in gate) p listed)) in
       ap (λ value. value ∷ map (value_in cells) fan_in) here ∙ ap (λ values. value_in others signal ∷ values) rest
 
   computed_by-alike : (form : Form) (gate : ℕ) (cells others : List ℕ) → ((p : ℕ × Access) → Contains (eval_accesses (fan_in_of form) gate) p → slice_index cells p.0 ≡ slice_index others p.0) →

@@ -8,6 +8,7 @@ use Rattle.std.proofs.lemmas.List.Elements.{All-set, recursion_from_All}
 use Rattle.std.proofs.lemmas.Bool.{false≢true}
 use Rattle.std.proofs.lemmas.List.FromFn.{length-range_with_len}
 use Rattle.std.proofs.lemmas.List.Sums.{count_by-le-length, length-filter}
+use Rattle.plain_laws.specs.Lists.{All-map}
 use Rattle.bench_reader.specs.Decks.{IsSoundlyWired}
 use Rattle.bench_reader.specs.declared.deck.Deck.{Deck}
 use Rattle.bench_reader.specs.declared.deck.Form.{Form}
@@ -38,10 +39,6 @@ pub filter_range : (P : ℕ → Type 0) (p : ℕ → Bool) (a n : ℕ) → ((z :
 filter_range P p a zero each = tt
 filter_range P p a (suc n) each =
     cons_if P (p a) a (filter p (range_with_len (a + 1) n)) (each a (omega arith)) (filter_range P p (a + 1) n (λ z h. each z (omega arith)))
-
-pub all_mapped : {X : Type 0} (P : X → Type 0) (f : ℕ → X) (zs : List ℕ) → AllByRecursion (λ z. P (f z)) zs → AllByRecursion P (map f zs)
-all_mapped P f [] all = tt
-all_mapped P f (z ∷ zs) all = (all.0, all_mapped P f zs all.1)
 
 pub each_one : {X : Type 0} (P : X → Type 0) (f : ℕ → X) (zs : List ℕ) → ((z : ℕ) → P (f z)) → AllByRecursion P (map f zs)
 each_one P f [] each = tt
@@ -133,13 +130,13 @@ tick_at-fit c time z in_range flip_flop = inr (inr (record { kind = refl; odd = 
 
 readers_fit : (c : Simulation) (time number : ℕ) → AllFit (IsFitTask c) (map (eval_at time) (readers_of c.deck.signals number))
 readers_fit c time number =
-    all_mapped _ (eval_at time) _ (filter_range _ (reads c.deck.signals number) 0 (length c.deck.signals)
+    All-map _ (eval_at time) _ (filter_range _ (reads c.deck.signals number) 0 (length c.deck.signals)
     (λ z below reads_it. eval_at-fit c time z (omega arith) (gate_from_reads (signal_at c.deck.signals z).form number reads_it)))
 
 ticks_fit : (c : Simulation) → AllFit (IsFitTask c) (first_ticks c)
 ticks_fit c =
     either (AllFit (IsFitTask c)) (nat_le c.clock c.until) (map (tick_at c.clock) (flip_flops_of c.deck.signals)) []
-    (all_mapped _ (tick_at c.clock) _ (filter_range _ (λ number. is_flip_flop (signal_at c.deck.signals number).form) 0 (length c.deck.signals)
+    (All-map _ (tick_at c.clock) _ (filter_range _ (λ number. is_flip_flop (signal_at c.deck.signals number).form) 0 (length c.deck.signals)
     (λ z below flip_flop. tick_at-fit c c.clock z (omega arith) flip_flop)))
     tt
 
@@ -151,7 +148,7 @@ ticks_few c read =
 
 gates_fit : (c : Simulation) → AllFit (IsFitTask c) (map (eval_at 0) (gates_of c.deck.signals))
 gates_fit c =
-    all_mapped _ (eval_at 0) _ (filter_range _ (λ number. is_gate (signal_at c.deck.signals number).form) 0 (length c.deck.signals)
+    All-map _ (eval_at 0) _ (filter_range _ (λ number. is_gate (signal_at c.deck.signals number).form) 0 (length c.deck.signals)
     (λ z below gate. eval_at-fit c 0 z (omega arith) gate))
 
 gates_few : (deck : Deck) → IsSoundlyWired deck → length (map (eval_at 0) (gates_of deck.signals)) ≤ 4096

@@ -1,20 +1,20 @@
 -- Safe events stay safe: what follows from an earlier event comes no nearer to them than that event does.
 use Rattle.std.specs.Prelude.{◌≡◌, ◌≢◌, ℕ, zero, suc, ◌+◌, ◌*◌, ◌%◌, ◌<◌, ◌≤◌, ◌==◌, ◌⊎◌, ◌||◌, nat_le, not, if◌then◌else◌, Bool, true, false, List, [], ◌∷◌, ◌++◌, length, map, refl}
 use Rattle.std.specs.List.{AllByRecursion, filter, list_all, list_any, range_with_len}
-use Rattle.std.specs.Ordering.{is_lt, nat_cmp}
-use Rattle.std.specs.declared.cmp.Ordering.TheVariants.{Less, Greater}
+use Rattle.std.specs.Ordering.{is_lt}
+use Rattle.std.specs.declared.cmp.Ordering.TheVariants.{Less}
 use Rattle.std.proofs.Common.{arith, ap, get_or, inl, inr, subst, sym, ◌∙◌}
 use Rattle.std.proofs.lemmas.Bool.{and_from, and_parts, cases_Bool, cases_lt, eq-eqb, eqb-true, false≢true, false_from_ne_true, ne_eqb, not-true, not_from_false, or_cases, or_left, or_parts, or_right}
 use Rattle.std.proofs.lemmas.Bool.Decides.{nat_tests}
 use Rattle.std.proofs.lemmas.List.{get_or_past}
 use Rattle.std.proofs.lemmas.List.Folds.{list_all-append, list_all-map}
-use Rattle.plain_laws.specs.Lists.{All-append, All-middle}
+use Rattle.plain_laws.specs.Lists.{All-append, All-map, All-middle}
+use Rattle.task_order.specs.KeyLaws.{earlier_prio}
 use Rattle.bench_reader.specs.Decks.{IsSoundlyWired}
 use Rattle.bench_reader.specs.declared.deck.Deck.{Deck}
 use Rattle.bench_reader.specs.declared.deck.Form.{Form}
 use Rattle.bench_reader.specs.declared.deck.Form.TheVariants.{Input, Gate, Dff}
 use Rattle.bench_reader.specs.declared.deck.Signal.{Signal}
-use Rattle.task_order.specs.declared.key.Key.{Key}
 use Rattle.task_order.specs.declared.start.Start.{Start}
 use Rattle.task_order.specs.declared.task.Body.{Body}
 use Rattle.task_order.specs.declared.task.Task.{Task}
@@ -30,7 +30,7 @@ use Rattle.logic_sim.specs.Distance.{comes_to_change, comes_to_plan, drivers_of,
 use Rattle.logic_sim.specs.DistanceLaws.{any_at, any_weaker, leads_from_driver, leads_here, leads_sooner}
 use Rattle.logic_sim.specs.Event.{Simulation, act_of, change_at, change_kind, delay_of, eval_at, eval_kind, eval_of, event_of, next_changes, next_ticks, nothing_done, plan_in, plan_of, tick_at, tick_kind, time_of, value_in}
 use Rattle.logic_sim.specs.Lawful.{acts_are_fit, acts_are_local, acts_ignore_paths, cells_are_counted, children_come_no_earlier, sets_are_in_range, sets_are_local, sets_stay_within, walks_are_true}
-use Rattle.logic_sim.specs.Laws.{all_mapped, either, filter_range}
+use Rattle.logic_sim.specs.Laws.{either, filter_range}
 use Rattle.logic_sim.specs.Meaning.{change_set, eval_set, set_for, simulation}
 use Rattle.logic_sim.specs.Wiring.{fan_in_of, is_among, no_signal, readers_of, reads, signal_at, watched_by}
 
@@ -53,15 +53,6 @@ put_in_passes p task (other ∷ tasks) passes all =
 put_all_passes : (p : Task → Bool) (new tasks : List Task) → AllByRecursion (λ task. p task ≡ true) new → list_all p tasks ≡ true → list_all p (put_all new tasks) ≡ true
 put_all_passes p [] tasks passes all = all
 put_all_passes p (task ∷ new) tasks passes all = put_all_passes p new (put_in task tasks) passes.1 (put_in_passes p task tasks passes.0 all)
-
--- a key that is not later has no higher priority
-pub earlier_prio : (a b : Key) → is_lt (key_cmp a b) ≡ true → a.prio ≤ b.prio
-earlier_prio a b earlier = elim (cases_Bool (nat_le a.prio b.prio)) [
-  | inl low ↦ grind (arith, nat_tests, low)
-  | inr high ↦
-      let later : nat_cmp a.prio b.prio ≡ Greater = grind (arith, nat_tests, high) in
-      absurd (cc (rw later at earlier))
-]
 
 -- in a range the numbers that pass stay
 pub ranged : (p : ℕ → Bool) (a n number : ℕ) → a ≤ number → number < a + n → p number ≡ true → is_among (filter p (range_with_len a n)) number ≡ true
@@ -156,7 +147,7 @@ module _ (c : Simulation) where
       let time = time_of task.key.prio in
       subst (λ (kind : ℕ). AllFollow c task (event_of c kind time task.body.at task.body.arg cells).children) (sym change.kind)
       (either (λ (outcome : Outcome ℕ). AllFollow c task outcome.children) (value_in cells task.body.at == task.body.arg) (nothing_done cells) _ tt
-      (all_mapped (λ (start : Start). Follows c task start.prio start.body) (eval_at time) (readers_of c.deck.signals task.body.at)
+      (All-map (λ (start : Start). Follows c task start.prio start.body) (eval_at time) (readers_of c.deck.signals task.body.at)
       (filter_range (λ z. Follows c task (eval_at time z).prio (eval_at time z).body) (reads c.deck.signals task.body.at) 0 (length c.deck.signals)
       (λ z below among. inl (record { changed = change.kind; evaluated = refl; driver = among; at_once = refl })))))
   act_of-follows task cells (inr (inl eval)) =

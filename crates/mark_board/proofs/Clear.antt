@@ -1,5 +1,5 @@
 -- When the least numbers of all rounds tell that nothing of a lower rank was marked in this one.
-use Rattle.std.proofs.Common.{◌≡◌, ◌≢◌, ⊎_elim, ℕ, zero, suc, ◌+◌, ◌-◌, ◌<◌, ◌≤◌, ◌==◌, eq-eqb, nat_lt, List, [], ◌∷◌, Option, Some, None, IsSome, IsTrue, length, get_or, refl, sym, ap, ◌∙◌, subst, Bool, true, false, cond, arith}
+use Rattle.std.proofs.Common.{◌≡◌, ◌≢◌, ⊎_elim, ℕ, ◌+◌, ◌-◌, ◌<◌, ◌≤◌, nat_lt, List, [], ◌∷◌, Option, Some, None, IsSome, IsTrue, length, get_or, refl, sym, ap, ◌∙◌, subst, Bool, true, false, cond, arith}
 use Rattle.std.specs.Prelude.{◌↔◌, Contains}
 use Rattle.std.proofs.lemmas.Bool.{false≢true}
 use Rattle.std.proofs.lemmas.Bool.Decides.{nat_tests}
@@ -14,6 +14,7 @@ use Rattle.rw_sets.specs.declared.access.Access.{Access}
 use Rattle.rw_sets.specs.declared.access.Access.TheVariants.{Read, Write}
 use Rattle.rw_sets.specs.Accesses.{Accesses, IsAscending, IsInRange, access_at, clash, excludes}
 use Rattle.rw_sets.specs.Laws.{LookupsFindPairs}
+use Rattle.rw_sets.specs.AccessLaws.{has_in_place}
 use Rattle.mark_board.specs.declared.view.Mark.{Mark}
 use Rattle.mark_board.specs.Markers.{IsClear, IsFree, IsFreeAt}
 use Rattle.mark_board.specs.Words.{AreOfLastRounds, HaveLeast, base_of, least_at, mark_at, no_rank, of_round, ranks, word_of}
@@ -132,17 +133,6 @@ readers_clear marks rank loc access free writes mark has here acts = not_below r
 
 -- ---- sets
 
--- each pair's location is looked up
-pub has_location : (set : Accesses) (i : ℕ) (d : ℕ × Access) → i < length set → IsSome (access_at set (get_or set i d).0)
-has_location [] i d inside = absurd (omega (arith, inside))
-has_location (p ∷ set) zero d inside = let test : (p.0 == p.0) ≡ true = eq-eqb p.0 p.0 refl in rw test refl
-has_location (p ∷ set) (suc i) d inside =
-    let rest = has_location set i d (omega (arith, inside)) in
-    elim (p.0 == (get_or set i d).0) as (λ b. IsSome (cond b (Some p.1) (access_at set (get_or set i d).0))) [
-      | true ↦ refl
-      | false ↦ rest
-    ]
-
 module _ (find : LookupsFindPairs) (marks : List Mark) (rank : ℕ) (set : Accesses) (ascending : IsAscending set) where
   -- free at every pair is free
   pub free_by_pairs : ((p : ℕ × Access) → Contains set p → IsFreeAt marks rank p.0 p.1) → IsFree marks rank set
@@ -161,7 +151,7 @@ module _ (find : LookupsFindPairs) (marks : List Mark) (rank : ℕ) (set : Acces
 -- a pair's location lies where the set does
 pub in_bounds : (set items : Accesses) (i : ℕ) (d : ℕ × Access) (bound : ℕ) → items ≡ set → i < length items → IsInRange set bound → (get_or items i d).0 < bound
 in_bounds set items i d bound same inside range =
-    range (get_or items i d).0 (subst (λ (l : Accesses). IsSome (access_at l (get_or items i d).0)) same (has_location items i d inside))
+    range (get_or items i d).0 (subst (λ (l : Accesses). IsSome (access_at l (get_or items i d).0)) same (has_in_place items i d inside))
 
 pub read_or_write : Read ≢ Write
 read_or_write same = cc

@@ -1,18 +1,14 @@
 -- The tasks of a list that pass a test, chosen one by one.
-use Rattle.std.proofs.Common.{◌≡◌, ℕ, zero, suc, ◌+◌, Bool, true, false, cond, List, [], ◌∷◌, ◌++◌, drop, Some, sym, ap, ◌∙◌, append_assoc, add-one}
+use Rattle.std.proofs.Common.{◌≡◌, ℕ, suc, ◌+◌, Bool, true, false, cond, List, [], ◌∷◌, ◌++◌, drop, Some, sym, ap, ◌∙◌, append_assoc, add-one}
 use Rattle.std.specs.Prelude.{slice_get}
 use Rattle.std.specs.List.{filter}
+use Rattle.plain_laws.specs.Lists.{drop-found}
 use Rattle.task_order.specs.declared.task.Task.{Task}
-
-left_at : (tasks : List Task) (i : ℕ) (task : Task) → slice_get tasks i ≡ Some task → drop i tasks ≡ task ∷ drop (suc i) tasks
-left_at [] i task at = absurd cc
-left_at (first ∷ tasks) zero task at = let same : first ≡ task = cc in ap (λ (t : Task). t ∷ tasks) same
-left_at (first ∷ tasks) (suc i) task at = left_at tasks i task at
 
 module _ (test : Task → Bool) (tasks : List Task) (i : ℕ) (task : Task) (made whole : List Task) (at : slice_get tasks i ≡ Some task) (so_far : made ++ filter test (drop i tasks) ≡ whole) where
   rest_is : (b : Bool) → test task ≡ b → filter test (drop i tasks) ≡ cond b (task ∷ filter test (drop (suc i) tasks)) (filter test (drop (suc i) tasks))
   rest_is b is =
-      ap (filter test) (left_at tasks i task at)
+      ap (filter test) (drop-found tasks i task at)
       ∙ ap (λ (b : Bool). cond b (task ∷ filter test (drop (suc i) tasks)) (filter test (drop (suc i) tasks))) is
 
   pub one_more_passes : (copy : Task) → copy ≡ task → test task ≡ true → (made ++ copy ∷ []) ++ filter test (drop (i + 1) tasks) ≡ whole

@@ -1,47 +1,16 @@
 -- A task whose place is free, and that is safe, is clear.
-use Rattle.std.proofs.Common.{◌≡◌, ℕ, zero, suc, Bool, true, false, not, ◌&&◌, ◌||◌, List, [], ◌∷◌, map, take, Some, IsTrue, cond, refl, sym, ap, subst, ◌∙◌}
-use Rattle.std.specs.Prelude.{◌↔◌, slice_get}
+use Rattle.std.proofs.Common.{◌≡◌, ℕ, zero, suc, Bool, true, false, not, ◌&&◌, ◌||◌, List, [], ◌∷◌, map, take, IsTrue, refl, sym, ap, ◌∙◌}
+use Rattle.std.specs.Prelude.{◌↔◌}
 use Rattle.std.specs.List.{AllByRecursion, list_any}
-use Rattle.std.specs.Ordering.{is_lt}
-use Rattle.std.specs.declared.cmp.Ordering.TheVariants.{Less}
 use Rattle.std.proofs.lemmas.Bool.{false≢true}
-use Rattle.std.proofs.lemmas.Option.{get_or_from_slice_get, slice_get_within}
-use Rattle.plain_laws.specs.Lists.{All-get_or}
-use Rattle.task_order.specs.declared.key.Key.{Key}
 use Rattle.task_order.specs.declared.task.Task.{Task}
-use Rattle.task_order.specs.Key.{key_cmp}
-use Rattle.task_order.specs.Laws.{EarlierIsTurned, EqualIsReflexive}
-use Rattle.task_order.specs.TaskList.{IsAscending, is_earlier, tasks_before}
+use Rattle.task_order.specs.TaskList.{tasks_before}
+use Rattle.task_order.specs.TaskListLaws.{tasks_before-place}
 use Rattle.rw_sets.specs.Accesses.{Accesses, conflicts_with, IsAscending as IsSet}
 use Rattle.rw_sets.specs.Laws.{ConflictsAreDecided}
 use Rattle.app_laws.specs.Applications.{Application, AreFitTasks, IsLawful, set_in}
 use Rattle.mark_board.specs.Ranks.{FreeRanksAreUnbarred, IsUnbarred}
 use Rattle.mark_rounds.specs.Marked.{FreeAndSafeIsClear}
-
--- what holds of all holds of the task at a place
-pub holds_there : (P : Task → Type 0) (tasks : List Task) (rank : ℕ) (task : Task) → AllByRecursion P tasks → slice_get tasks rank ≡ Some task → P task
-holds_there P tasks rank task all at = subst P (get_or_from_slice_get tasks rank task task at) (All-get_or P tasks rank task (slice_get_within tasks rank task at) all)
-
--- ---- the tasks before one of an ascending list
-
-module _ (turned : EarlierIsTurned) (equal : EqualIsReflexive) where
-  not_later : (key : Key) (tasks : List Task) → AllByRecursion (λ other. key_cmp key other.key ≡ Less) tasks → tasks_before key tasks ≡ []
-  not_later key [] all = refl
-  not_later key (task ∷ tasks) all =
-      let test : is_earlier key task ≡ false = ap is_lt ((turned key task.key).0 all.0) in
-      ap (λ (b : Bool). cond b (task ∷ tasks_before key tasks) (tasks_before key tasks)) test ∙ not_later key tasks all.1
-
-  pub front : (tasks : List Task) (rank : ℕ) (task : Task) → IsAscending tasks → slice_get tasks rank ≡ Some task → tasks_before task.key tasks ≡ take rank tasks
-  front [] rank task ascending at = absurd cc
-  front (other ∷ tasks) zero task ascending at =
-      let same : other ≡ task = cc in
-      let test : is_earlier other.key other ≡ false = ap is_lt (equal other.key) in
-      subst (λ (t : Task). tasks_before t.key (other ∷ tasks) ≡ []) same
-      (ap (λ (b : Bool). cond b (other ∷ tasks_before other.key tasks) (tasks_before other.key tasks)) test ∙ not_later other.key tasks ascending.0)
-  front (other ∷ tasks) (suc rank) task ascending at =
-      let less : key_cmp other.key task.key ≡ Less = holds_there (λ (t : Task). key_cmp other.key t.key ≡ Less) tasks rank task ascending.0 at in
-      let test : is_earlier task.key other ≡ true = ap is_lt less in
-      ap (λ (b : Bool). cond b (other ∷ tasks_before task.key tasks) (tasks_before task.key tasks)) test ∙ ap (λ (rest : List Task). other ∷ rest) (front tasks rank task ascending.1 at)
 
 -- ---- conflicts with some of the first ones
 
@@ -87,12 +56,12 @@ module _ {V : Type 0} (app : Application V) (lawful : IsLawful app) where
   sets_ascend cells [] fit all = tt
   sets_ascend cells (task ∷ tasks) fit all = ((lawful.sets_are_in_range task cells fit all.0).ascending, sets_ascend cells tasks fit all.1)
 
-  pub clear_where_free : EarlierIsTurned → EqualIsReflexive → ConflictsAreDecided → FreeRanksAreUnbarred → FreeAndSafeIsClear app
-  clear_where_free turned equal decided unbarred state marks rank task free ready marked at is =
+  pub clear_where_free : ConflictsAreDecided → FreeRanksAreUnbarred → FreeAndSafeIsClear app
+  clear_where_free decided unbarred state marks rank task free ready marked at is =
       let set = set_in app state.cells task in
       let sets = map (set_in app state.cells) state.pending in
       let law = unbarred sets marks rank set (sets_ascend state.cells state.pending ready.cells ready.tasks) marked in
       let same = same_test decided (set_in app state.cells) set rank state.pending free ((λ h. law.0 (is.0 h)), (λ h. is.1 (law.1 h))) in
-      let earlier = front turned equal state.pending rank task ready.ascending at in
+      let earlier = tasks_before-place state.pending rank task ready.ascending at in
       ap (λ (b : Bool). b && app.is_safe task (tasks_before task.key state.pending)) same
       ∙ ap (λ (tasks : List Task). not (list_any (λ other. conflicts_with (set_in app state.cells other) set) tasks) && app.is_safe task (tasks_before task.key state.pending)) (sym earlier)

@@ -1,23 +1,16 @@
 -- What is noted of the sets that write a location.
-use Rattle.std.proofs.Common.{◌≡◌, ◌≢◌, ◌⊎◌, inl, inr, ℕ, zero, suc, ◌+◌, ◌<◌, Bool, true, false, cond, List, [], ◌∷◌, length, drop, get_or, Option, Some, None, refl, sym, ap, subst, ◌∙◌, drop-cons, add-one}
+use Rattle.std.proofs.Common.{◌≡◌, ◌⊎◌, inl, inr, ℕ, suc, ◌+◌, ◌<◌, Bool, true, false, cond, List, [], ◌∷◌, length, drop, get_or, Option, Some, None, refl, sym, ap, subst, ◌∙◌, drop-cons, add-one}
 use Rattle.std.specs.Prelude.{Contains, IsSome, slice_get, slice_set}
 use Rattle.std.proofs.lemmas.Bool.{cases_eq, true≢false}
 use Rattle.std.proofs.lemmas.List.{length-set}
 use Rattle.std.proofs.lemmas.List.Elements.{Contains-get_or}
-use Rattle.plain_laws.specs.Lists.{get-set_same}
+use Rattle.plain_laws.specs.Lists.{get-set_same, get-set_other}
 use Rattle.plain_laws.specs.Members.{cases, none}
 use Rattle.rw_sets.specs.declared.access.Access.{Access}
 use Rattle.rw_sets.specs.declared.access.Access.TheVariants.{Read, Write}
 use Rattle.rw_sets.specs.Accesses.{Accesses, access_at, allows_write, is_write, IsAscending, IsInRange, writes}
 use Rattle.rw_sets.specs.Laws.{LookupsFindPairs}
 use Rattle.mark_rounds.specs.Writers.{HaveFirstWriters, first_writer}
-
-set_elsewhere : (xs : List ℕ) (i j n : ℕ) → i ≢ j → slice_get (slice_set xs i n) j ≡ slice_get xs j
-set_elsewhere [] i j n differs = refl
-set_elsewhere (x ∷ xs) zero zero n differs = absurd (differs refl)
-set_elsewhere (x ∷ xs) zero (suc j) n differs = refl
-set_elsewhere (x ∷ xs) (suc i) zero n differs = refl
-set_elsewhere (x ∷ xs) (suc i) (suc j) n differs = set_elsewhere xs i j n (λ same. differs (ap suc same))
 
 -- the pairs of a set that are not left have noted the rank where they write, and nowhere else
 pub record AreNoted (rank : ℕ) (set : Accesses) (old now : List ℕ) (left : Accesses) : Type 0 where
@@ -62,7 +55,7 @@ module _ (rank : ℕ) (set items : Accesses) (old now : List ℕ) (i : ℕ) (d :
     stays : (loc : ℕ) → slice_get now loc ≡ Some rank → slice_get (slice_set now pair.0 rank) loc ≡ Some rank
     stays loc done = elim (cases_eq pair.0 loc) [
       | inl is ↦ written_there loc is
-      | inr differs ↦ set_elsewhere now pair.0 loc rank differs ∙ done
+      | inr differs ↦ get-set_other now pair.0 loc rank (λ is. differs (sym is)) ∙ done
     ]
 
     pub writing_noted : AreNoted rank set old (slice_set now pair.0 rank) (drop (i + 1) set)
@@ -75,7 +68,7 @@ module _ (rank : ℕ) (set items : Accesses) (old now : List ℕ) (i : ℕ) (d :
         ]
         | inr done ↦ inr (stays loc done)
       ];
-      others = λ loc hasnt. set_elsewhere now pair.0 loc rank (λ is. hasnt (subst (Contains set) (is_pair loc is) here)) ∙ noted.others loc hasnt;
+      others = λ loc hasnt. get-set_other now pair.0 loc rank (λ is. hasnt (subst (Contains set) (is_pair loc (sym is)) here)) ∙ noted.others loc hasnt;
     }
 
 is_write_access : (found : Option Access) → allows_write found ≡ true → found ≡ Some Write

@@ -4,6 +4,7 @@ use Rattle.std.specs.Prelude.{Contains, slice_get}
 use Rattle.std.specs.List.{AllByRecursion}
 use Rattle.task_order.specs.declared.task.Task.{Task}
 use Rattle.task_order.specs.TaskList.{tasks_before}
+use Rattle.task_order.specs.TaskListLaws.{tasks_before-place}
 use Rattle.rw_sets.specs.Accesses.{Accesses, Conflicts, writes}
 use Rattle.cell_store.specs.Values.{homes}
 use Rattle.app_laws.specs.Applications.{Application, AreFitTasks, AreWriters, FixedSetsAreKnown, IsSource, set_in}
@@ -15,7 +16,7 @@ use Rattle.mark_board.specs.Ranks.{marks_from}
 use Rattle.mark_rounds.specs.Basis.{Basis}
 use Rattle.mark_rounds.specs.Marked.{AreMarked}
 use Rattle.mark_rounds.specs.Pending.{writers_among}
-use Rattle.mark_rounds.proofs.Clear.{front, sets_ascend}
+use Rattle.mark_rounds.proofs.Clear.{sets_ascend}
 
 -- the pending tasks' own marks are theirs
 pub marked_by_all : {V : Type 0} (app : Application V) (state : State V) (marks : List Mark) → marks ≡ marks_from 0 (map (set_in app state.cells) state.pending) → AreMarked app state marks
@@ -37,7 +38,7 @@ module _ {V : Type 0} (app : Application V) where
       record {
         cells = state.cells;
         fit = ready.cells;
-        apart = subst (AllByRecursion (λ (other : Task). ¬ Conflicts (set_in app state.cells other) set)) (sym (front basis.turned basis.equal state.pending rank task ready.ascending at))
+        apart = subst (AllByRecursion (λ (other : Task). ¬ Conflicts (set_in app state.cells other) set)) (sym (tasks_before-place state.pending rank task ready.ascending at))
             (apart_from state.cells set rank state.pending (law.0 free));
       }
 

@@ -3,9 +3,7 @@ use Rattle.std.proofs.Common.{◌≡◌, inl, inr, ℕ, zero, suc, false, List, 
 use Rattle.std.specs.Prelude.{Contains, slice_get}
 use Rattle.std.specs.List.{AllByRecursion}
 use Rattle.std.specs.declared.cmp.Ordering.TheVariants.{Less, Equal, Greater}
-use Rattle.std.proofs.lemmas.List.Elements.{Contains-get_or}
-use Rattle.std.proofs.lemmas.Option.{get_or_from_slice_get, slice_get_within}
-use Rattle.plain_laws.specs.Members.{all_at, cases, here, there}
+use Rattle.plain_laws.specs.Members.{all_at, cases, found_is_there, here, there}
 use Rattle.task_order.specs.declared.task.Task.{Task}
 use Rattle.task_order.specs.Key.{key_cmp}
 use Rattle.task_order.specs.Laws.{EarlierIsTurned, EqualIsReflexive}
@@ -16,10 +14,6 @@ use Rattle.kdg_graph.specs.Node.{Node}
 use Rattle.kdg_graph.specs.Nodes.{HaveSets, tasks_of}
 use Rattle.mark_board.specs.Ranks.{FreeRanksAreUnbarred, IsUnbarred}
 use Rattle.mark_rounds.specs.Sources.{FreeNodesAreSources}
-
-stands_in : (nodes : List Node) (rank : ℕ) (node : Node) → slice_get nodes rank ≡ Some node → Contains nodes node
-stands_in nodes rank node at =
-    subst (Contains nodes) (get_or_from_slice_get nodes rank node node at) (Contains-get_or nodes rank node (slice_get_within nodes rank node at))
 
 later_nodes : (P : Task → Type 0) (nodes : List Node) → AllByRecursion P (tasks_of nodes) → AllByRecursion (λ node. P node.task) nodes
 later_nodes P [] all = tt
@@ -67,13 +61,13 @@ module _ (turned : EarlierIsTurned) (equal : EqualIsReflexive) where
   unbarred_from (first ∷ nodes) zero node ascending at apart = tt
   unbarred_from (first ∷ nodes) (suc rank) node ascending at apart =
       let later = later_nodes (λ (task : Task). key_cmp first.task.key task.key ≡ Less) nodes ascending.0 in (
-        apart first (here first nodes) (all_at (λ (n : Node). key_cmp first.task.key n.task.key ≡ Less) nodes node later (stands_in nodes rank node at)),
+        apart first (here first nodes) (all_at (λ (n : Node). key_cmp first.task.key n.task.key ≡ Less) nodes node later (found_is_there nodes rank node at)),
         unbarred_from nodes rank node ascending.1 at (λ other has. apart other (there first other nodes has)),
       )
 
 pub free_nodes_are_sources : EarlierIsTurned → EqualIsReflexive → NodesHaveIds → SourcesAreUnblocked → FreeRanksAreUnbarred → FreeNodesAreSources
 free_nodes_are_sources turned equal ids sources free nodes marks rank node graph idle marked at =
-    let has = stands_in nodes rank node at in
+    let has = found_is_there nodes rank node at in
     let law = free (sets_of nodes) marks rank node.set (its_sets nodes graph.sets) marked in
     let source = sources nodes node.id node graph (ids nodes node graph has) in (
       (λ unmarked. source.1 (all_at (λ (n : Node). n.running ≡ false) nodes node idle has, apart_from turned equal nodes rank node graph.ascending at (law.0 unmarked))),

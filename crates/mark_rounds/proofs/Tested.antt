@@ -1,6 +1,7 @@
 -- What the test of one place tells.
 use Rattle.std.proofs.Common.{◌≡◌, ℕ, zero, suc, Bool, ◌&&◌, List, [], ◌∷◌, map, Some, IsTrue, sym, ap, subst, ◌∙◌}
 use Rattle.std.specs.Prelude.{◌↔◌, slice_get}
+use Rattle.plain_laws.specs.Lists.{All-found}
 use Rattle.task_order.specs.declared.task.Task.{Task}
 use Rattle.task_order.specs.TaskList.{tasks_before}
 use Rattle.rw_sets.specs.Accesses.{Accesses, IsInRange}
@@ -10,7 +11,6 @@ use Rattle.mark_board.specs.Markers.{BoardState, IsFree, MarkerState}
 use Rattle.mark_board.specs.Ranks.{marks_from}
 use Rattle.mark_rounds.specs.Basis.{Basis}
 use Rattle.mark_rounds.specs.Pending.{HaveMarked, MarkedState, state_in}
-use Rattle.mark_rounds.proofs.Clear.{holds_there}
 use Rattle.mark_rounds.proofs.Safe.{marked_by_all, source_where_free}
 
 set_at : (f : Task → Accesses) (tasks : List Task) (rank : ℕ) (task : Task) (set : Accesses) → slice_get tasks rank ≡ Some task → slice_get (map f tasks) rank ≡ Some set → set ≡ f task
@@ -27,7 +27,7 @@ module _ {V : Type 0} (app : Application V) (basis : Basis app) (pending : Marke
   marks_are = marked.marks_are ∙ ap (marks_from 0) marked.sets_are
 
   pub fit : IsFitTask app task
-  fit = holds_there (IsFitTask app) pending.tasks rank task marked.ready.tasks at
+  fit = All-found (IsFitTask app) pending.tasks rank task marked.ready.tasks at
 
   pub in_range : IsInRange set board.cells
   in_range = subst (λ (n : ℕ). IsInRange set n) (sym marked.alone.wide) (subst (λ (s : Accesses). IsInRange s app.count) (sym set_is) (basis.lawful.sets_are_in_range task pending.cells marked.ready.cells fit).below)

@@ -1,5 +1,4 @@
 -- What this crate's proofs stand on.
-use Rattle.task_order.specs.Laws.{EarlierIsTurned, EqualIsReflexive}
 use Rattle.cell_store.specs.Laws.{HomesAreValues}
 use Rattle.app_laws.specs.Applications.{Application, IsLawful}
 use Rattle.mark_board.specs.Ranks.{FreeRanksAreUnbarred}
@@ -8,7 +7,5 @@ use Rattle.mark_rounds.specs.Marked.{FreeAndSafeIsClear}
 pub record Basis {V : Type 0} (app : Application V) : Type 0 where
   pub lawful : IsLawful app
   pub marked : FreeAndSafeIsClear app
-  pub turned : EarlierIsTurned
-  pub equal : EqualIsReflexive
   pub unbarred : FreeRanksAreUnbarred
   pub values : HomesAreValues V

@@ -17,7 +17,6 @@ pub fn marked_laws<A: App>()
     ensures { (app : A) → FreeAndSafeIsClear (A.meaning app) }
 {
     lawful::<A>();
-    earlier_laws();
     conflict_laws();
     free_laws();
 }
@@ -39,7 +38,6 @@ pub(crate) fn basis<A: App>()
 {
     lawful::<A>();
     marked_laws::<A>();
-    earlier_laws();
     free_laws();
     value_laws::<A::Val>();
 }

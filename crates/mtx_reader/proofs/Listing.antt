@@ -1,6 +1,6 @@
 -- Places in order, and what sorting and leaving out what is there twice makes of a list of them.
-use Rattle.std.specs.Prelude.{◌≡◌, ℕ, zero, suc, ◌+◌, ◌<◌, ◌≤◌, ◌==◌, ◌&&◌, Bool, true, List, [], ◌∷◌, length, map, filter, refl, slice_index_or}
-use Rattle.std.specs.Cmp.{IsTotalOrder, IsEquivalence}
+use Rattle.std.specs.Prelude.{◌≡◌, ℕ, zero, suc, ◌+◌, ◌<◌, ◌≤◌, ◌==◌, Bool, true, List, [], ◌∷◌, length, map, filter, refl, slice_index_or}
+use Rattle.std.specs.Cmp.{IsEquivalence}
 use Rattle.std.specs.List.{AllByRecursion, Contains, dedup}
 use Rattle.std.specs.List.Retain.{IsFiltered, DiffersFromLast}
 use Rattle.std.specs.List.Sorted.{IsPermutation, IsSorted, IsStrictlySortedBy}
@@ -10,15 +10,14 @@ use Rattle.std.specs.declared.cmp.Ordering.TheVariants.{Less, Equal, Greater}
 use Rattle.std.proofs.Common.{inl, inr, arith, sym, ap, ◌∙◌, subst}
 use Rattle.std.proofs.lemmas.Bool.{and_parts, and_from, or_cases, or_left, or_right, eqb-true, eq-eqb, cases_eq}
 use Rattle.std.proofs.lemmas.Bool.Decides.{nat_tests}
-use Rattle.std.proofs.lemmas.Cmp.{nat_cmp_total, on_total, then_total, nat_eq_equiv, on_equiv, and_equiv}
+use Rattle.std.proofs.lemmas.Cmp.{nat_eq_equiv, on_equiv, and_equiv}
 use Rattle.std.proofs.lemmas.List.Filters.{dedup_is}
 use Rattle.std.proofs.lemmas.List.Kept.{Contains-dedup, Contains-from_dedup, IsStrictlySortedBy-dedup}
 use Rattle.std.proofs.lemmas.List.Sorted.{Contains-permutation, IsPermutation-sym}
-use Rattle.mtx_reader.specs.Ascending.{IsAscendingBy, IsIn, numbers_from, all_in, all_from_in, in_left, in_right, in_either, in_map, from_map, in_filter, from_filter, ascending_append, ascending_filter, ascending_map, same_members, nat_alike, nat_less, in_numbers, from_numbers, ascending_numbers}
+use Rattle.plain_laws.specs.Orderings.{same_from_cmp}
+use Rattle.mtx_reader.specs.Ascending.{IsAscendingBy, IsIn, numbers_from, all_in, all_from_in, in_left, in_right, in_either, in_map, from_map, in_filter, from_filter, ascending_append, ascending_filter, ascending_map, same_members, in_numbers, from_numbers, ascending_numbers}
 use Rattle.mtx_reader.specs.Places.{Place, is_same, place_cmp, is_among, places_from, places_among, IsWithin, ArePlaces}
-
-pub place_total : IsTotalOrder place_cmp
-place_total = then_total (on_total (λ (place : Place). place.0) nat_cmp_total) (on_total (λ (place : Place). place.1) nat_cmp_total)
+use Rattle.mtx_reader.specs.PlaceLaws.{lower_row_first, place_total}
 
 then_equal : (o p : Ordering) → ordering_then o p ≡ Equal → (o ≡ Equal) × (p ≡ Equal)
 then_equal Less p tied = cc
@@ -28,12 +27,9 @@ then_equal Greater p tied = cc
 pub place_alike : (place other : Place) → place_cmp place other ≡ Equal → place ≡ other
 place_alike place other tied =
     let both = then_equal (nat_cmp place.0 other.0) (nat_cmp place.1 other.1) tied in
-    let rows : place.0 ≡ other.0 = nat_alike place.0 other.0 both.0 in
-    let columns : place.1 ≡ other.1 = nat_alike place.1 other.1 both.1 in
+    let rows : place.0 ≡ other.0 = same_from_cmp place.0 other.0 both.0 in
+    let columns : place.1 ≡ other.1 = same_from_cmp place.1 other.1 both.1 in
     ap (λ row. (row, place.1)) rows ∙ ap (λ column. (other.0, column)) columns
-
-row_before : (place other : Place) → place.0 < other.0 → place_cmp place other ≡ Less
-row_before place other less = rw (nat_less place.0 other.0 less) refl
 
 same_row : (row column other : ℕ) → nat_cmp column other ≡ Less → place_cmp (row, column) (row, other) ≡ Less
 same_row row column other less = let tied : nat_cmp row row ≡ Equal = grind (arith, nat_tests) in rw tied less
@@ -80,7 +76,7 @@ ascending_places first (suc rows) columns =
     let found = from_map (λ column. (first, column)) (numbers_from 1 columns) place here in
     let at = ap (λ (p : Place). p.0) found.2 in
     let later = from_places (suc first) rows columns other there in
-    row_before place other (omega (arith, at, later.row.0)))
+    lower_row_first place other (omega (arith, at, later.row.0)))
 
 -- what the test of places says
 pub same_place : (place other : Place) → is_same place other ≡ true → place ≡ other
@@ -146,33 +142,30 @@ unfolding IsStrictlySortedBy
 ascending_from_sorted [] up = tt
 ascending_from_sorted (place ∷ places) up = (up.0, ascending_from_sorted places up.1)
 
-abbrev pub same_pair : Place → Place → Bool
-same_pair place other = place.0 == other.0 && place.1 == other.1
-
-ties : (place other : Place) → same_pair place other ≡ eq_by_cmp place_cmp place other
+ties : (place other : Place) → is_same place other ≡ eq_by_cmp place_cmp place other
 ties place other = grind (arith, nat_tests)
 
-same_equivalence : IsEquivalence same_pair
+same_equivalence : IsEquivalence is_same
 same_equivalence = and_equiv (on_equiv (λ (place : Place). place.0) nat_eq_equiv) (on_equiv (λ (place : Place). place.1) nat_eq_equiv)
 
 -- what is left of a list that was sorted, and of which nothing was kept twice
-module _ (named sorted left : List Place) (moved : IsPermutation named sorted) (up : IsSorted place_cmp sorted) (kept : IsFiltered (DiffersFromLast same_pair) [] sorted left) where
-  left-is : left ≡ dedup same_pair sorted
-  left-is = dedup_is same_pair sorted left kept
+module _ (named sorted left : List Place) (moved : IsPermutation named sorted) (up : IsSorted place_cmp sorted) (kept : IsFiltered (DiffersFromLast is_same) [] sorted left) where
+  left-is : left ≡ dedup is_same sorted
+  left-is = dedup_is is_same sorted left kept
 
   pub left-ascending : IsAscendingBy place_cmp left
-  left-ascending = subst (IsAscendingBy place_cmp) (sym left-is) (ascending_from_sorted (dedup same_pair sorted) (IsStrictlySortedBy-dedup place_total ties sorted up))
+  left-ascending = subst (IsAscendingBy place_cmp) (sym left-is) (ascending_from_sorted (dedup is_same sorted) (IsStrictlySortedBy-dedup place_total ties sorted up))
 
   pub named-from_left : (place : Place) → IsIn left place → IsIn named place
   named-from_left place there =
-      let found = contains_from_in (dedup same_pair sorted) place (subst (λ places. IsIn places place) left-is there) in
-      let before = Contains-permutation sorted named place (IsPermutation-sym named sorted moved) (Contains-from_dedup same_pair sorted place found) in
+      let found = contains_from_in (dedup is_same sorted) place (subst (λ places. IsIn places place) left-is there) in
+      let before = Contains-permutation sorted named place (IsPermutation-sym named sorted moved) (Contains-from_dedup is_same sorted place found) in
       in_from_contains named before.0 place before.1 before.2
 
   pub left-from_named : (place : Place) → IsIn named place → IsIn left place
   left-from_named place there =
       let found = Contains-dedup same_equivalence same_place sorted place (Contains-permutation named sorted place moved (contains_from_in named place there)) in
-      subst (λ places. IsIn places place) (sym left-is) (in_from_contains (dedup same_pair sorted) found.0 place found.1 found.2)
+      subst (λ places. IsIn places place) (sym left-is) (in_from_contains (dedup is_same sorted) found.0 place found.1 found.2)
 
   pub left-are_places : (rows columns : ℕ) → AllByRecursion (IsWithin rows columns) named → ArePlaces left
   left-are_places rows columns within = record {

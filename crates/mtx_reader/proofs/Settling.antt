@@ -12,8 +12,9 @@ use Rattle.std.proofs.lemmas.List.Sorted.{sorted_far, sum_by-IsPermutation, rank
 use Rattle.mtx_reader.specs.Ascending.{IsAscendingBy, IsIn, all_in, all_from_in, in_left, in_right, in_either, ascending_push, not_both}
 use Rattle.mtx_reader.specs.Places.{Place, is_same, place_cmp, IsWithin, ArePlaces}
 use Rattle.mtx_reader.specs.Readings.{places_named_oddly}
-use Rattle.mtx_reader.proofs.Listing.{place_total, place_alike, same_place, place_itself, contains_from_in, is_grid}
+use Rattle.mtx_reader.proofs.Listing.{place_alike, same_place, place_itself, contains_from_in, is_grid}
 use Rattle.mtx_reader.proofs.Times.{times, once, times-push, times-ascending, in-from_times}
+use Rattle.mtx_reader.specs.PlaceLaws.{place_total}
 
 ascending-front : (xs ys : List Place) → IsAscendingBy place_cmp (xs ++ ys) → IsAscendingBy place_cmp xs
 ascending-front [] ys up = tt

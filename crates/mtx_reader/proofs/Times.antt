@@ -6,7 +6,8 @@ use Rattle.std.proofs.lemmas.Bool.{false_from_ne_true, cases_Bool, cond-true, co
 use Rattle.std.proofs.lemmas.List.Sums.{sum_by-cons, sum_by_push}
 use Rattle.mtx_reader.specs.Ascending.{IsAscendingBy, IsIn, all_in, not_before_itself}
 use Rattle.mtx_reader.specs.Places.{Place, is_same, place_cmp}
-use Rattle.mtx_reader.proofs.Listing.{place_total, place_alike, same_place, place_itself}
+use Rattle.mtx_reader.proofs.Listing.{place_alike, same_place, place_itself}
+use Rattle.mtx_reader.specs.PlaceLaws.{place_total}
 
 -- how often a place is there
 abbrev pub times : Place → List Place → ℕ

@@ -2,14 +2,14 @@
 use Rattle.std.specs.Prelude.{◌≡◌, ℕ, zero, suc, ◌+◌, ◌<◌, ◌≤◌, Bool, true, List, [], ◌∷◌, ◌++◌, map, filter, refl}
 use Rattle.std.specs.List.{AllByRecursion}
 use Rattle.std.specs.Cmp.{IsTotalOrder}
-use Rattle.std.specs.Ordering.{nat_cmp, ordering_reverse, MatchOrdering}
+use Rattle.std.specs.Ordering.{nat_cmp, ordering_reverse}
 use Rattle.std.specs.declared.cmp.Ordering.{Ordering}
 use Rattle.std.specs.declared.cmp.Ordering.TheVariants.{Less, Equal, Greater}
 use Rattle.std.proofs.Common.{◌⊎◌, inl, inr, arith, sym, ap, ◌∙◌, subst}
 use Rattle.std.proofs.lemmas.Bool.{cond_both, cond-true, cases_eq}
-use Rattle.std.proofs.lemmas.Bool.Decides.{nat_tests}
-use Rattle.std.proofs.lemmas.Cmp.{ranked, tied_itself, nat_cmp_total}
+use Rattle.std.proofs.lemmas.Cmp.{tied_itself, nat_cmp_total}
 use Rattle.plain_laws.specs.Lists.{All-push}
+use Rattle.plain_laws.specs.Orderings.{same_from_cmp, nat_cmp-below}
 
 -- each item comes before each after it
 abbrev pub IsAscendingBy : {X : Type 0} → (X → X → Ordering) → List X → Type 0
@@ -144,18 +144,9 @@ module _ {X : Type 0} {cmp : X → X → Ordering} (total : IsTotalOrder cmp) (a
       (λ z here. behind y ys xs z also here (subst (λ w. IsIn (w ∷ xs) z) first (back z (inr here)))) in
       ap (λ w. w ∷ xs) first ∙ ap (λ zs. y ∷ zs) rest
 
-pub nat_alike : (x y : ℕ) → nat_cmp x y ≡ Equal → x ≡ y
-nat_alike x y tied = subst (λ o. MatchOrdering o (x < y) (x ≡ y) (y < x)) tied (ranked x y (nat_cmp x y) refl)
-
-pub nat_less : (x y : ℕ) → x < y → nat_cmp x y ≡ Less
-nat_less x y less = grind (arith, nat_tests)
-
-pub less_from_cmp : (x y : ℕ) → nat_cmp x y ≡ Less → x < y
-less_from_cmp x y less = subst (λ o. MatchOrdering o (x < y) (x ≡ y) (y < x)) less (ranked x y (nat_cmp x y) refl)
-
 -- two ascending lists of numbers that have the same ones are the same
 pub same_numbers : (xs ys : List ℕ) → IsAscendingBy nat_cmp xs → IsAscendingBy nat_cmp ys → ((x : ℕ) → IsIn xs x → IsIn ys x) → ((x : ℕ) → IsIn ys x → IsIn xs x) → xs ≡ ys
-same_numbers xs ys up also there back = same_members nat_cmp_total nat_alike xs ys up also there back
+same_numbers xs ys up also there back = same_members nat_cmp_total same_from_cmp xs ys up also there back
 
 pub in_numbers : (first count n : ℕ) → first ≤ n → n < first + count → IsIn (numbers_from first count) n
 in_numbers first zero n from below = absurd (omega arith)
@@ -172,6 +163,6 @@ from_numbers first (suc count) n (inr there) = let found = from_numbers (suc fir
 pub ascending_numbers : (first count : ℕ) → IsAscendingBy nat_cmp (numbers_from first count)
 ascending_numbers first zero = tt
 ascending_numbers first (suc count) = (
-  all_from_in (λ y. nat_cmp first y ≡ Less) (numbers_from (suc first) count) (λ y there. nat_less first y (omega (arith, (from_numbers (suc first) count y there).0))),
+  all_from_in (λ y. nat_cmp first y ≡ Less) (numbers_from (suc first) count) (λ y there. nat_cmp-below first y (omega (arith, (from_numbers (suc first) count y there).0))),
   ascending_numbers (suc first) count,
 )

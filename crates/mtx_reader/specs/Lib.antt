@@ -7,3 +7,4 @@ pub mod Patterns
 pub mod Grammar
 pub mod Readings
 pub mod PlainLines
+pub mod PlaceLaws

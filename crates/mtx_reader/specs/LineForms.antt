@@ -1,10 +1,9 @@
 -- What a line says, by that line's bytes and what entries have beside their place.
-use Rattle.std.specs.Prelude.{ℕ, ℤ, pos, Bool, false, ◌||◌, not, ◌==◌, if◌then◌else◌, List, [], ◌∷◌, map, Option, None, Some, Result, Ok, Err, codes, bytes_eq}
-use Rattle.std.specs.Char.{to_ascii_lowercase}
+use Rattle.std.specs.Prelude.{ℕ, ℤ, pos, Bool, false, ◌||◌, not, ◌==◌, if◌then◌else◌, List, [], ◌∷◌, Option, None, Some, Result, Ok, Err, codes, bytes_eq}
 use Rattle.kdg_text.specs.declared.fault.LineFault.{LineFault}
 use Rattle.kdg_text.specs.declared.number.NumFault.{NumFault}
 use Rattle.kdg_text.specs.Numbers.{i64_of, u64_of}
-use Rattle.kdg_text.specs.Tokens.{tokens_of}
+use Rattle.kdg_text.specs.Tokens.{tokens_of, spells}
 use Rattle.mtx_reader.specs.declared.banner.Banner.{Banner}
 use Rattle.mtx_reader.specs.declared.banner.Field.{Field}
 use Rattle.mtx_reader.specs.declared.banner.Field.TheVariants.{Pattern, Integer}
@@ -18,10 +17,6 @@ use Rattle.mtx_reader.specs.Faults.{bad_banner, unsupported}
 -- the words of a line, between spaces and tabs
 abbrev pub words_of : List ℕ → List (List ℕ)
 words_of line = tokens_of [] line
-
--- whether a word is this one, which is in small letters, where the case of letters is one's own
-abbrev pub spells : List ℕ → List ℕ → Bool
-spells word small = bytes_eq (map to_ascii_lowercase word) small
 
 -- what is wrong with the word for how the entries are laid out
 abbrev pub layout_fault : List ℕ → Option LineFault

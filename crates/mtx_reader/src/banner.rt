@@ -1,5 +1,6 @@
 ghost use Rattle.std.specs.Prelude.{◌≡◌, ◌∷◌, [], true, IfOk, IfErr};
-ghost use Rattle.mtx_reader.specs.LineForms.{words_of, spells, layout_fault, field_of, symmetry_of, banner_of};
+ghost use Rattle.kdg_text.specs.Tokens.{spells};
+ghost use Rattle.mtx_reader.specs.LineForms.{words_of, layout_fault, field_of, symmetry_of, banner_of};
 
 use crate::faults::{BANNER, UNSUPPORTED};
 use kdg_text::{LineFault, Tokens};

@@ -4,10 +4,9 @@ use Rattle.std.proofs.Math.Seq.{take-length, drop-length}
 use Rattle.std.proofs.lemmas.Grind.{flat_map-append}
 use Rattle.std.proofs.lemmas.List.{append-nil, get_or_default, take-append-drop}
 use Rattle.std.specs.List.{AllByRecursion, insert}
+use Rattle.plain_laws.specs.Lists.{All-take, All-drop, All-append, All-front, All-behind}
 use Rattle.output_log.specs.Entries.{Entry, joined_texts}
 use Rattle.output_log.specs.Blocks.{entries_in, block_at, entries_to, entries_behind, IsFilled, IsEmpty, IsInside}
-use Rattle.output_log.proofs.Filters.{AllByRecursion-append}
-use Rattle.output_log.proofs.LogEntries.{AllByRecursion-first, AllByRecursion-last}
 
 pub entries_in-append : (blocks more : List (List Entry)) → entries_in (blocks ++ more) ≡ entries_in blocks ++ entries_in more
 entries_in-append [] more = refl
@@ -142,23 +141,8 @@ put_at_end entry blocks at place before end next first inside whole =
 
 -- ---- what each block has
 
-AllByRecursion-set : {X : Type 0} (P : X → Type 0) (xs : List X) (n : ℕ) (y : X) → P y → AllByRecursion P xs → AllByRecursion P (set xs n y)
-AllByRecursion-set P [] n y one all = all
-AllByRecursion-set P (x ∷ xs) zero y one all = (one, all.1)
-AllByRecursion-set P (x ∷ xs) (suc n) y one all = (all.0, AllByRecursion-set P xs n y one all.1)
-
-AllByRecursion-take : {X : Type 0} (P : X → Type 0) (n : ℕ) (xs : List X) → AllByRecursion P xs → AllByRecursion P (take n xs)
-AllByRecursion-take P zero xs all = tt
-AllByRecursion-take P (suc n) [] all = tt
-AllByRecursion-take P (suc n) (x ∷ xs) all = (all.0, AllByRecursion-take P n xs all.1)
-
-pub AllByRecursion-drop : {X : Type 0} (P : X → Type 0) (n : ℕ) (xs : List X) → AllByRecursion P xs → AllByRecursion P (drop n xs)
-AllByRecursion-drop P zero xs all = all
-AllByRecursion-drop P (suc n) [] all = tt
-AllByRecursion-drop P (suc n) (x ∷ xs) all = AllByRecursion-drop P n xs all.1
-
 pub AllByRecursion-insert : {X : Type 0} (P : X → Type 0) (xs : List X) (n : ℕ) (y : X) → P y → AllByRecursion P xs → AllByRecursion P (insert xs n y)
-AllByRecursion-insert P xs n y one all = AllByRecursion-append P (take n xs) (y ∷ drop n xs) (AllByRecursion-take P n xs all) (one, AllByRecursion-drop P n xs all)
+AllByRecursion-insert P xs n y one all = All-append P (take n xs) (y ∷ drop n xs) (All-take P n xs all) (one, All-drop P n xs all)
 
 pub filled_at : (blocks : List (List Entry)) (at : ℕ) → AllByRecursion IsFilled blocks → at < length blocks → IsFilled (block_at blocks at)
 filled_at [] at all inside = absurd (omega (arith, inside))
@@ -169,7 +153,7 @@ filled_at (block ∷ blocks) (suc at) all inside = filled_at blocks at all.1 (om
 pub last_empty : (spare left : List (List Entry)) (block : List Entry) → spare ≡ left ++ block ∷ [] → AllByRecursion IsEmpty spare → AllByRecursion IsEmpty left × (block ≡ [])
 last_empty spare left block is all =
     let parts = subst (AllByRecursion IsEmpty) is all in
-    (AllByRecursion-first IsEmpty left (block ∷ []) parts, (AllByRecursion-last IsEmpty left (block ∷ []) parts).0)
+    (All-front IsEmpty left (block ∷ []) parts, (All-behind IsEmpty left (block ∷ []) parts).0)
 
 -- where there is no entry, there is no block
 pub no_block : (blocks : List (List Entry)) → AllByRecursion IsFilled blocks → (length blocks ≡ 0 → entries_in blocks ≡ []) × (entries_in blocks ≡ [] → length blocks ≡ 0)

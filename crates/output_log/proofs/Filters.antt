@@ -1,6 +1,6 @@
 -- Filters of filters.
-use Rattle.std.proofs.Common.{◌≡◌, Bool, true, false, cond, List, [], ◌∷◌, ◌++◌, refl, sym, ◌∙◌, ap}
-use Rattle.std.specs.List.{AllByRecursion, filter}
+use Rattle.std.proofs.Common.{◌≡◌, Bool, true, false, cond, List, [], ◌∷◌, refl, sym, ◌∙◌, ap}
+use Rattle.std.specs.List.{filter}
 
 pub filter-cons : {X : Type 0} (p : X → Bool) (x : X) (xs : List X) (test : Bool) → p x ≡ test → filter p (x ∷ xs) ≡ cond test (x ∷ filter p xs) (filter p xs)
 filter-cons p x xs test is = ap (λ b. cond b (x ∷ filter p xs) (filter p xs)) is
@@ -37,28 +37,3 @@ module _ {X : Type 0} (p q : X → Bool) where
   pub filter_swap : (xs : List X) → filter q (filter p xs) ≡ filter p (filter q xs)
   filter_swap [] = refl
   filter_swap (x ∷ xs) = swap_step x xs (p x) (q x) refl refl (filter_swap xs)
-
--- each element passes, or none does
-pub filter_all : {X : Type 0} (p : X → Bool) (xs : List X) → AllByRecursion (λ x. p x ≡ true) xs → filter p xs ≡ xs
-filter_all p [] all = refl
-filter_all p (x ∷ xs) all = filter-cons p x xs true all.0 ∙ ap (λ l. x ∷ l) (filter_all p xs all.1)
-
-pub filter_no : {X : Type 0} (p : X → Bool) (xs : List X) → AllByRecursion (λ x. p x ≡ false) xs → filter p xs ≡ []
-filter_no p [] all = refl
-filter_no p (x ∷ xs) all = filter-cons p x xs false all.0 ∙ filter_no p xs all.1
-
--- what holds of all holds of those that pass
-pub AllByRecursion-filter : {X : Type 0} (P : X → Type 0) (p : X → Bool) (xs : List X) → AllByRecursion P xs → AllByRecursion P (filter p xs)
-AllByRecursion-filter P p [] all = tt
-AllByRecursion-filter P p (x ∷ xs) all = elim (p x) as (λ test. AllByRecursion P (cond test (x ∷ filter p xs) (filter p xs))) [
-  | true ↦ (all.0, AllByRecursion-filter P p xs all.1)
-  | false ↦ AllByRecursion-filter P p xs all.1
-]
-
-pub AllByRecursion-append : {X : Type 0} (P : X → Type 0) (xs ys : List X) → AllByRecursion P xs → AllByRecursion P ys → AllByRecursion P (xs ++ ys)
-AllByRecursion-append P [] ys all rest = rest
-AllByRecursion-append P (x ∷ xs) ys all rest = (all.0, AllByRecursion-append P xs ys all.1 rest)
-
-pub AllByRecursion-weaker : {X : Type 0} (P Q : X → Type 0) → ((x : X) → P x → Q x) → (xs : List X) → AllByRecursion P xs → AllByRecursion Q xs
-AllByRecursion-weaker P Q weaker [] all = tt
-AllByRecursion-weaker P Q weaker (x ∷ xs) all = (weaker x all.0, AllByRecursion-weaker P Q weaker xs all.1)

@@ -5,13 +5,17 @@ use Rattle.std.proofs.lemmas.List.Sorted.{IsPermutation-refl, IsPermutation-sym,
 use Rattle.std.specs.List.{AllByRecursion, filter}
 use Rattle.std.specs.List.Sorted.{IsPermutation, IsStrictlySortedBy}
 use Rattle.std.specs.declared.cmp.Ordering.TheVariants.{Less}
-use Rattle.std.specs.Ordering.{is_lt, ordering_reverse}
+use Rattle.std.specs.Ordering.{is_lt}
+use Rattle.plain_laws.specs.Lists.{All-weaker}
+use Rattle.plain_laws.specs.Orderings.{less_from_test}
 use Rattle.task_order.specs.declared.key.Key.{Key}
-use Rattle.task_order.specs.Key.{Bound, at_key, key_cmp, key_cmp_total, IsExactOrder}
+use Rattle.task_order.specs.Key.{Bound, at_key, key_cmp, IsExactOrder}
+use Rattle.task_order.specs.KeyLaws.{differ_from_earlier}
 use Rattle.output_log.specs.Entries.{Entry, entry_cmp, IsInKeyOrder, IsNewEntry, ShareNoKey, is_entry_before, entries_before, entries_from, with_entry, joined_by_key}
-use Rattle.output_log.proofs.Filters.{filter-cons, AllByRecursion-weaker}
-use Rattle.output_log.proofs.Parts.{before-cons, from-cons, Less_from_test}
-use Rattle.output_log.proofs.Puts.{puts_meet_one_part, puts_commute, first_put, put-behind, put-in_front, puts_keep_order, puts_take_one_key, length-with_entry}
+use Rattle.output_log.proofs.Filters.{filter-cons}
+use Rattle.output_log.proofs.Parts.{before-cons, from-cons}
+use Rattle.output_log.proofs.Puts.{puts_meet_one_part, puts_commute, put-behind, put-in_front, puts_keep_order, puts_take_one_key, length-with_entry}
+use Rattle.output_log.specs.EntryLaws.{first_put}
 
 pub order_of_rest : (entry : Entry) (entries : List Entry) → IsInKeyOrder (entry ∷ entries) → IsInKeyOrder entries
 unfolding IsStrictlySortedBy
@@ -21,18 +25,10 @@ later_than_first : (entry : Entry) (entries : List Entry) → IsInKeyOrder (entr
 unfolding IsStrictlySortedBy
 later_than_first entry entries ordered = ordered.0
 
--- an earlier key is another one
-differ_from_later : (key other : Key) → key_cmp key other ≡ Less → key ≢ other
-differ_from_later key other earlier same =
-    let turned : key_cmp other key ≡ Less = (λ i. key_cmp (sym same i) (same i)) ∙ earlier in
-    let greater = key_cmp_total.antisymm key other ∙ ap ordering_reverse turned in
-    let never = sym earlier ∙ greater in
-    cc
-
 -- the keys after the first are others
 new_among_later : (entry : Entry) (entries : List Entry) → IsInKeyOrder (entry ∷ entries) → IsNewEntry entry.0 entries
 new_among_later entry entries ordered =
-    AllByRecursion-weaker (λ other. entry_cmp entry other ≡ Less) (λ other. other.0 ≢ entry.0) (λ other later same. differ_from_later entry.0 other.0 later (sym same)) entries (later_than_first entry entries ordered)
+    All-weaker (λ other. entry_cmp entry other ≡ Less) (λ other. other.0 ≢ entry.0) (λ other later same. differ_from_earlier entry.0 other.0 later (sym same)) entries (later_than_first entry entries ordered)
 
 -- ---- entries that are put into one of the two
 
@@ -49,7 +45,7 @@ second_step : IsExactOrder → (key : Key) (text : List ℕ) (entries : List Ent
 second_step exact key text entries other others true is ordered rest =
     ap (joined_by_key entries) (put-behind key text other others is)
     ∙ ap (with_entry other.0 other.1) rest
-    ∙ puts_commute exact other.0 key other.1 text (joined_by_key entries others) (differ_from_later other.0 key (Less_from_test _ is))
+    ∙ puts_commute exact other.0 key other.1 text (joined_by_key entries others) (differ_from_earlier other.0 key (less_from_test _ is))
 second_step exact key text entries other others false is ordered rest = ap (joined_by_key entries) (put-in_front key text other others is ordered)
 
 pub put_second : IsExactOrder → (key : Key) (text : List ℕ) (entries others : List Entry) → IsInKeyOrder others

@@ -2,16 +2,16 @@
 use Rattle.std.specs.Prelude.{◌↔◌, IsTrue}
 use Rattle.std.proofs.Common.{rules, ◌≡◌, ℕ, zero, suc, ◌<◌, ◌≤◌, Bool, true, false, not, List, [], ◌∷◌, ◌++◌, length, take, drop, get_or, refl, sym, ◌∙◌, ap, arith}
 use Rattle.std.proofs.Math.Seq.{take-append_seam, drop-append_seam}
-use Rattle.std.proofs.lemmas.List.{append-nil}
 use Rattle.std.proofs.lemmas.List.Elements.{filter-append}
 use Rattle.std.proofs.lemmas.List.Sums.{length-filter, count_by-le-length}
 use Rattle.std.specs.List.{AllByRecursion}
 use Rattle.std.specs.List.Sorted.{IsPartitionedBy, IsPartitionPoint, IsStrictlySortedBy}
 use Rattle.std.specs.declared.cmp.Ordering.TheVariants.{Less}
 use Rattle.std.specs.Ordering.{is_lt}
+use Rattle.plain_laws.specs.Lists.{All-front, All-weaker, filter-all, filter-none}
 use Rattle.task_order.specs.Key.{Bound}
 use Rattle.output_log.specs.Entries.{Entry, entry_cmp, IsInKeyOrder, is_entry_before, entries_before, entries_from}
-use Rattle.output_log.proofs.Filters.{filter-cons, filter_all, filter_no, AllByRecursion-weaker}
+use Rattle.output_log.proofs.Filters.{filter-cons}
 use Rattle.output_log.proofs.Parts.{before_sooner, before-cons, none_before, earlier_come_first}
 
 pub take_before : (bound : Bound) (entries : List Entry) (count : ℕ) → IsInKeyOrder entries → count ≡ length (entries_before bound entries) → take count entries ≡ entries_before bound entries
@@ -83,32 +83,14 @@ none_counted bound entries i outside = (λ no. absurd (cc), λ below. absurd (om
 
 -- ---- parts of a list
 
-pub AllByRecursion-first : {X : Type 0} (P : X → Type 0) (xs ys : List X) → AllByRecursion P (xs ++ ys) → AllByRecursion P xs
-AllByRecursion-first P [] ys all = tt
-AllByRecursion-first P (x ∷ xs) ys all = (all.0, AllByRecursion-first P xs ys all.1)
-
-pub AllByRecursion-last : {X : Type 0} (P : X → Type 0) (xs ys : List X) → AllByRecursion P (xs ++ ys) → AllByRecursion P ys
-AllByRecursion-last P [] ys all = all
-AllByRecursion-last P (x ∷ xs) ys all = AllByRecursion-last P xs ys all.1
-
 pub IsInKeyOrder-first : (front back : List Entry) → IsInKeyOrder (front ++ back) → IsInKeyOrder front
 unfolding IsStrictlySortedBy
 IsInKeyOrder-first [] back ordered = tt
-IsInKeyOrder-first (entry ∷ front) back ordered = (AllByRecursion-first (λ other. entry_cmp entry other ≡ Less) front back ordered.0, IsInKeyOrder-first front back ordered.1)
-
-pub IsInKeyOrder-last : (front back : List Entry) → IsInKeyOrder (front ++ back) → IsInKeyOrder back
-unfolding IsStrictlySortedBy
-IsInKeyOrder-last [] back ordered = ordered
-IsInKeyOrder-last (entry ∷ front) back ordered = IsInKeyOrder-last front back ordered.1
-
--- where a list is cut at the bound, the two are its parts
-pub front_is_before : (bound : Bound) (front back : List Entry) → AllByRecursion (λ entry. is_entry_before bound entry ≡ true) front → AllByRecursion (λ entry. is_entry_before bound entry ≡ false) back → front ≡ entries_before bound (front ++ back)
-front_is_before bound front back earlier late =
-    sym (filter-append (is_entry_before bound) front back ∙ (λ i. filter_all (is_entry_before bound) front earlier i ++ filter_no (is_entry_before bound) back late i) ∙ append-nil front)
+IsInKeyOrder-first (entry ∷ front) back ordered = (All-front (λ other. entry_cmp entry other ≡ Less) front back ordered.0, IsInKeyOrder-first front back ordered.1)
 
 pub back_is_from : (bound : Bound) (front back : List Entry) → AllByRecursion (λ entry. is_entry_before bound entry ≡ true) front → AllByRecursion (λ entry. is_entry_before bound entry ≡ false) back → back ≡ entries_from bound (front ++ back)
 back_is_from bound front back earlier late =
     let from = λ (entry : Entry). not (is_entry_before bound entry) in
-    let none = AllByRecursion-weaker (λ entry. is_entry_before bound entry ≡ true) (λ entry. from entry ≡ false) (λ entry is. ap not is) front earlier in
-    let all = AllByRecursion-weaker (λ entry. is_entry_before bound entry ≡ false) (λ entry. from entry ≡ true) (λ entry is. ap not is) back late in
-    sym (filter-append from front back ∙ (λ i. filter_no from front none i ++ filter_all from back all i))
+    let none = All-weaker (λ entry. is_entry_before bound entry ≡ true) (λ entry. from entry ≡ false) (λ entry is. ap not is) front earlier in
+    let all = All-weaker (λ entry. is_entry_before bound entry ≡ false) (λ entry. from entry ≡ true) (λ entry is. ap not is) back late in
+    sym (filter-append from front back ∙ (λ i. filter-none from front none i ++ filter-all from back all i))

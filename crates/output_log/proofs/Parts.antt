@@ -7,19 +7,16 @@ use Rattle.std.specs.declared.cmp.Ordering.TheVariants.{Less, Equal, Greater}
 use Rattle.std.specs.Ordering.{is_lt, ordering_reverse}
 use Rattle.std.proofs.lemmas.Cmp.{alike_right}
 use Rattle.std.proofs.lemmas.List.Kept.{IsStrictlySortedBy-filter}
+use Rattle.plain_laws.specs.Lists.{All-weaker, filter-all, filter-none}
+use Rattle.plain_laws.specs.Orderings.{less_from_test}
 use Rattle.task_order.specs.declared.key.Key.{Key}
 use Rattle.task_order.specs.Key.{Bound, at_key, end, is_before, key_cmp, key_cmp_total}
 use Rattle.output_log.specs.Entries.{Entry, entry_cmp, IsInKeyOrder, is_entry_before, entries_before, entries_from}
-use Rattle.output_log.proofs.Filters.{filter-cons, filter_all, filter_no, AllByRecursion-weaker}
-
-pub Less_from_test : (o : Ordering) → is_lt o ≡ true → o ≡ Less
-Less_from_test Less is = refl
-Less_from_test Equal is = cc
-Less_from_test Greater is = cc
+use Rattle.output_log.proofs.Filters.{filter-cons}
 
 -- what is earlier than a key before the bound is before it too
 pub before_sooner : (bound : Bound) (key : Key) (entry : Entry) → is_before key bound ≡ true → is_entry_before (at_key key) entry ≡ true → is_entry_before bound entry ≡ true
-before_sooner (at_key next) key entry before earlier = ap is_lt (key_cmp_total.trans entry.0 key next (Less_from_test _ earlier) (Less_from_test _ before))
+before_sooner (at_key next) key entry before earlier = ap is_lt (key_cmp_total.trans entry.0 key next (less_from_test _ earlier) (less_from_test _ before))
 before_sooner end key entry before earlier = refl
 
 earlier_by_order : (key next : Key) (entry : Entry) (o : Ordering) → key_cmp key next ≡ o → is_lt o ≡ false → key_cmp entry.0 next ≡ Less → key_cmp entry.0 key ≡ Less
@@ -29,17 +26,13 @@ earlier_by_order key next entry Greater is late before = key_cmp_total.trans ent
 
 -- what is before the bound is earlier than a key that isn't
 pub earlier_than_late : (bound : Bound) (key : Key) (entry : Entry) → is_before key bound ≡ false → is_entry_before bound entry ≡ true → is_entry_before (at_key key) entry ≡ true
-earlier_than_late (at_key next) key entry late before = ap is_lt (earlier_by_order key next entry _ refl late (Less_from_test _ before))
+earlier_than_late (at_key next) key entry late before = ap is_lt (earlier_by_order key next entry _ refl late (less_from_test _ before))
 earlier_than_late end key entry late before = cc
 
 -- the same by what fails the tests
 pub late_after_late : (test other : Bool) → (other ≡ true → test ≡ true) → test ≡ false → other ≡ false
 late_after_late test true implies late = sym (implies refl) ∙ late
 late_after_late test false implies late = refl
-
-pub from_not : (test : Bool) → not test ≡ true → test ≡ false
-from_not true is = cc
-from_not false is = refl
 
 -- what is later than an entry that isn't before the bound isn't either
 pub later_is_late : (bound : Bound) (entry other : Entry) → is_entry_before bound entry ≡ false → entry_cmp entry other ≡ Less → is_entry_before bound other ≡ false
@@ -48,12 +41,12 @@ later_is_late bound entry other late later =
 
 pub none_before : (bound : Bound) (entry : Entry) (entries : List Entry) → is_entry_before bound entry ≡ false → AllByRecursion (λ other. entry_cmp entry other ≡ Less) entries → entries_before bound entries ≡ []
 none_before bound entry entries late all =
-    filter_no (is_entry_before bound) entries (AllByRecursion-weaker (λ other. entry_cmp entry other ≡ Less) (λ other. is_entry_before bound other ≡ false) (λ other later. later_is_late bound entry other late later) entries all)
+    filter-none (is_entry_before bound) entries (All-weaker (λ other. entry_cmp entry other ≡ Less) (λ other. is_entry_before bound other ≡ false) (λ other later. later_is_late bound entry other late later) entries all)
 
 pub all_from : (bound : Bound) (entry : Entry) (entries : List Entry) → is_entry_before bound entry ≡ false → AllByRecursion (λ other. entry_cmp entry other ≡ Less) entries → entries_from bound entries ≡ entries
 all_from bound entry entries late all =
-    filter_all (λ other. not (is_entry_before bound other)) entries
-    (AllByRecursion-weaker (λ other. entry_cmp entry other ≡ Less) (λ other. not (is_entry_before bound other) ≡ true) (λ other later. ap not (later_is_late bound entry other late later)) entries all)
+    filter-all (λ other. not (is_entry_before bound other)) entries
+    (All-weaker (λ other. entry_cmp entry other ≡ Less) (λ other. not (is_entry_before bound other) ≡ true) (λ other later. ap not (later_is_late bound entry other late later)) entries all)
 
 pub before-cons : (bound : Bound) (entry : Entry) (entries : List Entry) → is_entry_before bound entry ≡ true → entries_before bound (entry ∷ entries) ≡ entry ∷ entries_before bound entries
 before-cons bound entry entries is = filter-cons (is_entry_before bound) entry entries true is

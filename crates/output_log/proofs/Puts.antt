@@ -8,16 +8,17 @@ use Rattle.std.specs.List.Sorted.{IsStrictlySortedBy}
 use Rattle.std.specs.declared.cmp.Ordering.{Ordering}
 use Rattle.std.specs.declared.cmp.Ordering.TheVariants.{Less, Equal, Greater}
 use Rattle.std.specs.Ordering.{is_lt, ordering_reverse}
+use Rattle.plain_laws.specs.Lists.{All-append, All-filter, All-weaker, filter-all, filter-none}
+use Rattle.plain_laws.specs.Orderings.{less_from_test}
+use Rattle.plain_laws.specs.Bools.{false_from_not}
 use Rattle.task_order.specs.declared.key.Key.{Key}
 use Rattle.task_order.specs.Key.{Bound, at_key, is_before, key_cmp, key_cmp_total, IsExactOrder}
 use Rattle.output_log.specs.Entries.{Entry, entry_cmp, IsInKeyOrder, IsNewEntry, is_entry_before, entries_before, entries_from, with_entry}
-use Rattle.output_log.proofs.Filters.{filter-cons, filter_stays, filter_none, filter_swap, filter_all, filter_no, AllByRecursion-filter, AllByRecursion-append, AllByRecursion-weaker}
-use Rattle.output_log.proofs.Parts.{before_sooner, earlier_than_late, late_after_late, from_not, before-cons, from-cons, before-late, from-late, Less_from_test}
+use Rattle.output_log.proofs.Filters.{filter-cons, filter_stays, filter_none, filter_swap}
+use Rattle.output_log.proofs.Parts.{before_sooner, earlier_than_late, late_after_late, before-cons, from-cons, before-late, from-late}
+use Rattle.output_log.specs.EntryLaws.{is_from}
 
 -- ---- an entry among those that pass a test
-
-abbrev is_from : Bound → Entry → Bool
-is_from bound entry = not (is_entry_before bound entry)
 
 -- an entry that passes is put among those that pass
 put_passes : (p : Entry → Bool) (key : Key) (text : List ℕ) (entries : List Entry) → p (key, text) ≡ true → filter p (with_entry key text entries) ≡ with_entry key text (filter p entries)
@@ -31,7 +32,7 @@ put_before bound key text entries before =
     filter_none (is_entry_before (at_key key)) (is_from bound) (λ entry earlier. ap not (before_sooner bound key entry before earlier)) entries in
     let rest : entries_from bound (entries_from (at_key key) entries) ≡ entries_from bound entries =
     filter_swap (is_from (at_key key)) (is_from bound) entries
-    ∙ filter_stays (is_from bound) (is_from (at_key key)) (λ entry late. ap not (late_after_late (is_entry_before bound entry) (is_entry_before (at_key key) entry) (before_sooner bound key entry before) (from_not _ late))) entries in
+    ∙ filter_stays (is_from bound) (is_from (at_key key)) (λ entry late. ap not (late_after_late (is_entry_before bound entry) (is_entry_before (at_key key) entry) (before_sooner bound key entry before) (false_from_not _ late))) entries in
     filter-append (is_from bound) (entries_before (at_key key) entries) _
     ∙ (λ i. none i ++ (filter-cons (is_from bound) (key, text) _ false (ap not before) ∙ rest) i)
 
@@ -41,7 +42,7 @@ put_from bound key text entries late =
     filter_swap (is_entry_before (at_key key)) (is_entry_before bound) entries
     ∙ filter_stays (is_entry_before bound) (is_entry_before (at_key key)) (λ entry before. earlier_than_late bound key entry late before) entries in
     let none : entries_before bound (entries_from (at_key key) entries) ≡ [] =
-    filter_none (is_from (at_key key)) (is_entry_before bound) (λ entry not_earlier. late_after_late (is_entry_before (at_key key) entry) (is_entry_before bound entry) (earlier_than_late bound key entry late) (from_not _ not_earlier)) entries in
+    filter_none (is_from (at_key key)) (is_entry_before bound) (λ entry not_earlier. late_after_late (is_entry_before (at_key key) entry) (is_entry_before bound entry) (earlier_than_late bound key entry late) (false_from_not _ not_earlier)) entries in
     filter-append (is_entry_before bound) (entries_before (at_key key) entries) _
     ∙ (λ i. all i ++ (filter-cons (is_entry_before bound) (key, text) _ false late ∙ none) i)
     ∙ append-nil _
@@ -79,7 +80,7 @@ earlier_put key next text next_text entries earlier =
     filter_swap (is_from (at_key key)) (is_entry_before (at_key next)) entries in
     let rest : entries_from (at_key next) (entries_from (at_key key) entries) ≡ entries_from (at_key next) entries =
     filter_swap (is_from (at_key key)) (is_from (at_key next)) entries
-    ∙ filter_stays (is_from (at_key next)) (is_from (at_key key)) (λ entry not_before. ap not (late_after_late (is_entry_before (at_key next) entry) (is_entry_before (at_key key) entry) (before_sooner (at_key next) key entry before) (from_not _ not_before))) entries in
+    ∙ filter_stays (is_from (at_key next)) (is_from (at_key key)) (λ entry not_before. ap not (late_after_late (is_entry_before (at_key next) entry) (is_entry_before (at_key key) entry) (before_sooner (at_key next) key entry before) (false_from_not _ not_before))) entries in
     (λ i. put_from (at_key key) next next_text entries late i ++ (key, text) ∷ put_passes (is_from (at_key key)) next next_text entries (ap not late) i)
     ∙ (λ i. entries_before (at_key key) entries ++ (key, text) ∷ (swapped i ++ (next, next_text) ∷ rest i))
 
@@ -99,15 +100,8 @@ puts_commute exact key other text other_text entries differ = commute_by_order k
 
 pub last_puts_append : (key : Key) (text : List ℕ) (entries : List Entry) → AllByRecursion (λ entry. key_cmp entry.0 key ≡ Less) entries → with_entry key text entries ≡ entries ++ (key, text) ∷ []
 last_puts_append key text entries all =
-    let before : entries_before (at_key key) entries ≡ entries = filter_all (is_entry_before (at_key key)) entries (AllByRecursion-weaker _ (λ entry. is_entry_before (at_key key) entry ≡ true) (λ entry earlier. ap is_lt earlier) entries all) in
-    let from : entries_from (at_key key) entries ≡ [] = filter_no (is_from (at_key key)) entries (AllByRecursion-weaker _ (λ entry. is_from (at_key key) entry ≡ false) (λ entry earlier. ap (λ o. not (is_lt o)) earlier) entries all) in
-    λ i. before i ++ (key, text) ∷ from i
-
-pub first_put : (key : Key) (text : List ℕ) (entries : List Entry) → AllByRecursion (λ entry. key_cmp key entry.0 ≡ Less) entries → with_entry key text entries ≡ (key, text) ∷ entries
-first_put key text entries all =
-    let late : (entry : Entry) → key_cmp key entry.0 ≡ Less → is_entry_before (at_key key) entry ≡ false = λ entry later. ap is_lt (key_cmp_total.antisymm entry.0 key ∙ ap ordering_reverse later) in
-    let before : entries_before (at_key key) entries ≡ [] = filter_no (is_entry_before (at_key key)) entries (AllByRecursion-weaker _ (λ entry. is_entry_before (at_key key) entry ≡ false) late entries all) in
-    let from : entries_from (at_key key) entries ≡ entries = filter_all (is_from (at_key key)) entries (AllByRecursion-weaker _ (λ entry. is_from (at_key key) entry ≡ true) (λ entry later. ap not (late entry later)) entries all) in
+    let before : entries_before (at_key key) entries ≡ entries = filter-all (is_entry_before (at_key key)) entries (All-weaker _ (λ entry. is_entry_before (at_key key) entry ≡ true) (λ entry earlier. ap is_lt earlier) entries all) in
+    let from : entries_from (at_key key) entries ≡ [] = filter-none (is_from (at_key key)) entries (All-weaker _ (λ entry. is_from (at_key key) entry ≡ false) (λ entry earlier. ap (λ o. not (is_lt o)) earlier) entries all) in
     λ i. before i ++ (key, text) ∷ from i
 
 -- an entry goes behind an earlier first one, and in front of another one
@@ -120,7 +114,7 @@ put-in_front key text entry entries late ordered = λ i. before-late (at_key key
 -- ---- the order stays
 
 pub AllByRecursion-with_entry : (P : Entry → Type 0) (key : Key) (text : List ℕ) (entries : List Entry) → P (key, text) → AllByRecursion P entries → AllByRecursion P (with_entry key text entries)
-AllByRecursion-with_entry P key text entries one all = AllByRecursion-append P _ _ (AllByRecursion-filter P _ entries all) (one, AllByRecursion-filter P _ entries all)
+AllByRecursion-with_entry P key text entries one all = All-append P _ _ (All-filter P _ entries all) (one, All-filter P _ entries all)
 
 later_from_new : (key : Key) (entry : Entry) (o : Ordering) → IsExactOrder → key_cmp entry.0 key ≡ o → is_lt o ≡ false → entry.0 ≢ key → key_cmp key entry.0 ≡ Less
 later_from_new key entry Less exact is late new = cc
@@ -131,11 +125,11 @@ order_step : (key : Key) (text : List ℕ) (entry : Entry) (entries : List Entry
     → IsInKeyOrder (with_entry key text (entry ∷ entries))
 unfolding IsStrictlySortedBy
 order_step key text entry entries true exact is new ordered rest =
-    subst IsInKeyOrder (sym (put-behind key text entry entries is)) (AllByRecursion-with_entry (λ other. key_cmp entry.0 other.0 ≡ Less) key text entries (Less_from_test _ is) ordered.0, rest)
+    subst IsInKeyOrder (sym (put-behind key text entry entries is)) (AllByRecursion-with_entry (λ other. key_cmp entry.0 other.0 ≡ Less) key text entries (less_from_test _ is) ordered.0, rest)
 order_step key text entry entries false exact is new ordered rest =
     let first : key_cmp key entry.0 ≡ Less = later_from_new key entry _ exact refl is new in
     subst IsInKeyOrder (sym (put-in_front key text entry entries is ordered))
-    ((first, AllByRecursion-weaker (λ other. entry_cmp entry other ≡ Less) (λ other. key_cmp key other.0 ≡ Less) (λ other later. key_cmp_total.trans key entry.0 other.0 first later) entries ordered.0), ordered)
+    ((first, All-weaker (λ other. entry_cmp entry other ≡ Less) (λ other. key_cmp key other.0 ≡ Less) (λ other later. key_cmp_total.trans key entry.0 other.0 first later) entries ordered.0), ordered)
 
 pub puts_keep_order : IsExactOrder → (key : Key) (text : List ℕ) (entries : List Entry) → IsNewEntry key entries → IsInKeyOrder entries → IsInKeyOrder (with_entry key text entries)
 unfolding IsStrictlySortedBy

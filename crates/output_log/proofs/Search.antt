@@ -6,16 +6,16 @@ use Rattle.std.specs.List.{AllByRecursion, filter}
 use Rattle.std.specs.List.Sorted.{IsStrictlySortedBy}
 use Rattle.std.specs.declared.cmp.Ordering.TheVariants.{Less}
 use Rattle.std.specs.Ordering.{is_lt}
+use Rattle.plain_laws.specs.Lists.{filter-all, All-append, All-weaker, All-front, All-behind}
+use Rattle.plain_laws.specs.Bools.{false_from_not}
 use Rattle.task_order.specs.Key.{Bound}
 use Rattle.output_log.specs.Entries.{Entry, entry_cmp, IsInKeyOrder, is_entry_before, entries_before, entries_from}
 use Rattle.output_log.specs.Blocks.{entries_in, block_at, entries_to, entries_behind, ends_before, IsFilled, IsInside, IsPlace}
-use Rattle.output_log.proofs.Filters.{filter-cons, filter_all, AllByRecursion-append, AllByRecursion-weaker}
-use Rattle.output_log.proofs.Parts.{before_sooner, later_is_late, from_not}
-use Rattle.output_log.proofs.LogEntries.{count_within_list, take_before, drop_before, AllByRecursion-first, AllByRecursion-last, IsInKeyOrder-first, IsInKeyOrder-last, front_is_before, back_is_from}
+use Rattle.output_log.proofs.Filters.{filter-cons}
+use Rattle.output_log.proofs.Parts.{before_sooner, later_is_late}
+use Rattle.output_log.proofs.LogEntries.{count_within_list, take_before, drop_before, IsInKeyOrder-first, back_is_from}
 use Rattle.output_log.proofs.BlockEntries.{entries_in-take, entries_in-parts, behind_all, filled_at}
-
-abbrev pub AllAreBefore : Bound → List Entry → Type 0
-AllAreBefore bound entries = AllByRecursion (λ entry. is_entry_before bound entry ≡ true) entries
+use Rattle.output_log.specs.EntryLaws.{AllAreBefore, IsInKeyOrder-last, front_is_before}
 
 abbrev pub AllAreLate : Bound → List Entry → Type 0
 AllAreLate bound entries = AllByRecursion (λ entry. is_entry_before bound entry ≡ false) entries
@@ -63,36 +63,36 @@ sooner_than_some bound entry (other ∷ block) all some = sooner_than_some_step 
 sooner_than_block : (bound : Bound) (entry : Entry) (blocks : List (List Entry)) (at : ℕ) → AllByRecursion (λ other. entry_cmp entry other ≡ Less) (entries_in blocks) → 0 < length (entries_before bound (block_at blocks at))
     → is_entry_before bound entry ≡ true
 sooner_than_block bound entry [] at all some = absurd (omega (arith, some))
-sooner_than_block bound entry (block ∷ blocks) zero all some = sooner_than_some bound entry block (AllByRecursion-first (λ other. entry_cmp entry other ≡ Less) block (entries_in blocks) all) some
-sooner_than_block bound entry (block ∷ blocks) (suc at) all some = sooner_than_block bound entry blocks at (AllByRecursion-last (λ other. entry_cmp entry other ≡ Less) block (entries_in blocks) all) some
+sooner_than_block bound entry (block ∷ blocks) zero all some = sooner_than_some bound entry block (All-front (λ other. entry_cmp entry other ≡ Less) block (entries_in blocks) all) some
+sooner_than_block bound entry (block ∷ blocks) (suc at) all some = sooner_than_block bound entry blocks at (All-behind (λ other. entry_cmp entry other ≡ Less) block (entries_in blocks) all) some
 
 all_ahead : (bound : Bound) (block : List Entry) (blocks : List (List Entry)) (at : ℕ) → IsInKeyOrder (block ++ entries_in blocks) → 0 < length (entries_before bound (block_at blocks at)) → AllAreBefore bound block
 unfolding IsStrictlySortedBy
 all_ahead bound [] blocks at ordered some = tt
 all_ahead bound (entry ∷ block) blocks at ordered some =
-    (sooner_than_block bound entry blocks at (AllByRecursion-last (λ other. entry_cmp entry other ≡ Less) block (entries_in blocks) ordered.0) some, all_ahead bound block blocks at ordered.1 some)
+    (sooner_than_block bound entry blocks at (All-behind (λ other. entry_cmp entry other ≡ Less) block (entries_in blocks) ordered.0) some, all_ahead bound block blocks at ordered.1 some)
 
 -- where a block has an entry that is before the bound, all blocks ahead of it are before the bound
 all_to_some : (bound : Bound) (blocks : List (List Entry)) (at : ℕ) → IsInKeyOrder (entries_in blocks) → 0 < length (entries_before bound (block_at blocks at)) → AllAreBefore bound (entries_in (take at blocks))
 all_to_some bound [] at ordered some = absurd (omega (arith, some))
 all_to_some bound (block ∷ blocks) zero ordered some = tt
 all_to_some bound (block ∷ blocks) (suc at) ordered some =
-    AllByRecursion-append (λ entry. is_entry_before bound entry ≡ true) block (entries_in (take at blocks)) (all_ahead bound block blocks at ordered some)
+    All-append (λ entry. is_entry_before bound entry ≡ true) block (entries_in (take at blocks)) (all_ahead bound block blocks at ordered some)
     (all_to_some bound blocks at (IsInKeyOrder-last block (entries_in blocks) ordered) some)
 
 -- where a block ends before the bound, so do those before it
 all_to_ended : (bound : Bound) (blocks : List (List Entry)) (at : ℕ) → IsInKeyOrder (entries_in blocks) → ends_before bound (block_at blocks at) ≡ true → AllAreBefore bound (entries_in (take (suc at) blocks))
 all_to_ended bound [] at ordered ends = tt
-all_to_ended bound (block ∷ blocks) zero ordered ends = AllByRecursion-append (λ entry. is_entry_before bound entry ≡ true) block [] (all_of_ended bound block (IsInKeyOrder-first block (entries_in blocks) ordered) ends) tt
+all_to_ended bound (block ∷ blocks) zero ordered ends = All-append (λ entry. is_entry_before bound entry ≡ true) block [] (all_of_ended bound block (IsInKeyOrder-first block (entries_in blocks) ordered) ends) tt
 all_to_ended bound (block ∷ blocks) (suc at) ordered ends =
-    AllByRecursion-append (λ entry. is_entry_before bound entry ≡ true) block (entries_in (take (suc at) blocks)) (all_ahead bound block blocks at ordered (some_of_ended bound (block_at blocks at) ends))
+    All-append (λ entry. is_entry_before bound entry ≡ true) block (entries_in (take (suc at) blocks)) (all_ahead bound block blocks at ordered (some_of_ended bound (block_at blocks at) ends))
     (all_to_ended bound blocks at (IsInKeyOrder-last block (entries_in blocks) ordered) ends)
 
 late_behind_block : (bound : Bound) (block others : List Entry) → IsInKeyOrder (block ++ others) → 0 < length block → ends_before bound block ≡ false → AllAreLate bound others
 unfolding IsStrictlySortedBy
 late_behind_block bound [] others ordered some late = absurd (omega (arith, some))
 late_behind_block bound (entry ∷ []) others ordered some late =
-    AllByRecursion-weaker (λ other. entry_cmp entry other ≡ Less) (λ other. is_entry_before bound other ≡ false) (λ other later. later_is_late bound entry other late later) others ordered.0
+    All-weaker (λ other. entry_cmp entry other ≡ Less) (λ other. is_entry_before bound other ≡ false) (λ other later. later_is_late bound entry other late later) others ordered.0
 late_behind_block bound (entry ∷ next ∷ block) others ordered some late = late_behind_block bound (next ∷ block) others ordered.1 (omega arith) late
 
 -- where a block doesn't end before the bound, no later entry is before it
@@ -158,22 +158,22 @@ place_in_block bound blocks at place ordered filled inside before late is =
     let first : AllAreBefore bound (take place block) = subst (AllAreBefore bound) (sym (take_before bound block place up is)) (all_pass (is_entry_before bound) block) in
     let rest : AllAreLate bound (drop place block) =
     subst (AllAreLate bound) (sym (drop_before bound block place up is))
-    (AllByRecursion-weaker (λ entry. not (is_entry_before bound entry) ≡ true) (λ entry. is_entry_before bound entry ≡ false) (λ entry passes. from_not _ passes) (entries_from bound block) (all_pass (λ entry. not (is_entry_before bound entry)) block)) in
+    (All-weaker (λ entry. not (is_entry_before bound entry) ≡ true) (λ entry. is_entry_before bound entry ≡ false) (λ entry passes. false_from_not _ passes) (entries_from bound block) (all_pass (λ entry. not (is_entry_before bound entry)) block)) in
     place_from_parts bound blocks at place (inl (omega (arith, is, some_late bound block some late)))
-    (AllByRecursion-append (λ entry. is_entry_before bound entry ≡ true) (entries_in (take at blocks)) (take place block) before first)
-    (AllByRecursion-append (λ entry. is_entry_before bound entry ≡ false) (drop place block) (entries_in (drop (suc at) blocks)) rest (late_behind bound blocks at ordered some late))
+    (All-append (λ entry. is_entry_before bound entry ≡ true) (entries_in (take at blocks)) (take place block) before first)
+    (All-append (λ entry. is_entry_before bound entry ≡ false) (drop place block) (entries_in (drop (suc at) blocks)) rest (late_behind bound blocks at ordered some late))
 
 -- behind all blocks
 pub place_behind : (bound : Bound) (blocks : List (List Entry)) (at : ℕ) → at ≡ length blocks → AllAreBefore bound (entries_in (take at blocks)) → IsPlace bound blocks at 0
 place_behind bound blocks at is before =
     place_from_parts bound blocks at 0 (inr (is, refl))
-    (AllByRecursion-append (λ entry. is_entry_before bound entry ≡ true) (entries_in (take at blocks)) [] before tt)
+    (All-append (λ entry. is_entry_before bound entry ≡ true) (entries_in (take at blocks)) [] before tt)
     (subst (AllAreLate bound) (sym (behind_all blocks at 0 is)) tt)
 
 -- ---- the place close behind the entry that was put in last
 
 late_end : (bound : Bound) (block : List Entry) (test : Bool) → IsInKeyOrder block → length (entries_before bound block) < length block → ends_before bound block ≡ test → test ≡ false
-late_end bound block true ordered below is = absurd (omega (arith, below, ap length (filter_all (is_entry_before bound) block (all_of_ended bound block ordered is))))
+late_end bound block true ordered below is = absurd (omega (arith, below, ap length (filter-all (is_entry_before bound) block (all_of_ended bound block ordered is))))
 late_end bound block false ordered below is = refl
 
 -- in a block with more entries than those that are before the bound, where the blocks ahead are before it
@@ -201,7 +201,7 @@ all_to_whole bound blocks at count ordered inside some counted whole =
     let block = block_at blocks at in
     let ahead = all_to_some bound blocks at ordered (omega (arith, some, counted)) in
     let all = all_of_whole bound block (ordered_at blocks at ordered inside) (omega (arith, counted, whole)) in
-    rw add-one (subst (AllAreBefore bound) (sym (entries_in-take blocks at inside)) (AllByRecursion-append (λ entry. is_entry_before bound entry ≡ true) (entries_in (take at blocks)) block ahead all))
+    rw add-one (subst (AllAreBefore bound) (sym (entries_in-take blocks at inside)) (All-append (λ entry. is_entry_before bound entry ≡ true) (entries_in (take at blocks)) block ahead all))
 
 -- in the next block
 pub place_in_next : (bound : Bound) (blocks : List (List Entry)) (at count place : ℕ) → IsInKeyOrder (entries_in blocks) → AllByRecursion IsFilled blocks → at + 1 < length blocks

@@ -3,3 +3,4 @@ pub mod Entries
 pub mod Laws
 pub mod LogState
 pub mod Past
+pub mod EntryLaws

@@ -1,11 +1,12 @@
 -- What is so of each item of a list, by recursion, and of lists as they change.
-use Rattle.std.proofs.Common.{◌≡◌, ◌<◌, ◌≤◌, ◌&&◌, ◌||◌, ℕ, zero, suc, Bool, true, false, cond, List, [], ◌∷◌, ◌++◌, length, map, get_or, Option, Some, None, refl, sym, ap, ◌∙◌, arith}
+use Rattle.std.proofs.Common.{◌≡◌, ◌<◌, ◌≤◌, ◌&&◌, ◌||◌, ℕ, zero, suc, Bool, true, false, cond, List, [], ◌∷◌, ◌++◌, length, map, get_or, Option, Some, None, refl, sym, ap, ◌∙◌, arith, take, drop, set, ◌≢◌, append-nil, subst}
 use Rattle.std.specs.List.{AllByRecursion, filter, list_any}
 use Rattle.std.specs.List.Sorted.{IsPermutation}
 use Rattle.std.specs.Prelude.{IsSome, slice_get, slice_set}
 use Rattle.std.proofs.lemmas.Bool.{cond_both, true≢false}
 use Rattle.std.proofs.lemmas.List.Elements.{All-from_recursion, filter_agree, recursion_from_All}
 use Rattle.std.proofs.lemmas.List.Sorted.{All-permutation}
+use Rattle.std.proofs.lemmas.Option.{get_or_from_slice_get, slice_get_within}
 
 -- ---- what is so of each
 
@@ -108,3 +109,59 @@ pub get-set_same : {X : Type 0} (xs : List X) (place : ℕ) (x : X) → place < 
 get-set_same [] place x below = absurd (omega arith)
 get-set_same (y ∷ xs) zero x below = refl
 get-set_same (y ∷ xs) (suc place) x below = get-set_same xs place x (omega arith)
+
+pub get-set_other : {X : Type 0} (xs : List X) (place other : ℕ) (x : X) → other ≢ place → slice_get (slice_set xs place x) other ≡ slice_get xs other
+get-set_other [] place other x differs = refl
+get-set_other (y ∷ xs) zero zero x differs = absurd (differs refl)
+get-set_other (y ∷ xs) zero (suc other) x differs = refl
+get-set_other (y ∷ xs) (suc place) zero x differs = refl
+get-set_other (y ∷ xs) (suc place) (suc other) x differs = get-set_other xs place other x (λ same. differs (ap suc same))
+
+-- the list from a place on begins with what is there
+pub drop-found : {X : Type 0} (xs : List X) (place : ℕ) (x : X) → slice_get xs place ≡ Some x → drop place xs ≡ x ∷ drop (suc place) xs
+drop-found [] place x at = absurd cc
+drop-found (y ∷ xs) zero x at = let same : y ≡ x = cc in ap (λ z. z ∷ xs) same
+drop-found (y ∷ xs) (suc place) x at = drop-found xs place x at
+
+pub All-take : {X : Type 0} (P : X → Type 0) (n : ℕ) (xs : List X) → AllByRecursion P xs → AllByRecursion P (take n xs)
+All-take P zero [] all = tt
+All-take P (suc n) [] all = tt
+All-take P zero (x ∷ xs) all = tt
+All-take P (suc n) (x ∷ xs) all = (all.0, All-take P n xs all.1)
+
+pub All-drop : {X : Type 0} (P : X → Type 0) (n : ℕ) (xs : List X) → AllByRecursion P xs → AllByRecursion P (drop n xs)
+All-drop P zero [] all = tt
+All-drop P (suc n) [] all = tt
+All-drop P zero (x ∷ xs) all = all
+All-drop P (suc n) (x ∷ xs) all = All-drop P n xs all.1
+
+pub All-set : {X : Type 0} (P : X → Type 0) (xs : List X) (n : ℕ) (y : X) → P y → AllByRecursion P xs → AllByRecursion P (set xs n y)
+All-set P [] n y one all = all
+All-set P (x ∷ xs) zero y one all = (one, all.1)
+All-set P (x ∷ xs) (suc n) y one all = (all.0, All-set P xs n y one all.1)
+
+pub filter_both : {X : Type 0} (p q : X → Bool) (xs : List X) → filter p (filter q xs) ≡ filter (λ x. q x && p x) xs
+filter_both p q [] = refl
+filter_both p q (x ∷ xs) =
+    elim (q x) as (λ b. filter p (cond b (x ∷ filter q xs) (filter q xs)) ≡ cond (b && p x) (x ∷ filter (λ y. q y && p y) xs) (filter (λ y. q y && p y) xs)) [
+      | true ↦ ap (λ l. cond (p x) (x ∷ l) l) (filter_both p q xs)
+      | false ↦ filter_both p q xs
+    ]
+
+pub filter_again : {X : Type 0} (p : X → Bool) (xs : List X) → filter p (filter p xs) ≡ filter p xs
+filter_again p xs = filter_both p p xs ∙ filter_agree (λ x. p x && p x) p (λ x. twice (p x)) xs
+  where
+    twice : (b : Bool) → (b && b) ≡ b
+    twice true = refl
+    twice false = refl
+
+-- where none is left, all were taken
+pub all_taken : {X : Type 0} (taken left whole : List X) → left ≡ [] → taken ++ left ≡ whole → taken ≡ whole
+all_taken taken left whole none parts = sym (append-nil taken) ∙ ap (λ xs. taken ++ xs) (sym none) ∙ parts
+
+pub All-found : {X : Type 0} (P : X → Type 0) (xs : List X) (place : ℕ) (x : X) → AllByRecursion P xs → slice_get xs place ≡ Some x → P x
+All-found P xs place x all at = subst P (get_or_from_slice_get xs place x x at) (All-get_or P xs place x (slice_get_within xs place x at) all)
+
+pub some_in : {X : Type 0} (xs : List X) → xs ≢ [] → 0 < length xs
+some_in [] some = absurd (some refl)
+some_in (x ∷ xs) some = omega arith

@@ -1,8 +1,9 @@
 -- Members of lists, of their filters and of their images.
-use Rattle.std.proofs.Common.{◌≡◌, ◌⊎◌, inl, inr, zero, suc, ◌||◌, Bool, true, false, cond, List, [], ◌∷◌, map, refl, sym, ◌∙◌, ap, subst, arith}
+use Rattle.std.proofs.Common.{◌≡◌, ◌⊎◌, inl, inr, zero, suc, ◌||◌, Bool, true, false, cond, List, [], ◌∷◌, map, refl, sym, ◌∙◌, ap, subst, arith, ℕ, slice_get, Some}
 use Rattle.std.specs.Prelude.{Contains}
 use Rattle.std.specs.List.{AllByRecursion, filter, list_any}
 use Rattle.std.proofs.lemmas.Bool.{false≢true, or_cases, true≢false}
+use Rattle.std.proofs.lemmas.Option.{slice_get_within, get_or_from_slice_get}
 
 pub none : {X : Type 0} (x : X) → Contains [] x → ⊥
 none x (k, inside, is) = omega (arith, inside)
@@ -90,3 +91,6 @@ some_passes {X} p (y ∷ xs) is = elim (or_cases (p y) (list_any p xs) is) [
   | inl first ↦ (y, here y xs, first)
   | inr later ↦ let rest : (x : X) × Contains xs x × (p x ≡ true) = some_passes p xs later in (rest.0, there y rest.0 xs rest.1, rest.2)
 ]
+
+pub found_is_there : {X : Type 0} (xs : List X) (i : ℕ) (x : X) → slice_get xs i ≡ Some x → Contains xs x
+found_is_there xs i x found = (i, slice_get_within xs i x found, get_or_from_slice_get xs i x x found)

@@ -4,9 +4,11 @@ use Rattle.std.specs.Prelude.{slice_get, IfSome, IfNone}
 use Rattle.std.specs.List.{AllByRecursion, filter}
 use Rattle.std.proofs.lemmas.List.Elements.{filter-append}
 use Rattle.std.proofs.lemmas.List.Folds.{list_any-append}
-use Rattle.plain_laws.specs.Lists.{All-push}
+use Rattle.plain_laws.specs.Lists.{All-push, All-found}
+use Rattle.plain_laws.specs.Bools.{or_false}
 use Rattle.task_order.specs.declared.task.Task.{Task}
 use Rattle.task_order.specs.TaskList.{tasks_before}
+use Rattle.task_order.specs.TaskListLaws.{tasks_before-place}
 use Rattle.rw_sets.specs.Accesses.{writes}
 use Rattle.app_laws.specs.Applications.{Application, IsFitTask, set_in}
 use Rattle.commuting.specs.Clear.{IsReady}
@@ -16,7 +18,7 @@ use Rattle.resting_rounds.specs.declared.waiting.Waiting.{Waiting}
 use Rattle.resting_rounds.specs.Basis.{Basis}
 use Rattle.resting_rounds.specs.Sets.{HasSets, IsMeeting, any_has}
 use Rattle.resting_rounds.specs.Waiting.{MayRest, MeetsEarlierAt, Rests, blocked, still_watched, tasks_of}
-use Rattle.resting_rounds.proofs.Gathered.{before_place, holds_there, one_more_taken, or_false}
+use Rattle.resting_rounds.proofs.Gathered.{one_more_taken}
 use Rattle.resting_rounds.proofs.Meetings.{apart_is_clear, meets_is_not_clear}
 
 -- ---- lists with one item more
@@ -43,10 +45,10 @@ module _ {V : Type 0} (app : Application V) where
 
   module _ (basis : Basis app) (state : State V) (ready : IsReady app state) (place : ℕ) (task : Task) (there : slice_get state.pending place ≡ Some task) where
     fit : IsFitTask app task
-    fit = holds_there (IsFitTask app) state.pending place task ready.tasks there
+    fit = All-found (IsFitTask app) state.pending place task ready.tasks there
 
     before : tasks_before task.key state.pending ≡ take place state.pending
-    before = before_place basis.turned basis.equal state.pending place task ready.ascending there
+    before = tasks_before-place state.pending place task ready.ascending there
 
     -- what meets one of those in front rests there, and isn't clear
     pub rests_there : (loc : ℕ) → IsMeeting app state.cells (take place state.pending) task (Some loc) → MeetsEarlierAt app state task loc

@@ -8,7 +8,7 @@ use Rattle.task_order.specs.TaskList.{tasks_before}
 use Rattle.rw_sets.specs.declared.access.Access.{Access}
 use Rattle.rw_sets.specs.declared.access.Access.TheVariants.{Read, Write}
 use Rattle.rw_sets.specs.Accesses.{access_at, allows_write, clash, conflicts_with, writes}
-use Rattle.cell_store.proofs.Locations.{has_from_writes}
+use Rattle.rw_sets.specs.AccessLaws.{has_from_writes}
 use Rattle.app_laws.specs.Applications.{Application, AreFitTasks, IsFitTask, set_in}
 use Rattle.commuting.specs.Clear.{IsReady}
 use Rattle.commuting.specs.Rounds.{is_clear}

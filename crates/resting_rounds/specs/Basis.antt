@@ -9,6 +9,5 @@ pub record Basis {V : Type 0} (app : Application V) : Type 0 where
   pub resting : IsResting app
   pub decided : ConflictsAreDecided
   pub distinct : tasks.AscendingKeysAreDistinct
-  pub turned : tasks.EarlierIsTurned
   pub equal : tasks.EqualIsReflexive
   pub new_key : tasks.WithoutOfNewKey

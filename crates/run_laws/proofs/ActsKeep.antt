@@ -1,5 +1,6 @@
 -- A task that acts keeps an execution sound, whatever jobs are in hand beside it.
 use Rattle.std.proofs.Common.{◌≡◌, inl, inr, ⊎_elim, List, [], ◌∷◌, Some, refl, sym, ap, subst, ◌∙◌}
+use Rattle.plain_laws.specs.Options.{some_injective}
 use Rattle.task_order.specs.declared.task.Task.{Task}
 use Rattle.kdg_graph.specs.declared.node_id.NodeId.{NodeId}
 use Rattle.kdg_graph.specs.Node.{Node}
@@ -20,9 +21,6 @@ use Rattle.run_laws.specs.Sound.{IsSound}
 use Rattle.run_laws.proofs.Claims.{claimed_is_clear, claims_keep_sound}
 use Rattle.run_laws.proofs.Marks.{marks_and_drains_keep_sound}
 
-Some-injective : {X : Type 0} (a b : X) → Some a ≡ Some b → a ≡ b
-Some-injective a b same = cc
-
 module _ {V : Type 0} {app : Application V} {old : Progress V} {id : NodeId} {midway : Progress V} {done : Done V} (played : IsPlayed app old id midway done) where
   -- the job is one of those in hand, and the others are those that were there before
   pub beside : (jobs : List (Job V)) → IsPerformed app (played.job ∷ jobs) done played.job jobs
@@ -36,7 +34,7 @@ module _ {V : Type 0} {app : Application V} {old : Progress V} {id : NodeId} {mi
       let claimed = played.started.claimed in
       let its : claimed.node.id ≡ id = sym (ap (λ (job : Job V). job.node) claimed.job_is) ∙ played.started.node in
       let found = ap (node_at old.nodes) (sym its) ∙ basis.lower.have_ids old.nodes claimed.node graph (claimed_is_clear claimed).0 in
-      ap (λ (job : Job V). job.task) claimed.job_is ∙ ap (λ (node : Node). node.task) (Some-injective claimed.node node (sym found ∙ at))
+      ap (λ (job : Job V). job.task) claimed.job_is ∙ ap (λ (node : Node). node.task) (some_injective claimed.node node (sym found ∙ at))
 
 module _ {V : Type 0} {app : Application V} (basis : Basis app) {old : Progress V} {id : NodeId} where
   claimed_sound : {midway : Progress V} {done : Done V} (played : IsPlayed app old id midway done) (jobs : List (Job V)) (values : List V)

@@ -3,7 +3,8 @@ use Rattle.std.proofs.Common.{◌≡◌, ◌≢◌, true, List, [], ◌∷◌, m
 use Rattle.std.specs.List.{AllByRecursion}
 use Rattle.std.specs.List.Sorted.{IsPermutation}
 use Rattle.std.specs.Ordering.{is_eq}
-use Rattle.std.proofs.lemmas.List.Sorted.{Contains-permutation, IsPermutation-map, IsPermutation-sym, list_any-IsPermutation}
+use Rattle.std.proofs.lemmas.List.Sorted.{IsPermutation-map, list_any-IsPermutation}
+use Rattle.plain_laws.specs.Lists.{All-shuffled, All-weaker}
 use Rattle.task_order.specs.declared.task.Task.{Task}
 use Rattle.task_order.specs.Key.{key_cmp}
 use Rattle.task_order.specs.Laws.{DistinctInAnyOrder}
@@ -15,12 +16,8 @@ use Rattle.kdg_graph.specs.Node.{Node}
 use Rattle.app_laws.specs.Applications.{Application}
 use Rattle.app_laws.specs.Order.{Pairwise}
 use Rattle.run_laws.specs.Jobs.{Job}
-use Rattle.run_laws.specs.Lists.{all-weaker, all_at, all_from}
 use Rattle.run_laws.specs.Progress.{Progress}
 use Rattle.run_laws.specs.Sound.{HasJob, IsOfNode, IsSound, is_written}
-
-pub all_in_any_order : {X : Type 0} (P : X → Type 0) (xs ys : List X) → IsPermutation xs ys → AllByRecursion P xs → AllByRecursion P ys
-all_in_any_order P xs ys same all = all_from P ys (λ y has. all_at P xs y all (Contains-permutation ys xs y (IsPermutation-sym xs ys same) has))
 
 module _ {V : Type 0} where
   abbrev task_of : Job V → Task
@@ -54,8 +51,8 @@ sound_in_any_order {V} app any_order progress jobs others values same sound =
     record {
       keys_and_counts = sound.keys_and_counts;
       outs_match = record {
-        named = all_in_any_order (IsOfNode app progress.nodes) jobs others same match.named;
-        all = all-weaker (Runs jobs) (Runs others)
+        named = All-shuffled (IsOfNode app progress.nodes) jobs others same match.named;
+        all = All-weaker (Runs jobs) (Runs others)
             (λ node has runs. sym (list_any-IsPermutation (λ (job : Job V). is_eq (key_cmp job.task.key node.task.key)) jobs others same) ∙ has runs) progress.nodes match.all;
         own = own_jobs others (any_order (map task_of jobs) (map task_of others) (own_tasks jobs match.own) (IsPermutation-map task_of jobs others same));
       };
@@ -65,7 +62,7 @@ sound_in_any_order {V} app any_order progress jobs others values same sound =
             let is : is_written app jobs loc ≡ is_written app others loc = list_any-IsPermutation (λ (job : Job V). writes job.bundle.set loc) jobs others same in
             let both = sound.whole.away loc inside in
             ((λ out. sym is ∙ both.0 out), (λ written. both.1 (is ∙ written)));
-        bundles = all_in_any_order (λ (job : Job V). job.bundle ≡ part_of (homes values) job.bundle.set) jobs others same sound.whole.bundles;
+        bundles = All-shuffled (λ (job : Job V). job.bundle ≡ part_of (homes values) job.bundle.set) jobs others same sound.whole.bundles;
       };
       ready = sound.ready;
       recorded_covers = sound.recorded_covers;

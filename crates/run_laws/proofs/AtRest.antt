@@ -3,6 +3,7 @@ use Rattle.std.proofs.Common.{◌≡◌, not, true, false, List, [], ◌∷◌, 
 use Rattle.std.specs.Prelude.{Contains}
 use Rattle.std.specs.List.{AllByRecursion}
 use Rattle.std.proofs.lemmas.Bool.{and_from, true≢false}
+use Rattle.plain_laws.specs.Members.{here, all_at, all_from, in_map}
 use Rattle.task_order.specs.TaskList.{IsAscending}
 use Rattle.cell_store.specs.declared.cell.Cell.{Cell}
 use Rattle.cell_store.specs.declared.cell.Cell.TheVariants.{Home, Out}
@@ -14,7 +15,6 @@ use Rattle.kdg_graph.specs.Nodes.{earlier_than, tasks_of}
 use Rattle.app_laws.specs.Applications.{Application, IsFitTask, set_in}
 use Rattle.run_laws.specs.Basis.{Basis}
 use Rattle.run_laws.specs.Jobs.{Job}
-use Rattle.run_laws.specs.Lists.{all_at, all_from, here, in_map}
 use Rattle.run_laws.specs.Progress.{Progress}
 use Rattle.run_laws.specs.Sound.{Covers, HasJob, IsOfNode, IsSound}
 use Rattle.run_laws.specs.Rest.{IdleIsSound, IsAtRest, NoJobsAreRest, NoJobsWhereNoneRuns, NoneRuns}

@@ -1,9 +1,10 @@
 -- First tasks on cells that are all home are sound, and so what begins is.
-use Rattle.std.proofs.Common.{◌≡◌, ◌≢◌, ℕ, suc, ◌+◌, ◌≤◌, true, false, List, [], ◌∷◌, length, refl, sym, ap, subst, ◌∙◌, arith}
+use Rattle.std.proofs.Common.{◌≡◌, ◌≢◌, ◌+◌, ◌≤◌, true, false, List, [], length, sym, ap, subst, ◌∙◌, arith}
 use lib.ListN.{length-map}
 use Rattle.std.specs.Prelude.{Contains}
 use Rattle.std.specs.List.{AllByRecursion}
 use Rattle.std.proofs.lemmas.Bool.{true≢false}
+use Rattle.plain_laws.specs.Members.{all_at, all_from, in_map}
 use Rattle.task_order.specs.declared.start.Start.{Start}
 use Rattle.task_order.specs.declared.task.Task.{Task}
 use Rattle.task_order.specs.Laws.{PutAllAddsEach}
@@ -16,19 +17,15 @@ use Rattle.kdg_graph.specs.Nodes.{tasks_of}
 use Rattle.app_laws.specs.Applications.{Application, AreFitStarts, IsFitTask, IsInRange, set_in}
 use Rattle.app_laws.specs.Execution.{first_from}
 use Rattle.app_laws.specs.Order.{Pairwise, is_prefix}
+use Rattle.app_laws.specs.TaskLaws.{length-first_from}
 use Rattle.commuting.specs.Clear.{IsReady}
 use Rattle.commuting.specs.States.{state_of}
 use Rattle.run_laws.specs.Basis.{Basis}
 use Rattle.run_laws.specs.Answers.{AreFirstNodes}
 use Rattle.run_laws.specs.Laws.{BeginningsAreSound}
-use Rattle.run_laws.specs.Lists.{all_at, all_from, in_map}
 use Rattle.run_laws.specs.Progress.{Progress, whole_state}
 use Rattle.run_laws.specs.Sound.{KeysAndCounts, IsWhole, Covers, HasJob, IsSound, is_unblocked}
 use Rattle.run_laws.proofs.Marks.{no_entries_in_order}
-
-length-first_from : (number : ℕ) (first : List Start) → length (first_from number first) ≡ length first
-length-first_from number [] = refl
-length-first_from number (start ∷ first) = ap suc (length-first_from (suc number) first)
 
 -- as many nodes as first tasks
 pub as_many_first_nodes : PutAllAddsEach → {V : Type 0} (app : Application V) (cells : List V) (first : List Start) (nodes : List Node) → AreFirstNodes app cells first nodes → length nodes ≡ length first

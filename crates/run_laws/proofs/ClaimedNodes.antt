@@ -5,11 +5,11 @@ use Rattle.kdg_graph.specs.declared.node_id.NodeId.{NodeId}
 use Rattle.kdg_graph.specs.Node.{Node}
 use Rattle.kdg_graph.specs.Nodes.{is_at, started}
 use Rattle.kdg_graph.specs.Rewrite.{without}
+use Rattle.kdg_graph.specs.NodeLaws.{start}
 use Rattle.app_laws.specs.Applications.{Application}
 use Rattle.run_laws.specs.Basis.{Basis, LowerLaws}
 use Rattle.run_laws.specs.Events.{clear_nodes, is_clear}
 use Rattle.run_laws.specs.Laws.{ClaimsTakeOneClear}
-use Rattle.run_laws.specs.NodeLists.{start}
 use Rattle.run_laws.specs.Progress.{Progress}
 use Rattle.run_laws.specs.Sound.{is_unblocked}
 use Rattle.run_laws.proofs.Starting.{unblocked_started}

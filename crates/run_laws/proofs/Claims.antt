@@ -1,11 +1,15 @@
 -- A claim keeps an execution sound.
-use Rattle.std.proofs.Common.{◌≡◌, ◌≢◌, ◌↔◌, inl, inr, ⊎_elim, ℕ, ◌<◌, ◌||◌, Bool, true, false, cond, List, [], ◌∷◌, Some, length, is_some, refl, sym, ap, subst, ◌∙◌, arith}
+use Rattle.std.proofs.Common.{◌≡◌, ◌≢◌, ◌↔◌, inl, inr, ⊎_elim, ℕ, ◌<◌, ◌||◌, Bool, true, false, cond, List, [], ◌∷◌, length, is_some, refl, sym, ap, subst, ◌∙◌, arith}
 use lib.ListN.{length-map}
 use Rattle.std.specs.Prelude.{Contains, IsSome, IsTrue}
 use Rattle.std.specs.List.{AllByRecursion, list_any}
 use Rattle.std.specs.declared.cmp.Ordering.TheVariants.{Less}
 use Rattle.std.specs.Ordering.{is_eq, is_lt}
-use Rattle.std.proofs.lemmas.Bool.{and_parts, true≢false}
+use Rattle.std.proofs.lemmas.Bool.{and_parts, or_right, true≢false}
+use Rattle.plain_laws.specs.Members.{all_at, all_from, found_is_there, from_filter, from_map, in_filter, in_map, none_passes, there}
+use Rattle.plain_laws.specs.Options.{some_injective}
+use Rattle.plain_laws.specs.Lists.{All-weaker}
+use Rattle.plain_laws.specs.Bools.{false_from_not}
 use Rattle.task_order.specs.declared.task.Task.{Task}
 use Rattle.task_order.specs.Key.{key_cmp}
 use Rattle.rw_sets.specs.Accesses.{IsWithin, Conflicts, access_at, conflicts_with, writes}
@@ -17,6 +21,7 @@ use Rattle.output_log.specs.Entries.{Entry}
 use Rattle.kdg_graph.specs.Node.{Node}
 use Rattle.kdg_graph.specs.Nodes.{IsGraph, earlier_than, node_at, node_with_key, started}
 use Rattle.kdg_graph.specs.Edges.{is_blocked}
+use Rattle.kdg_graph.specs.NodeLaws.{start, start_keeps_id, start_keeps_set, start_keeps_task}
 use Rattle.app_laws.specs.Applications.{Application, IsInRange, set_in}
 use Rattle.app_laws.specs.Order.{is_prefix}
 use Rattle.commuting.specs.Clear.{IsReady}
@@ -25,19 +30,10 @@ use Rattle.run_laws.specs.Basis.{Basis}
 use Rattle.run_laws.specs.Jobs.{Job}
 use Rattle.run_laws.specs.Events.{IsClaimed, is_clear, clear_nodes}
 use Rattle.run_laws.specs.Laws.{ClaimsKeepSound}
-use Rattle.run_laws.specs.Lists.{all-weaker, all_at, all_from, found_is_there, from_filter, from_map, in_filter, in_map, none_passes, there}
-use Rattle.run_laws.specs.NodeLists.{false_where_not, start, start_keeps_set, start_keeps_task}
 use Rattle.run_laws.specs.Progress.{Progress}
 use Rattle.run_laws.specs.Sound.{Covers, HasJob, IsOfNode, IsSound, IsWhole, JobsMatch, KeysAndCounts, is_unblocked, is_written}
 use Rattle.run_laws.proofs.ClearNodes.{no_conflict}
-use Rattle.run_laws.proofs.Starting.{start_cases, start_keeps_id, start_keeps_running, start_runs, started_graph, unblocked_started}
-
-Some-injective : {X : Type 0} (a b : X) → Some a ≡ Some b → a ≡ b
-Some-injective a b same = cc
-
-or_right : (x y : Bool) → y ≡ true → (x || y) ≡ true
-or_right true y is = refl
-or_right false y is = is
+use Rattle.run_laws.proofs.Starting.{start_cases, start_keeps_running, start_runs, started_graph, unblocked_started}
 
 home_before : {V : Type 0} (taken : Bool) (cell : Cell V) → IsHome (cond taken Out cell) → IsHome cell
 home_before true cell home = absurd home
@@ -58,7 +54,7 @@ module _ {V : Type 0} {app : Application V} (basis : Basis app) (old : Progress 
   now = record old { nodes = now_nodes; cells = now_cells }
 
   idle : node.running ≡ false
-  idle = false_where_not node.running (and_parts _ _ clear).0
+  idle = false_from_not node.running (and_parts _ _ clear).0
 
   unblocked : is_unblocked app old.nodes node ≡ true
   unblocked = (and_parts _ _ clear).1
@@ -67,11 +63,11 @@ module _ {V : Type 0} {app : Application V} (basis : Basis app) (old : Progress 
   graph = sound.keys_and_counts.graph
 
   pub same_node : (was : Node) → Contains old.nodes was → was.id ≡ node.id → was ≡ node
-  same_node was there same = Some-injective was node (sym (basis.lower.have_ids old.nodes was graph there) ∙ ap (node_at old.nodes) same ∙ basis.lower.have_ids old.nodes node graph has)
+  same_node was there same = some_injective was node (sym (basis.lower.have_ids old.nodes was graph there) ∙ ap (node_at old.nodes) same ∙ basis.lower.have_ids old.nodes node graph has)
 
   other_key : (was : Node) → Contains old.nodes was → was.running ≡ true → was.task.key ≢ node.task.key
   other_key was there running same =
-      let is = Some-injective was node (sym (basis.lower.have_keys old.nodes was graph there) ∙ ap (node_with_key old.nodes) same ∙ basis.lower.have_keys old.nodes node graph has) in
+      let is = some_injective was node (sym (basis.lower.have_keys old.nodes was graph there) ∙ ap (node_with_key old.nodes) same ∙ basis.lower.have_keys old.nodes node graph has) in
       true≢false (sym running ∙ ap (λ (n : Node). n.running) is ∙ idle)
 
   -- ---- the bundle is home
@@ -80,7 +76,7 @@ module _ {V : Type 0} {app : Application V} (basis : Basis app) (old : Progress 
   none_before first second there free earlier =
       no_conflict basis first.set second.set
       (none_passes (λ (n : Node). conflicts_with n.set second.set) (earlier_than second.task.key old.nodes) first
-      (false_where_not (is_blocked old.nodes second) (and_parts _ _ free).0)
+      (false_from_not (is_blocked old.nodes second) (and_parts _ _ free).0)
       (in_filter (λ (n : Node). is_lt (key_cmp n.task.key second.task.key)) old.nodes first there (ap is_lt earlier)))
 
   apart_from_running : (was : Node) → Contains old.nodes was → was.running ≡ true → ¬ Conflicts was.set node.set
@@ -194,9 +190,9 @@ module _ {V : Type 0} {app : Application V} (basis : Basis app) (old : Progress 
 
   match_now : JobsMatch app now_nodes (claimed ∷ jobs)
   match_now = record {
-    named = (first_job, all-weaker (IsOfNode app old.nodes) (IsOfNode app now_nodes) other_job jobs sound.outs_match.named);
+    named = (first_job, All-weaker (IsOfNode app old.nodes) (IsOfNode app now_nodes) other_job jobs sound.outs_match.named);
     all = each_now (λ n. n.running ≡ true → HasJob app (claimed ∷ jobs) n) has_job;
-    own = (all-weaker (IsOfNode app old.nodes) (λ job. node.task.key ≢ job.task.key) own_task jobs sound.outs_match.named, sound.outs_match.own);
+    own = (All-weaker (IsOfNode app old.nodes) (λ job. node.task.key ≢ job.task.key) own_task jobs sound.outs_match.named, sound.outs_match.own);
   }
 
   -- ---- the nodes

@@ -6,6 +6,8 @@ use Rattle.std.specs.declared.cmp.Ordering.{Ordering}
 use Rattle.std.specs.declared.cmp.Ordering.TheVariants.{Less, Equal, Greater}
 use Rattle.std.specs.Ordering.{is_lt}
 use Rattle.std.proofs.lemmas.Bool.{and_from, and_parts, true≢false}
+use Rattle.plain_laws.specs.Members.{here, all_at, from_filter, in_map, none_passes}
+use Rattle.plain_laws.specs.Bools.{false_from_not}
 use Rattle.task_order.specs.declared.key.Key.{Key}
 use Rattle.task_order.specs.declared.task.Task.{Task}
 use Rattle.task_order.specs.Key.{key_cmp}
@@ -20,8 +22,7 @@ use Rattle.run_laws.specs.Basis.{Basis}
 use Rattle.run_laws.specs.Jobs.{Job}
 use Rattle.run_laws.specs.Events.{is_clear, clear_nodes}
 use Rattle.run_laws.specs.Laws.{RecordedSetsSuffice, SomeIsClear}
-use Rattle.run_laws.specs.Lists.{all_at, from_filter, here, in_map, none_passes}
-use Rattle.run_laws.specs.NodeLists.{all-tasks, false_where_not, tasks-earlier_than, wider_conflict}
+use Rattle.run_laws.specs.NodeLists.{all-tasks, tasks-earlier_than, wider_conflict}
 use Rattle.run_laws.specs.Progress.{Progress, whole_state}
 use Rattle.run_laws.specs.Sound.{Covers, HasJob, IsSound, is_unblocked}
 
@@ -34,7 +35,7 @@ module _ {V : Type 0} {app : Application V} (basis : Basis app) where
       → Contains progress.nodes node → is_unblocked app progress.nodes node ≡ true → IsClear app (whole_state progress values) node.task
   unblocked_is_clear progress jobs values node sound has unblocked =
       let parts = and_parts _ _ unblocked in
-      let none = false_where_not (is_blocked progress.nodes node) parts.0 in
+      let none = false_from_not (is_blocked progress.nodes node) parts.0 in
       let same = tasks-earlier_than node.task.key progress.nodes in
       let covers = λ (other : Node) (there : Contains progress.nodes other). all_at (Covers app progress.cells values) progress.nodes other sound.recorded_covers there in
       let Apart = λ (other : Task). ¬ Conflicts (set_in app values other) (set_in app values node.task) in

@@ -2,11 +2,14 @@
 use Rattle.std.proofs.Common.{◌≡◌, ◌≢◌, ⊎_elim, not, false, List, [], ◌∷◌, Some, sym, ap, subst, ◌∙◌}
 use Rattle.std.specs.Prelude.{Contains}
 use Rattle.std.proofs.lemmas.Bool.{and_from, and_parts, true≢false}
+use Rattle.plain_laws.specs.Members.{in_map}
+use Rattle.plain_laws.specs.Bools.{false_from_not}
 use Rattle.cell_store.specs.Cells.{cells_given}
 use Rattle.rw_sets.specs.Accesses.{Accesses}
 use Rattle.kdg_graph.specs.Node.{Node}
 use Rattle.kdg_graph.specs.Nodes.{node_at, started}
 use Rattle.kdg_graph.specs.Rewrite.{set_after}
+use Rattle.kdg_graph.specs.NodeLaws.{start}
 use Rattle.app_laws.specs.Applications.{Application}
 use Rattle.run_laws.specs.Jobs.{Done, Job}
 use Rattle.run_laws.specs.Events.{renewals}
@@ -14,8 +17,6 @@ use Rattle.run_laws.specs.Basis.{Basis}
 use Rattle.run_laws.specs.FinishBasis.{FinishBasis}
 use Rattle.run_laws.specs.Finishes.{IsEnd}
 use Rattle.run_laws.specs.Laws.{Event, FinishesKeepSound, IsSoundMoment, Leads, Moment}
-use Rattle.run_laws.specs.Lists.{in_map}
-use Rattle.run_laws.specs.NodeLists.{false_where_not, start}
 use Rattle.run_laws.specs.Progress.{Progress}
 use Rattle.run_laws.specs.Rest.{ActsLeaveClear, ClaimsNode, ClearNodesStayClear, IsClearNode}
 use Rattle.run_laws.specs.Sound.{is_unblocked}
@@ -51,7 +52,7 @@ module _ {V : Type 0} {app : Application V} (begun : Basis app) (ended : FinishB
     clear_after_end : (node : Node) → IsClearNode app old.nodes node → IsClearNode app now.nodes node
     clear_after_end node (has, clear) =
         let parts = and_parts (not node.running) (is_unblocked app old.nodes node) clear in
-        let apart = idle_is_another node has (false_where_not node.running parts.0) in
+        let apart = idle_is_another node has (false_from_not node.running parts.0) in
         let still : IsAnotherUnblocked ended end node = record {
           has = has;
           apart = apart;

@@ -3,6 +3,8 @@ use Rattle.std.proofs.Common.{◌≡◌, ◌⊎◌, inl, inr, ⊎_elim, ℕ, Lis
 use Rattle.std.specs.List.{AllByRecursion}
 use Rattle.std.specs.Option.{option_or}
 use Rattle.std.specs.declared.cmp.Ordering.TheVariants.{Less}
+use Rattle.plain_laws.specs.Members.{all_from}
+use Rattle.plain_laws.specs.Options.{none_is_not_some}
 use Rattle.task_order.specs.declared.task.Task.{Task}
 use Rattle.task_order.specs.Key.{key_cmp}
 use Rattle.output_log.specs.Entries.{Entry}
@@ -18,7 +20,6 @@ use Rattle.run_laws.specs.CourseBasis.{CourseBasis}
 use Rattle.run_laws.specs.CourseLaws.{AnyOrderKeepsCourse, BeginningsAreStarts, ClaimAnswersKeepCourse, ClaimsKeepCourse, GivingUpKeepsCourse, StartsHaveCome}
 use Rattle.run_laws.specs.Events.{marked}
 use Rattle.run_laws.specs.Jobs.{Job}
-use Rattle.run_laws.specs.Lists.{all_from}
 use Rattle.run_laws.specs.Progress.{Progress, whole_state}
 use Rattle.run_laws.specs.Sound.{IsSound}
 use Rattle.run_laws.proofs.AnyOrder.{sound_in_any_order}
@@ -33,9 +34,6 @@ either_mark None new mark is = inr (some_injective is)
     some_injective : {x y : OverCause} → Some x ≡ Some y → x ≡ y
     some_injective same = cc
 either_mark (Some standing) new mark is = inl is
-
-none_is_no_mark : {mark : OverCause} → None ≡ Some mark → ⊥
-none_is_no_mark same = cc
 
 no_room_is_no_budget : {created limit : ℕ} → cause.NoRoom ≡ cause.Budget created limit → ⊥
 no_room_is_no_budget same = cc
@@ -76,7 +74,7 @@ module _ {V : Type 0} {app : Application V} (basis : CourseBasis app) where
     earlier = all_from (λ (task : Task). AllByRecursion (λ (entry : Entry). key_cmp entry.0 task.key ≡ Less) []) (tasks_of start.nodes) (λ _ _. tt);
     ended = omega arith;
     limit = refl;
-    true_mark = λ created limit is. absurd (none_is_no_mark (sym over ∙ is));
+    true_mark = λ created limit is. absurd (none_is_not_some _ (sym over ∙ is));
     entries_descend = tt;
     tasks_descend = of_themselves (tasks_of start.nodes);
   }

@@ -1,68 +1,53 @@
 -- What a drain takes out, and what it leaves where an execution has come.
 use Rattle.std.proofs.Common.{◌≡◌, ◌||◌, true, false, not, List, [], ◌∷◌, ◌++◌, length, drop, append-nil, append_assoc, refl, sym, ap, ◌∙◌}
 use Rattle.std.specs.List.{AllByRecursion, list_any}
-use Rattle.std.specs.declared.cmp.Ordering.{Ordering}
-use Rattle.std.specs.declared.cmp.Ordering.TheVariants.{Less, Equal, Greater}
-use Rattle.std.specs.Ordering.{is_lt}
+use Rattle.std.specs.declared.cmp.Ordering.TheVariants.{Less}
 use Rattle.std.proofs.Math.Seq.{drop-append_seam}
+use Rattle.plain_laws.specs.Orderings.{less_from_test, not_less}
+use Rattle.plain_laws.specs.Members.{all_at, all_from, from_filter, none_any}
 use Rattle.task_order.specs.declared.key.Key.{Key}
 use Rattle.task_order.specs.declared.task.Task.{Task}
 use Rattle.task_order.specs.Key.{at_key, is_before, key_cmp}
 use Rattle.task_order.specs.TaskList.{IsAscending}
+use Rattle.task_order.specs.KeyLaws.{not_past_earlier}
 use Rattle.output_log.specs.Entries.{Entry, IsInKeyOrder, entries_before, is_entry_before, joined_by_key}
+use Rattle.output_log.specs.EntryLaws.{AreBefore, AllAreBefore}
 use Rattle.kdg_graph.specs.Node.{Node}
 use Rattle.kdg_graph.specs.Nodes.{tasks_of}
 use Rattle.app_laws.specs.Applications.{Application}
 use Rattle.app_laws.specs.Execution.{is_clear_before}
 use Rattle.commuting.specs.Standing.{ComeBefore}
 use Rattle.commuting.specs.States.{execution_from}
+use Rattle.commuting.specs.EndLaws.{both_before}
 use Rattle.run_laws.specs.Basis.{LowerLaws}
 use Rattle.run_laws.specs.Course.{HasCome}
 use Rattle.run_laws.specs.CourseBasis.{CourseBasis}
 use Rattle.run_laws.specs.CourseLaws.{DrainsKeepCourse, DrainsTakeTheNext, least_bound, log_after}
 use Rattle.run_laws.specs.Events.{drainable, undrainable}
 use Rattle.run_laws.specs.Jobs.{Job}
-use Rattle.run_laws.specs.Lists.{all-append, all_at, all_from, from_filter, none_any}
 use Rattle.run_laws.specs.Progress.{Progress, whole_state}
-use Rattle.run_laws.proofs.Behind.{AreEarlier, AreEarlierThan, all_before_end, before_behind, earlier_by_order, earlier_than_later}
+use Rattle.run_laws.proofs.Behind.{all_before_end, before_behind, earlier_by_order, earlier_than_later}
 use Rattle.run_laws.proofs.Marks.{marks_and_drains_keep_sound}
-
-pub less_where : (order : Ordering) → is_lt order ≡ true → order ≡ Less
-less_where Less is = refl
-less_where Equal is = cc
-less_where Greater is = cc
-
-pub not_less_where : (order : Ordering) → (order ≡ Less → ⊥) → is_lt order ≡ false
-not_less_where Less never = absurd (never refl)
-not_less_where Equal never = refl
-not_less_where Greater never = refl
-
-pub both_before : (front back : List Entry) (tasks : List Task) → ComeBefore front tasks → ComeBefore back tasks → ComeBefore (front ++ back) tasks
-both_before front back [] first last = tt
-both_before front back (task ∷ tasks) first last = (all-append (λ (entry : Entry). key_cmp entry.0 task.key ≡ Less) front back first.0 last.0, both_before front back tasks first.1 last.1)
 
 -- ---- the least node's bound
 
-before_least : (entries : List Entry) (nodes : List Node) → ComeBefore entries (tasks_of nodes) → AreEarlierThan (least_bound nodes) entries
+before_least : (entries : List Entry) (nodes : List Node) → ComeBefore entries (tasks_of nodes) → AllAreBefore (least_bound nodes) entries
 before_least entries [] all = all_before_end entries
 before_least entries (least ∷ nodes) all = earlier_by_order least.task.key entries all.0
 
 module _ (lower : LowerLaws) where
-  pub never_before : (key other : Key) → key_cmp key other ≡ Less → is_lt (key_cmp other key) ≡ false
-  never_before key other less = not_less_where (key_cmp other key) (λ more. lower.irreflexive key key (lower.transitive key other key less more) refl)
-
   -- no task is earlier than a key that is earlier than all of them
   pub none_earlier : (key : Key) (tasks : List Task) → AllByRecursion (λ (task : Task). key_cmp key task.key ≡ Less) tasks → list_any (λ (task : Task). is_before task.key (at_key key)) tasks ≡ false
   none_earlier key tasks later = none_any (λ (task : Task). is_before task.key (at_key key)) tasks
-      (λ task has. never_before key task.key (all_at (λ (task : Task). key_cmp key task.key ≡ Less) tasks task later has))
+      (λ task has. not_past_earlier key task.key (all_at (λ (task : Task). key_cmp key task.key ≡ Less) tasks task later has))
 
   none_before : (nodes : List Node) → IsAscending (tasks_of nodes) → list_any (λ (task : Task). is_before task.key (least_bound nodes)) (tasks_of nodes) ≡ false
   none_before [] ascending = refl
   none_before (least ∷ nodes) ascending =
-      let own = not_less_where (key_cmp least.task.key least.task.key) (λ less. lower.irreflexive least.task.key least.task.key less refl) in
+      let own = not_less (key_cmp least.task.key least.task.key) (λ less. lower.irreflexive least.task.key least.task.key less refl) in
       ap (λ test. test || list_any (λ (task : Task). is_before task.key (at_key least.task.key)) (tasks_of nodes)) own ∙ none_earlier least.task.key (tasks_of nodes) ascending.0
 
-  before_later : (entries : List Entry) (key : Key) (tasks : List Task) → AllByRecursion (λ (task : Task). key_cmp key task.key ≡ Less) tasks → AreEarlier key entries → ComeBefore entries tasks
+  before_later : (entries : List Entry) (key : Key) (tasks : List Task) → AllByRecursion (λ (task : Task). key_cmp key task.key ≡ Less) tasks → AreBefore key entries → ComeBefore entries tasks
   before_later entries key [] later all = tt
   before_later entries key (task ∷ tasks) later all = (earlier_than_later lower entries key task.key later.0 all, before_later entries key tasks later.1 all)
 
@@ -80,8 +65,8 @@ module _ {V : Type 0} {app : Application V} (basis : CourseBasis app) where
   drainable_before (least ∷ nodes) log ascending =
       let key = least.task.key in
       let entries = entries_before (at_key key) log in
-      let all : AreEarlier key entries =
-      all_from (λ (entry : Entry). key_cmp entry.0 key ≡ Less) entries (λ entry has. less_where (key_cmp entry.0 key) (from_filter (is_entry_before (at_key key)) log entry has).1) in
+      let all : AreBefore key entries =
+      all_from (λ (entry : Entry). key_cmp entry.0 key ≡ Less) entries (λ entry has. less_from_test (key_cmp entry.0 key) (from_filter (is_entry_before (at_key key)) log entry has).1) in
       (all, before_later basis.begun.lower entries key (tasks_of nodes) ascending.0 all)
 
   -- ---- a drain

@@ -2,16 +2,21 @@
 use Rattle.std.proofs.Common.{◌≡◌, ◌⊎◌, inr, ⊎_elim, ℕ, suc, ◌+◌, ◌-◌, ◌≤◌, ◌<◌, true, List, [], ◌∷◌, ◌++◌, length, None, refl, sym, ap, subst, ◌∙◌, arith}
 use Rattle.std.specs.List.{AllByRecursion}
 use Rattle.std.specs.declared.cmp.Ordering.TheVariants.{Less}
+use Rattle.plain_laws.specs.Members.{all_at}
+use Rattle.plain_laws.specs.Lists.{All-filter}
 use Rattle.task_order.specs.declared.key.Key.{Key}
-use Rattle.task_order.specs.declared.start.Start.{Start}
 use Rattle.task_order.specs.declared.task.Task.{Task}
 use Rattle.task_order.specs.Key.{child_key, end, key_cmp}
 use Rattle.task_order.specs.TaskList.{without}
+use Rattle.task_order.specs.TaskListLaws.{All-put_all}
 use Rattle.output_log.specs.Entries.{Entry, joined_by_key, with_entry}
+use Rattle.output_log.specs.EntryLaws.{AreBefore}
 use Rattle.kdg_graph.specs.Nodes.{tasks_of}
 use Rattle.app_laws.specs.Applications.{Application}
 use Rattle.app_laws.specs.Execution.{children_from}
 use Rattle.app_laws.specs.Order.{is_prefix}
+use Rattle.app_laws.specs.ApartLaws.{is_prefix-joined}
+use Rattle.app_laws.specs.TaskLaws.{all_children}
 use Rattle.commuting.specs.Clear.{IsClear}
 use Rattle.commuting.specs.Standing.{ComeBefore, StandsFor}
 use Rattle.commuting.specs.States.{State, after_task, run_from}
@@ -24,29 +29,22 @@ use Rattle.run_laws.specs.CourseLaws.{EndsKeepCourse, PassedLimitsKeepCourse, Pa
 use Rattle.run_laws.specs.Events.{IsOverLimit, budget_marked}
 use Rattle.run_laws.specs.Finishes.{IsEnd}
 use Rattle.run_laws.specs.Jobs.{Done, Job}
-use Rattle.run_laws.specs.Lists.{all-filter, all-put_all, all_at}
 use Rattle.run_laws.specs.Progress.{Progress, whole_state}
-use Rattle.run_laws.proofs.Behind.{AreEarlier, earlier_by_order, earlier_than_later, put_behind}
+use Rattle.run_laws.proofs.Behind.{earlier_by_order, earlier_than_later, put_behind}
 use Rattle.run_laws.proofs.ClearNodes.{recorded_sets_suffice}
 use Rattle.run_laws.proofs.Course.{either_mark, kept, mark_kept, unchanged}
 use Rattle.run_laws.proofs.Ended.{tasks_after, whole_after}
 use Rattle.run_laws.proofs.EndedCounts.{all-with_entry, length-with_entry, log_is, pending_after}
-use Rattle.run_laws.proofs.FinishTasks.{prefix_of_longer, prefixes_follow}
+use Rattle.run_laws.proofs.FinishTasks.{prefixes_follow}
 use Rattle.run_laws.proofs.Marks.{marks_and_drains_keep_sound}
 use Rattle.run_laws.proofs.Performed.{fit_task, is_pending, named, performed_node}
-
--- what holds of the key of each child holds of all children
-all_children : (P : Key → Type 0) (parent : Key) → ((number prio : ℕ) → parent.prio ≤ prio → P (child_key parent number prio)) → (number : ℕ) (starts : List Start)
-    → AllByRecursion (λ (start : Start). parent.prio ≤ start.prio) starts → AllByRecursion (λ (task : Task). P task.key) (children_from parent number starts)
-all_children P parent each number [] later = tt
-all_children P parent each number (start ∷ starts) later = (each number start.prio later.0, all_children P parent each (suc number) starts later.1)
 
 module _ {V : Type 0} {app : Application V} (basis : CourseBasis app) where
   -- what came of some tasks, its children came of
   child_comes_of : (tasks : List Task) (parent : Key) (number prio : ℕ) → parent.prio ≤ prio → ComesOf tasks parent → ComesOf tasks (child_key parent number prio)
   child_comes_of tasks parent number prio later (first, has, comes) =
       let less = basis.children_later parent number prio later in
-      let goes_on = prefix_of_longer parent.path (number ∷ []) in (
+      let goes_on = is_prefix-joined parent.path (number ∷ []) in (
         first,
         has,
         inr (⊎_elim
@@ -86,12 +84,12 @@ module _ {V : Type 0} {app : Application V} (basis : CourseBasis app) where
         let Own = λ (task : Task). P task.key in
         let own = all_at Own (tasks_of now.nodes) job.task all (is_pending basis.ended come.sound performed) in
         let not_earlier = basis.begun.lawful.children_come_no_earlier job.task values come.sound.ready.cells (fit_task basis.ended come.sound performed) in
-        all-put_all Own (children_from job.task.key 0 (app.act job.task values).children) (without job.task.key (tasks_of now.nodes))
+        All-put_all Own (children_from job.task.key 0 (app.act job.task values).children) (without job.task.key (tasks_of now.nodes))
         (all_children P job.task.key (λ number prio later. each job.task.key number prio later own) 0 (app.act job.task values).children not_earlier)
-        (all-filter Own _ (tasks_of now.nodes) all)
+        (All-filter Own _ (tasks_of now.nodes) all)
 
     earlier_after : ComeBefore before state_after.pending
-    earlier_after = all_after (λ (key : Key). AreEarlier key before) (λ parent number prio later. earlier_than_later basis.begun.lower before parent (child_key parent number prio) (basis.children_later parent number prio later)) come.earlier
+    earlier_after = all_after (λ (key : Key). AreBefore key before) (λ parent number prio later. earlier_than_later basis.begun.lower before parent (child_key parent number prio) (basis.children_later parent number prio later)) come.earlier
 
     descend_after : AllByRecursion (λ (task : Task). ComesOf (tasks_of start.nodes) task.key) state_after.pending
     descend_after = all_after (ComesOf (tasks_of start.nodes)) (child_comes_of (tasks_of start.nodes)) come.tasks_descend
@@ -100,7 +98,7 @@ module _ {V : Type 0} {app : Application V} (basis : CourseBasis app) where
     logged_after =
         let key = job.task.key in
         let text = (app.act job.task values).text in
-        let own = all_at (λ (task : Task). AreEarlier task.key before) (tasks_of now.nodes) job.task come.earlier (is_pending basis.ended come.sound performed) in
+        let own = all_at (λ (task : Task). AreBefore task.key before) (tasks_of now.nodes) job.task come.earlier (is_pending basis.ended come.sound performed) in
         (basis.joins_take_puts key text start.log entries).1 come.stands.ordered ∙ ap (with_entry key text) come.logged ∙ put_behind key text before now.log (earlier_by_order key before own)
 
     never_ends : IsOverLimit app now done → run_from app.act (start.limit - start.ended) end (whole_state start cells) ≡ None

@@ -5,9 +5,12 @@ use Rattle.std.specs.List.{AllByRecursion}
 use Rattle.std.specs.List.Sorted.{IsStrictlySortedBy}
 use Rattle.std.specs.Ordering.{is_lt}
 use Rattle.std.specs.declared.cmp.Ordering.TheVariants.{Less}
+use Rattle.plain_laws.specs.Members.{all_from}
+use Rattle.plain_laws.specs.Lists.{All-filter, All-middle, All-weaker}
 use Rattle.task_order.specs.declared.key.Key.{Key}
 use Rattle.task_order.specs.declared.task.Task.{Task}
 use Rattle.task_order.specs.Key.{Bound, at_key, end, key_cmp}
+use Rattle.task_order.specs.KeyLaws.{not_past_earlier}
 use Rattle.cell_store.specs.Values.{homes}
 use Rattle.output_log.specs.Entries.{Entry, IsInKeyOrder, IsNewEntry, ShareNoKey, entries_before, is_entry_before, joined_by_key}
 use Rattle.kdg_graph.specs.Node.{Node}
@@ -24,13 +27,12 @@ use Rattle.run_laws.specs.CourseBasis.{CourseBasis}
 use Rattle.run_laws.specs.CourseLaws.{CoursesMeanTheSequentialRun, IsJoinedRest, IsSequentialEnd, NoNodesAreTheEnd, least_bound, log_after}
 use Rattle.run_laws.specs.Events.{drainable, undrainable}
 use Rattle.run_laws.specs.Jobs.{Job}
-use Rattle.run_laws.specs.Lists.{all-filter, all-weaker, all_from, all_in_middle}
 use Rattle.run_laws.specs.Progress.{Progress, whole_state}
 use Rattle.run_laws.specs.Rest.{NoneRuns}
 use Rattle.run_laws.specs.Sound.{IsSound}
 use Rattle.run_laws.proofs.AtRest.{no_jobs_are_rest, no_jobs_where_none_runs}
 use Rattle.run_laws.proofs.Behind.{by_tasks, differs_without_prefix}
-use Rattle.run_laws.proofs.CourseDrains.{all_entries, clear_to_least, drainable_before, drained_all, drained_parts, first_to, log_to, never_before, none_earlier}
+use Rattle.run_laws.proofs.CourseDrains.{all_entries, clear_to_least, drainable_before, drained_all, drained_parts, first_to, log_to, none_earlier}
 
 -- both of two runs that end are related otherwise, where something holds of what the second one comes to
 both_so : {V : Type 0} (R Q : Execution V → Execution V → Type 0) (P : Execution V → Type 0) → ((e rest : Execution V) → R e rest → P rest → Q e rest)
@@ -55,7 +57,7 @@ module _ (lower : LowerLaws) where
   none_in : (key : Key) (entries : List Entry) → AllByRecursion (λ (entry : Entry). key_cmp key entry.0 ≡ Less) entries → entries_before (at_key key) entries ≡ []
   none_in key [] later = refl
   none_in key (entry ∷ entries) later =
-      ap (λ test. cond test (entry ∷ entries_before (at_key key) entries) (entries_before (at_key key) entries)) (never_before lower key entry.0 later.0) ∙ none_in key entries later.1
+      ap (λ test. cond test (entry ∷ entries_before (at_key key) entries) (entries_before (at_key key) entries)) (not_past_earlier key entry.0 later.0) ∙ none_in key entries later.1
 
   before_itself : (front : List Entry) (entry : Entry) (back : List Entry) → IsInKeyOrder (front ++ entry ∷ back) → entries_before (at_key entry.0) (front ++ entry ∷ back) ≡ front
   unfolding IsStrictlySortedBy
@@ -63,7 +65,7 @@ module _ (lower : LowerLaws) where
       ap (λ order. cond (is_lt order) (entry ∷ entries_before (at_key entry.0) back) (entries_before (at_key entry.0) back)) (lower.equal entry.0) ∙ none_in entry.0 back ordered.0
   before_itself (first ∷ front) entry back ordered =
       ap (λ order. cond (is_lt order) (first ∷ entries_before (at_key entry.0) (front ++ entry ∷ back)) (entries_before (at_key entry.0) (front ++ entry ∷ back)))
-      (all_in_middle (λ (other : Entry). key_cmp first.0 other.0 ≡ Less) front entry back ordered.0)
+      (All-middle (λ (other : Entry). key_cmp first.0 other.0 ≡ Less) front entry back ordered.0)
       ∙ ap (λ rest. first ∷ rest) (before_itself front entry back ordered.1)
 
 module _ {V : Type 0} {app : Application V} (basis : CourseBasis app) where
@@ -80,8 +82,8 @@ module _ {V : Type 0} {app : Application V} (basis : CourseBasis app) where
     joined_rest bound e rest is logs =
         let ended = entries_before bound entries in
         let ascend = (basis.begun.lower.parts_in_order bound entries come.stands.ordered).0 in
-        let apart : ShareNoKey ended rest.log = all-weaker (λ (other : Entry). IsNewEntry other.0 entries) (λ (other : Entry). IsNewEntry other.0 ended)
-        (λ other new. all-filter (λ (entry : Entry). entry.0 ≢ other.0) (is_entry_before bound) entries new) rest.log logs.1 in
+        let apart : ShareNoKey ended rest.log = All-weaker (λ (other : Entry). IsNewEntry other.0 entries) (λ (other : Entry). IsNewEntry other.0 ended)
+        (λ other new. All-filter (λ (entry : Entry). entry.0 ≢ other.0) (is_entry_before bound) entries new) rest.log logs.1 in
         record {
           ascends = logs.0.ordered;
           apart = apart;
@@ -102,8 +104,8 @@ module _ {V : Type 0} {app : Application V} (basis : CourseBasis app) where
     no_nodes =
         let Unlogged = λ (task : Task) (entry : Entry). is_prefix task.key.path entry.0.path ≡ false in
         by_tasks (λ (task : Task). IsNewEntry task.key entries) now.nodes
-        (all-weaker (λ (task : Task). AllByRecursion (Unlogged task) entries) (λ (task : Task). IsNewEntry task.key entries)
-        (λ task. all-weaker (Unlogged task) (λ (entry : Entry). entry.0 ≢ task.key) (λ entry none same. differs_without_prefix task.key.path entry.0.path none (ap (λ (key : Key). key.path) same)) entries)
+        (All-weaker (λ (task : Task). AllByRecursion (Unlogged task) entries) (λ (task : Task). IsNewEntry task.key entries)
+        (λ task. All-weaker (Unlogged task) (λ (entry : Entry). entry.0 ≢ task.key) (λ entry none same. differs_without_prefix task.key.path entry.0.path none (ap (λ (key : Key). key.path) same)) entries)
         (tasks_of now.nodes) come.stands.unlogged)
 
     -- ---- what was drained is the log of the first steps
@@ -123,7 +125,7 @@ module _ {V : Type 0} {app : Application V} (basis : CourseBasis app) where
           let all = ap (λ last. before ++ last) log in
           let ordered = subst IsInKeyOrder (all_entries basis come none ∙ all) come.stands.ordered in
           let earlier = subst (λ drained. ComeBefore drained (tasks_of now.nodes)) is (drainable_before basis now.nodes now.log counts.graph.ascending) in
-          let later = all-weaker (λ (task : Task). AllByRecursion (λ (one : Entry). key_cmp one.0 task.key ≡ Less) (entry ∷ more)) (λ (task : Task). key_cmp entry.0 task.key ≡ Less) (λ task less. less.0) (tasks_of now.nodes) earlier in
+          let later = All-weaker (λ (task : Task). AllByRecursion (λ (one : Entry). key_cmp one.0 task.key ≡ Less) (entry ∷ more)) (λ (task : Task). key_cmp entry.0 task.key ≡ Less) (λ task less. less.0) (tasks_of now.nodes) earlier in
           first_steps (at_key entry.0) (ap not (none_earlier basis.begun.lower entry.0 (tasks_of now.nodes) later))
           (ap (entries_before (at_key entry.0)) all ∙ before_itself basis.begun.lower before entry (more ++ undrainable app now.nodes now.log) ordered)
 

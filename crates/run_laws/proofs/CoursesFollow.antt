@@ -1,58 +1,39 @@
 -- A start that has itself come from an earlier one: what has come from it has come from that one.
-use Rattle.std.proofs.Common.{◌≡◌, ◌≢◌, ◌⊎◌, inr, ⊎_elim, ℕ, ◌+◌, ◌-◌, Bool, true, false, List, [], ◌++◌, append_assoc, length, Option, Some, None, refl, sym, ap, subst, ◌∙◌, arith}
+use Rattle.std.proofs.Common.{◌≡◌, ◌≢◌, ◌⊎◌, inr, ⊎_elim, ℕ, ◌+◌, ◌-◌, Bool, true, false, List, [], ◌++◌, append_assoc, length, None, refl, sym, ap, subst, ◌∙◌, arith}
 use Rattle.std.specs.List.{AllByRecursion}
 use Rattle.std.specs.declared.cmp.Ordering.TheVariants.{Less}
 use Rattle.std.proofs.lemmas.Bool.{true≢false}
+use Rattle.plain_laws.specs.Lists.{All-shuffled, All-filter, All-weaker, All-joined, All-append}
+use Rattle.plain_laws.specs.Members.{all_at}
 use Rattle.task_order.specs.declared.key.Key.{Key}
 use Rattle.task_order.specs.declared.task.Task.{Task}
 use Rattle.task_order.specs.Key.{Bound, end, key_cmp}
 use Rattle.output_log.specs.Entries.{Entry, IsNewEntry, ShareNoKey, entries_before, is_entry_before, joined_by_key}
+use Rattle.output_log.specs.EntryLaws.{share_turned, AreBefore}
 use Rattle.kdg_graph.specs.Nodes.{tasks_of}
 use Rattle.app_laws.specs.Applications.{Application}
 use Rattle.app_laws.specs.Execution.{Execution}
 use Rattle.app_laws.specs.Order.{is_prefix}
+use Rattle.app_laws.specs.ApartLaws.{is_prefix-same}
 use Rattle.commuting.specs.Commuting.{BothEnd}
 use Rattle.commuting.specs.Standing.{HasSameRest, IsRestOf, StandsFor}
 use Rattle.commuting.specs.States.{run_from}
+use Rattle.commuting.specs.EndLaws.{given_up, both_follow, both_before}
 use Rattle.run_laws.specs.Course.{ComesOf, HasCome, HasTrueMark}
 use Rattle.run_laws.specs.CourseBasis.{CourseBasis}
 use Rattle.run_laws.specs.CourseLaws.{CoursesFollow}
 use Rattle.run_laws.specs.Jobs.{Job}
-use Rattle.run_laws.specs.Lists.{all-append, all-filter, all-joined, all-swapped, all-weaker, all_at}
 use Rattle.run_laws.specs.Progress.{Progress, whole_state}
-use Rattle.run_laws.proofs.AnyOrder.{all_in_any_order}
-use Rattle.run_laws.proofs.Behind.{AreEarlier, differs_without_prefix, earlier_than_later, joined_behind}
-use Rattle.run_laws.proofs.CourseDrains.{both_before}
-use Rattle.run_laws.proofs.FinishTasks.{prefix_of_itself, prefixes_follow}
-
--- ---- two runs beside one another
-
-both_follow : {V : Type 0} (R S T : Execution V → Execution V → Type 0) → ((e other last : Execution V) → R e other → S other last → T e last)
-    → (first second third : Option (Execution V)) → BothEnd R first second → BothEnd S second third → BothEnd T first third
-both_follow R S T join None None None r s = tt
-both_follow R S T join None None (Some last) r s = absurd s
-both_follow R S T join None (Some other) third r s = absurd r
-both_follow R S T join (Some e) None third r s = absurd r
-both_follow R S T join (Some e) (Some other) None r s = absurd s
-both_follow R S T join (Some e) (Some other) (Some last) r s = join e other last r s
-
-given_up : {V : Type 0} (R : Execution V → Execution V → Type 0) (first second : Option (Execution V)) → BothEnd R first second → second ≡ None → first ≡ None
-given_up R None second both none = refl
-given_up R (Some e) second both none = absurd (subst (BothEnd R (Some e)) none both)
+use Rattle.run_laws.proofs.Behind.{differs_without_prefix, earlier_than_later, joined_behind}
+use Rattle.run_laws.proofs.FinishTasks.{prefixes_follow}
 
 -- ---- keys
 
-share_turned : (entries others : List Entry) → ShareNoKey entries others → ShareNoKey others entries
-share_turned entries others new =
-    all-swapped (λ (entry other : Entry). other.0 ≢ entry.0) entries others
-    (all-weaker (λ (other : Entry). IsNewEntry other.0 entries) (λ (other : Entry). AllByRecursion (λ (entry : Entry). other.0 ≢ entry.0) entries)
-    (λ other. all-weaker (λ (entry : Entry). entry.0 ≢ other.0) (λ (entry : Entry). other.0 ≢ entry.0) (λ entry differ same. differ (sym same)) entries) others new)
-
 parts_share : (bound : Bound) (entries others : List Entry) → ShareNoKey entries others → ShareNoKey (entries_before bound entries) (entries_before bound others)
 parts_share bound entries others new =
-    all-filter (λ (other : Entry). IsNewEntry other.0 (entries_before bound entries)) (is_entry_before bound) others
-    (all-weaker (λ (other : Entry). IsNewEntry other.0 entries) (λ (other : Entry). IsNewEntry other.0 (entries_before bound entries))
-    (λ other. all-filter (λ (entry : Entry). entry.0 ≢ other.0) (is_entry_before bound) entries) others new)
+    All-filter (λ (other : Entry). IsNewEntry other.0 (entries_before bound entries)) (is_entry_before bound) others
+    (All-weaker (λ (other : Entry). IsNewEntry other.0 entries) (λ (other : Entry). IsNewEntry other.0 (entries_before bound entries))
+    (λ other. All-filter (λ (entry : Entry). entry.0 ≢ other.0) (is_entry_before bound) entries) others new)
 
 -- what a path is no prefix of, no longer one is
 no_longer : (path longer other : List ℕ) → is_prefix path longer ≡ true → is_prefix path other ≡ false → is_prefix longer other ≡ false
@@ -65,7 +46,7 @@ no_longer path longer other goes_on none = by_case (is_prefix longer other) refl
 -- the path of what came of a task goes on from that task's
 prefix_of_descendant : (first key : Key) → (first ≡ key) ⊎ ((key_cmp first key ≡ Less) × (is_prefix first.path key.path ≡ true)) → is_prefix first.path key.path ≡ true
 prefix_of_descendant first key comes = ⊎_elim
-    (λ (same : first ≡ key). subst (λ (other : Key). is_prefix first.path other.path ≡ true) same (prefix_of_itself first.path))
+    (λ (same : first ≡ key). subst (λ (other : Key). is_prefix first.path other.path ≡ true) same (is_prefix-same first.path))
     (λ (longer : (key_cmp first key ≡ Less) × (is_prefix first.path key.path ≡ true)). longer.1) comes
 
 module _ {V : Type 0} {app : Application V} (basis : CourseBasis app) where
@@ -86,7 +67,7 @@ module _ {V : Type 0} {app : Application V} (basis : CourseBasis app) where
       )
 
   all_joined : (P : Entry → Type 0) (entries others : List Entry) → AllByRecursion P entries → AllByRecursion P others → AllByRecursion P (joined_by_key entries others)
-  all_joined P entries others first last = all_in_any_order P (entries ++ others) (joined_by_key entries others) (basis.joins_have_all entries others) (all-append P entries others first last)
+  all_joined P entries others first last = All-shuffled P (entries ++ others) (joined_by_key entries others) (basis.joins_have_all entries others) (All-append P entries others first last)
 
   module _ {first start now : Progress V} {home cells : List V} {before entries more others : List Entry} {jobs : List (Job V)} {values : List V}
       (one : HasCome app first home before entries start [] cells) (two : HasCome app start cells more others now jobs values) where
@@ -97,25 +78,25 @@ module _ {V : Type 0} {app : Application V} (basis : CourseBasis app) where
     not_logged : (key : Key) → ComesOf (tasks_of start.nodes) key → AllByRecursion (λ (entry : Entry). is_prefix key.path entry.0.path ≡ false) entries
     not_logged key (task, has, comes) =
         let Unlogged = λ (other : Key) (entry : Entry). is_prefix other.path entry.0.path ≡ false in
-        all-weaker (Unlogged task.key) (Unlogged key) (λ entry. no_longer task.key.path key.path entry.0.path (prefix_of_descendant task.key key comes)) entries
+        All-weaker (Unlogged task.key) (Unlogged key) (λ entry. no_longer task.key.path key.path entry.0.path (prefix_of_descendant task.key key comes)) entries
         (all_at (λ (other : Task). AllByRecursion (Unlogged other.key) entries) (tasks_of start.nodes) task one.stands.unlogged has)
 
-    later_than_drained : (key : Key) → ComesOf (tasks_of start.nodes) key → AreEarlier key before
+    later_than_drained : (key : Key) → ComesOf (tasks_of start.nodes) key → AreBefore key before
     later_than_drained key (task, has, comes) =
-        let own : AreEarlier task.key before = all_at (λ (other : Task). AreEarlier other.key before) (tasks_of start.nodes) task one.earlier has in
+        let own : AreBefore task.key before = all_at (λ (other : Task). AreBefore other.key before) (tasks_of start.nodes) task one.earlier has in
         ⊎_elim
-        (λ (same : task.key ≡ key). subst (λ (other : Key). AreEarlier other before) same own)
+        (λ (same : task.key ≡ key). subst (λ (other : Key). AreBefore other before) same own)
         (λ (longer : (key_cmp task.key key ≡ Less) × (is_prefix task.key.path key.path ≡ true)). earlier_than_later basis.begun.lower before task.key key longer.0 own) comes
 
     new_others : ShareNoKey entries others
     new_others =
-        all-weaker (λ (other : Entry). ComesOf (tasks_of start.nodes) other.0) (λ (other : Entry). IsNewEntry other.0 entries)
-        (λ other comes. all-weaker (λ (entry : Entry). is_prefix other.0.path entry.0.path ≡ false) (λ (entry : Entry). entry.0 ≢ other.0)
+        All-weaker (λ (other : Entry). ComesOf (tasks_of start.nodes) other.0) (λ (other : Entry). IsNewEntry other.0 entries)
+        (λ other comes. All-weaker (λ (entry : Entry). is_prefix other.0.path entry.0.path ≡ false) (λ (entry : Entry). entry.0 ≢ other.0)
         (λ entry none same. differs_without_prefix other.0.path entry.0.path none (ap (λ (key : Key). key.path) same)) entries (not_logged other.0 comes))
         others two.entries_descend
 
-    later_others : AllByRecursion (λ (other : Entry). AreEarlier other.0 before) others
-    later_others = all-weaker (λ (other : Entry). ComesOf (tasks_of start.nodes) other.0) (λ (other : Entry). AreEarlier other.0 before) (λ other. later_than_drained other.0) others two.entries_descend
+    later_others : AllByRecursion (λ (other : Entry). AreBefore other.0 before) others
+    later_others = All-weaker (λ (other : Entry). ComesOf (tasks_of start.nodes) other.0) (λ (other : Entry). AreBefore other.0 before) (λ other. later_than_drained other.0) others two.entries_descend
 
     -- ---- the runs
 
@@ -151,7 +132,7 @@ module _ {V : Type 0} {app : Application V} (basis : CourseBasis app) where
       ordered = basis.joins_keep_order entries others one.stands.ordered two.stands.ordered new_others;
       unlogged =
           let Unlogged = λ (task : Task) (entry : Entry). is_prefix task.key.path entry.0.path ≡ false in
-          all-joined (λ (task : Task). ComesOf (tasks_of start.nodes) task.key) (λ (task : Task). AllByRecursion (Unlogged task) others) (λ (task : Task). AllByRecursion (Unlogged task) joined)
+          All-joined (λ (task : Task). ComesOf (tasks_of start.nodes) task.key) (λ (task : Task). AllByRecursion (Unlogged task) others) (λ (task : Task). AllByRecursion (Unlogged task) joined)
           (λ task comes rest. all_joined (Unlogged task) entries others (not_logged task.key comes) rest) (tasks_of now.nodes) two.tasks_descend two.stands.unlogged;
       same_rest = same_rest;
     }
@@ -185,13 +166,13 @@ module _ {V : Type 0} {app : Application V} (basis : CourseBasis app) where
         logged = logged one two;
         earlier =
             both_before before more (tasks_of now.nodes)
-            (all-weaker (λ (task : Task). ComesOf (tasks_of start.nodes) task.key) (λ (task : Task). AreEarlier task.key before) (λ task. later_than_drained one two task.key) (tasks_of now.nodes) two.tasks_descend)
+            (All-weaker (λ (task : Task). ComesOf (tasks_of start.nodes) task.key) (λ (task : Task). AreBefore task.key before) (λ task. later_than_drained one two task.key) (tasks_of now.nodes) two.tasks_descend)
             two.earlier;
         ended = omega (arith, one.ended, two.ended, basis.joins_add_lengths entries others);
         limit = two.limit ∙ one.limit;
         true_mark = true_mark one two;
         entries_descend =
             all_joined (λ (entry : Entry). ComesOf (tasks_of first.nodes) entry.0) entries others one.entries_descend
-            (all-weaker (λ (entry : Entry). ComesOf (tasks_of start.nodes) entry.0) (λ (entry : Entry). ComesOf (tasks_of first.nodes) entry.0) (λ entry. of_first entry.0) others two.entries_descend);
-        tasks_descend = all-weaker (λ (task : Task). ComesOf (tasks_of start.nodes) task.key) (λ (task : Task). ComesOf (tasks_of first.nodes) task.key) (λ task. of_first task.key) (tasks_of now.nodes) two.tasks_descend;
+            (All-weaker (λ (entry : Entry). ComesOf (tasks_of start.nodes) entry.0) (λ (entry : Entry). ComesOf (tasks_of first.nodes) entry.0) (λ entry. of_first entry.0) others two.entries_descend);
+        tasks_descend = All-weaker (λ (task : Task). ComesOf (tasks_of start.nodes) task.key) (λ (task : Task). ComesOf (tasks_of first.nodes) task.key) (λ task. of_first task.key) (tasks_of now.nodes) two.tasks_descend;
       }

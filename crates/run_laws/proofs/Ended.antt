@@ -1,6 +1,7 @@
 -- The task that ends, and what its end makes of the whole cells and of the pending tasks.
 use Rattle.std.proofs.Common.{◌≡◌, List, sym, ap, subst, ◌∙◌}
 use Rattle.std.specs.Prelude.{Contains}
+use Rattle.plain_laws.specs.Members.{all_at}
 use Rattle.task_order.specs.declared.task.Task.{Task}
 use Rattle.task_order.specs.TaskList.{put_all, without}
 use Rattle.kdg_graph.specs.Nodes.{tasks_of}
@@ -12,7 +13,6 @@ use Rattle.run_laws.specs.Jobs.{Done, Job}
 use Rattle.run_laws.specs.Events.{fresh_from}
 use Rattle.run_laws.specs.FinishBasis.{FinishBasis}
 use Rattle.run_laws.specs.Finishes.{IsEnded, IsEnd, EffectsAreOfWhole, FinishesActOnWhole, FinishesStayReady}
-use Rattle.run_laws.specs.Lists.{all_at}
 use Rattle.run_laws.specs.Progress.{Progress, whole_state}
 use Rattle.run_laws.specs.Sound.{Covers}
 use Rattle.run_laws.proofs.Performed.{fresh_are, is_pending, named, performed_node}

@@ -3,7 +3,9 @@ use Rattle.std.proofs.Common.{◌≡◌, ◌≢◌, ℕ, ◌<◌, ◌||◌, Bool
 use Rattle.std.specs.Prelude.{Contains, IsTrue, ◌↔◌, if◌then◌else◌}
 use Rattle.std.specs.List.{AllByRecursion, list_any}
 use Rattle.std.proofs.lemmas.Bool.{true≢false}
+use Rattle.plain_laws.specs.Lists.{none_from_all, All-weaker, All-joined}
 use Rattle.rw_sets.specs.Accesses.{AreIndependent, access_at, allows_write, writes}
+use Rattle.rw_sets.specs.AccessLaws.{some_from_writes}
 use Rattle.cell_store.specs.declared.cell.Cell.{Cell}
 use Rattle.cell_store.specs.declared.cell.Cell.TheVariants.{Home, Out}
 use Rattle.cell_store.specs.Cells.{cell_at, cell_in, cells_given, part_of}
@@ -14,13 +16,13 @@ use Rattle.app_laws.specs.Applications.{Application}
 use Rattle.run_laws.specs.Jobs.{Done, Job}
 use Rattle.run_laws.specs.FinishBasis.{FinishBasis}
 use Rattle.run_laws.specs.Finishes.{IsEnd}
-use Rattle.run_laws.specs.Lists.{all-joined, all-weaker, all_but_one, any_but_one}
+use Rattle.run_laws.specs.Lists.{all_but_one, any_but_one}
 use Rattle.run_laws.specs.Progress.{Progress}
 use Rattle.run_laws.specs.Sound.{IsOfNode, IsWhole, is_written}
 use Rattle.run_laws.proofs.Ended.{ended_node}
 use Rattle.run_laws.proofs.EndedJobs.{differ}
 use Rattle.run_laws.proofs.EndedNodes.{ended_key, others_apart}
-use Rattle.run_laws.proofs.Performed.{agrees_given, changes_written, given_is, some_where_written}
+use Rattle.run_laws.proofs.Performed.{agrees_given, changes_written, given_is}
 use Rattle.run_laws.proofs.FinishTasks.{length-mapped}
 
 pub never_out : {V : Type 0} (cell : Cell V) → IsHome cell → cell ≡ Out → ⊥
@@ -38,16 +40,12 @@ any_more p (y ∷ xs) x ys any = by_case (p y) any (any_more p xs x ys)
     by_case true any later = refl
     by_case false any later = later any
 
-none_from_all : {X : Type 0} (p : X → Bool) (xs : List X) → AllByRecursion (λ x. p x ≡ false) xs → list_any p xs ≡ false
-none_from_all p [] all = refl
-none_from_all p (x ∷ xs) all = ap (λ (test : Bool). test || list_any p xs) all.0 ∙ none_from_all p xs all.1
-
 module _ {V : Type 0} {app : Application V} (basis : FinishBasis app) where
   module _ {old now : Progress V} {done : Done V} {job : Job V} {jobs others : List (Job V)} {values : List V} (end : IsEnd app old jobs values done job others now) where
     -- the other jobs' sets are independent of that of the task that ended
     independent : AllByRecursion (λ other. AreIndependent job.bundle.set other.bundle.set) (end.performed.before ++ end.performed.after)
     independent =
-        all-joined (λ other. job.task.key ≢ other.task.key) (IsOfNode app old.nodes) (λ other. AreIndependent job.bundle.set other.bundle.set)
+        All-joined (λ other. job.task.key ≢ other.task.key) (IsOfNode app old.nodes) (λ other. AreIndependent job.bundle.set other.bundle.set)
         (λ other differ of_node.
         let node = of_node.0 in
         let has = basis.keys_find old.nodes other.task.key node of_node.1 in
@@ -88,14 +86,14 @@ module _ {V : Type 0} {app : Application V} (basis : FinishBasis app) where
         let here : cell_at now.cells loc ≡ cell_at (homes new) loc =
         cell_after loc inside
         ∙ ap (λ test. if test then cell_in (part_of (homes new) set) loc else cell_at old.cells loc) written
-        ∙ basis.parts.each (homes new) set loc (some_where_written (access_at set loc) written) in
+        ∙ basis.parts.each (homes new) set loc (some_from_writes (access_at set loc) written) in
         let many : length (homes new) ≡ length old.cells = length-mapped Home new ∙ (changes_written basis end.sound end.performed).as_many ∙ sym end.sound.whole.home.as_many in
         subst IsHome (sym here) (basis.all_homes.all_home new loc (subst (λ n. loc < n) (sym many) inside))
 
     unwritten_by_others : (loc : ℕ) → writes job.bundle.set loc ≡ true → is_written app (end.performed.before ++ end.performed.after) loc ≡ false
     unwritten_by_others loc written =
         none_from_all (λ other. writes other.bundle.set loc) (end.performed.before ++ end.performed.after)
-        (all-weaker (λ other. AreIndependent job.bundle.set other.bundle.set) (λ other. writes other.bundle.set loc ≡ false)
+        (All-weaker (λ other. AreIndependent job.bundle.set other.bundle.set) (λ other. writes other.bundle.set loc ≡ false)
         (λ other apart. ap allows_write (apart.left_writes loc written)) (end.performed.before ++ end.performed.after) independent)
 
     away_after : (loc : ℕ) → loc < length old.cells → (cell_at now.cells loc ≡ Out) ↔ IsTrue (is_written app (end.performed.before ++ end.performed.after) loc)
@@ -116,7 +114,7 @@ module _ {V : Type 0} {app : Application V} (basis : FinishBasis app) where
 
     bundles_after : AllByRecursion (λ other. other.bundle ≡ part_of (homes (app.act job.task values).cells) other.bundle.set) (end.performed.before ++ end.performed.after)
     bundles_after =
-        all-joined (λ other. AreIndependent job.bundle.set other.bundle.set) (λ other. other.bundle ≡ part_of (homes values) other.bundle.set) (λ other. other.bundle ≡ part_of (homes (app.act job.task values).cells) other.bundle.set)
+        All-joined (λ other. AreIndependent job.bundle.set other.bundle.set) (λ other. other.bundle ≡ part_of (homes values) other.bundle.set) (λ other. other.bundle ≡ part_of (homes (app.act job.task values).cells) other.bundle.set)
         (λ other apart is. is ∙ sym (basis.changes.elsewhere values (app.act job.task values).cells job.bundle.set other.bundle.set (basis.independence_turned job.bundle.set other.bundle.set apart) (changes_written basis end.sound end.performed)))
         (end.performed.before ++ end.performed.after) independent
         (all_but_one (λ other. other.bundle ≡ part_of (homes values) other.bundle.set) end.performed.before job end.performed.after

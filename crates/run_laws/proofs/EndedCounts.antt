@@ -1,31 +1,29 @@
 -- The counts, the log and the keys after the end of a task.
-use Rattle.std.proofs.Common.{◌≡◌, ◌≢◌, ℕ, suc, ◌+◌, ◌<◌, List, [], ◌∷◌, ◌++◌, length, refl, sym, ap, subst, ◌∙◌, arith}
+use Rattle.std.proofs.Common.{◌≡◌, ◌≢◌, ℕ, suc, ◌+◌, ◌<◌, List, ◌++◌, length, sym, ap, subst, ◌∙◌, arith}
 use Rattle.std.specs.List.{AllByRecursion}
+use Rattle.plain_laws.specs.Lists.{All-parts, All-filter, All-weaker, All-joined, All-swapped}
 use Rattle.task_order.specs.declared.key.Key.{Key}
-use Rattle.task_order.specs.declared.start.Start.{Start}
 use Rattle.task_order.specs.declared.task.Task.{Task}
 use Rattle.task_order.specs.Key.{at_key}
 use Rattle.task_order.specs.TaskList.{without}
+use Rattle.task_order.specs.TaskListLaws.{All-put_all}
 use Rattle.output_log.specs.Entries.{Entry, IsInKeyOrder, entries_before, entries_from, with_entry}
 use Rattle.kdg_graph.specs.Nodes.{tasks_of}
 use Rattle.app_laws.specs.Applications.{Application, handed}
 use Rattle.app_laws.specs.Execution.{children_from}
 use Rattle.app_laws.specs.Order.{Pairwise}
+use Rattle.app_laws.specs.ApartLaws.{TasksApart, apart_from_put_in}
+use Rattle.app_laws.specs.TaskLaws.{length-children_from}
 use Rattle.commuting.specs.States.{after_task}
 use Rattle.crew.specs.Jobs.{IsPerformed}
 use Rattle.run_laws.specs.Jobs.{Done, Job}
 use Rattle.run_laws.specs.FinishBasis.{FinishBasis}
 use Rattle.run_laws.specs.Finishes.{IsEnd}
-use Rattle.run_laws.specs.Lists.{all-filter, all-joined, all-put_all, all-swapped, all-weaker}
 use Rattle.run_laws.specs.Progress.{Progress, whole_state}
 use Rattle.run_laws.specs.Sound.{IsSound, KeysAndCounts}
 use Rattle.run_laws.proofs.Ended.{tasks_after}
 use Rattle.run_laws.proofs.Performed.{IsUnlogged, new_entry, path_differs, performed_node, restored, tasks_unlogged}
-use Rattle.run_laws.proofs.FinishTasks.{TasksApart, apart_from_put_in, all_parts, all-inserted, pairwise-inserted, length-inserted, length-mapped}
-
-pub length-children : (parent : Key) (number : ℕ) (starts : List Start) → length (children_from parent number starts) ≡ length starts
-length-children parent number [] = refl
-length-children parent number (start ∷ starts) = ap suc (length-children parent (suc number) starts)
+use Rattle.run_laws.proofs.FinishTasks.{all-inserted, pairwise-inserted, length-inserted, length-mapped}
 
 module _ {V : Type 0} {app : Application V} (basis : FinishBasis app) where
   module _ (key : Key) (text : List ℕ) (log : List Entry) (ordered : IsInKeyOrder log) where
@@ -41,9 +39,9 @@ module _ {V : Type 0} {app : Application V} (basis : FinishBasis app) where
         let front = entries_before (at_key key) log in
         let back = entries_from (at_key key) log in
         let both : AllByRecursion (λ (entry : Entry). entry.0.path ≢ key.path) front × AllByRecursion (λ (entry : Entry). entry.0.path ≢ key.path) back =
-        all_parts (λ (entry : Entry). entry.0.path ≢ key.path) front back (subst (AllByRecursion (λ (entry : Entry). entry.0.path ≢ key.path)) parts new) in
+        All-parts (λ (entry : Entry). entry.0.path ≢ key.path) front back (subst (AllByRecursion (λ (entry : Entry). entry.0.path ≢ key.path)) parts new) in
         pairwise-inserted (λ (entry other : Entry). entry.0.path ≢ other.0.path) front (key, text) back both.0
-        (all-weaker (λ (entry : Entry). entry.0.path ≢ key.path) (λ (entry : Entry). key.path ≢ entry.0.path) (λ entry differ same. differ (sym same)) back both.1)
+        (All-weaker (λ (entry : Entry). entry.0.path ≢ key.path) (λ (entry : Entry). key.path ≢ entry.0.path) (λ entry differ same. differ (sym same)) back both.1)
         (subst (Pairwise (λ (entry other : Entry). entry.0.path ≢ other.0.path)) parts pairs)
 
     pub length-with_entry : length (with_entry key text log) ≡ suc (length log)
@@ -56,7 +54,7 @@ module _ {V : Type 0} {app : Application V} (basis : FinishBasis app) where
         let starts = (app.act job.task values).children in
         let others = without job.task.key (tasks_of old.nodes) in
         let put = basis.adds_each (children_from job.task.key 0 starts) others in
-        let made = length-children job.task.key 0 starts in
+        let made = length-children_from job.task.key 0 starts in
         let left : length others + 1 ≡ length old.nodes = sym (basis.puts_add_one job.task others) ∙ ap length (restored basis sound performed) ∙ length-mapped (λ node. node.task) old.nodes in
         let handed_over : length done.effect.children ≡ length starts =
         ap (λ (effect : _). length effect.children) (performed_node basis sound performed).effect ∙ length-mapped (handed app (app.act job.task values).cells) starts in
@@ -68,11 +66,11 @@ module _ {V : Type 0} {app : Application V} (basis : FinishBasis app) where
 
     rest_unlogged : AllByRecursion (λ task. AllByRecursion (IsUnlogged task) (with_entry job.task.key done.effect.text old.log)) (without job.task.key (tasks_of old.nodes))
     rest_unlogged =
-        all-joined (TasksApart job.task) (λ task. AllByRecursion (IsUnlogged task) old.log) (λ task. AllByRecursion (IsUnlogged task) (with_entry job.task.key done.effect.text old.log))
+        All-joined (TasksApart job.task) (λ task. AllByRecursion (IsUnlogged task) old.log) (λ task. AllByRecursion (IsUnlogged task) (with_entry job.task.key done.effect.text old.log))
         (λ task apart all. all-with_entry job.task.key done.effect.text old.log end.sound.keys_and_counts.log_ordered (IsUnlogged task) apart.not_after all)
         (without job.task.key (tasks_of old.nodes))
         (apart_from_put_in job.task (without job.task.key (tasks_of old.nodes)) (subst (Pairwise TasksApart) (sym (restored basis end.sound end.performed)) end.sound.ready.apart))
-        (all-filter (λ task. AllByRecursion (IsUnlogged task) old.log) _ (tasks_of old.nodes) end.sound.keys_and_counts.unlogged)
+        (All-filter (λ task. AllByRecursion (IsUnlogged task) old.log) _ (tasks_of old.nodes) end.sound.keys_and_counts.unlogged)
 
     children_unlogged : AllByRecursion (λ task. AllByRecursion (IsUnlogged task) (with_entry job.task.key done.effect.text old.log)) (children_from job.task.key 0 (app.act job.task values).children)
     children_unlogged =
@@ -80,15 +78,15 @@ module _ {V : Type 0} {app : Application V} (basis : FinishBasis app) where
         let each : AllByRecursion (λ (entry : Entry). AllByRecursion (λ (child : Task). IsUnlogged child entry) (children_from job.task.key 0 starts)) (with_entry job.task.key done.effect.text old.log) =
         all-with_entry job.task.key done.effect.text old.log end.sound.keys_and_counts.log_ordered (λ (entry : Entry). AllByRecursion (λ (child : Task). IsUnlogged child entry) (children_from job.task.key 0 starts))
         (basis.children_go_on job.task.key starts)
-        (all-weaker (IsUnlogged job.task) (λ (entry : Entry). AllByRecursion (λ (child : Task). IsUnlogged child entry) (children_from job.task.key 0 starts))
+        (All-weaker (IsUnlogged job.task) (λ (entry : Entry). AllByRecursion (λ (child : Task). IsUnlogged child entry) (children_from job.task.key 0 starts))
         (λ entry none. basis.children_new job.task.key starts entry.0.path none) old.log (tasks_unlogged basis end.sound end.performed)) in
-        all-swapped IsUnlogged (children_from job.task.key 0 starts) (with_entry job.task.key done.effect.text old.log) each
+        All-swapped IsUnlogged (children_from job.task.key 0 starts) (with_entry job.task.key done.effect.text old.log) each
 
     unlogged_after : AllByRecursion (λ task. AllByRecursion (IsUnlogged task) now.log) (tasks_of now.nodes)
     unlogged_after =
         subst (λ log. AllByRecursion (λ task. AllByRecursion (IsUnlogged task) log) (tasks_of now.nodes)) (sym log_is)
         (subst (AllByRecursion (λ task. AllByRecursion (IsUnlogged task) (with_entry job.task.key done.effect.text old.log))) (sym (tasks_after basis end))
-        (all-put_all (λ task. AllByRecursion (IsUnlogged task) (with_entry job.task.key done.effect.text old.log)) (children_from job.task.key 0 (app.act job.task values).children) (without job.task.key (tasks_of old.nodes)) children_unlogged rest_unlogged))
+        (All-put_all (λ task. AllByRecursion (IsUnlogged task) (with_entry job.task.key done.effect.text old.log)) (children_from job.task.key 0 (app.act job.task values).children) (without job.task.key (tasks_of old.nodes)) children_unlogged rest_unlogged))
 
     nodes_after : length now.nodes + 1 ≡ length old.nodes + length done.effect.children
     nodes_after = omega (arith, sym (length-mapped (λ node. node.task) now.nodes), ap length (tasks_after basis end), pending_after end.sound end.performed)
@@ -110,7 +108,7 @@ module _ {V : Type 0} {app : Application V} (basis : FinishBasis app) where
           log_differs =
               subst (Pairwise (λ entry other. entry.0.path ≢ other.0.path)) (sym log_is)
               (differs-with_entry job.task.key done.effect.text old.log counts.log_ordered
-              (all-weaker (IsUnlogged job.task) (λ (entry : Entry). entry.0.path ≢ job.task.key.path) (λ entry none. path_differs job.task entry none) old.log (tasks_unlogged basis end.sound end.performed))
+              (All-weaker (IsUnlogged job.task) (λ (entry : Entry). entry.0.path ≢ job.task.key.path) (λ entry none. path_differs job.task entry none) old.log (tasks_unlogged basis end.sound end.performed))
               counts.log_differs);
           unlogged = unlogged_after;
           created = omega (arith, created_is, ended_is, nodes_are, was_created);

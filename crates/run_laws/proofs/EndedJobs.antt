@@ -6,6 +6,8 @@ use Rattle.std.specs.Ordering.{is_eq}
 use Rattle.std.specs.declared.cmp.Ordering.{Ordering}
 use Rattle.std.specs.declared.cmp.Ordering.TheVariants.{Less, Equal, Greater}
 use Rattle.std.proofs.lemmas.Bool.{true≢false}
+use Rattle.plain_laws.specs.Members.{all_at, all_from}
+use Rattle.plain_laws.specs.Lists.{All-joined}
 use Rattle.task_order.specs.declared.key.Key.{Key}
 use Rattle.task_order.specs.Key.{key_cmp}
 use Rattle.cell_store.specs.Cells.{cells_given}
@@ -17,7 +19,7 @@ use Rattle.run_laws.specs.Jobs.{Done, Job}
 use Rattle.run_laws.specs.Events.{fresh_from, renewals}
 use Rattle.run_laws.specs.FinishBasis.{FinishBasis}
 use Rattle.run_laws.specs.Finishes.{IsEnd}
-use Rattle.run_laws.specs.Lists.{all-joined, all_at, all_but_one, all_from, any_but_one, pairwise_but_one, pairwise_with_one}
+use Rattle.run_laws.specs.Lists.{all_but_one, any_but_one, pairwise_but_one, pairwise_with_one}
 use Rattle.run_laws.specs.Progress.{Progress}
 use Rattle.run_laws.specs.Sound.{HasJob, IsOfNode, JobsMatch}
 use Rattle.run_laws.proofs.Ended.{is_there}
@@ -49,7 +51,7 @@ module _ {V : Type 0} {app : Application V} (basis : FinishBasis app) where
 
     others_named : AllByRecursion (IsOfNode app now.nodes) (end.performed.before ++ end.performed.after)
     others_named =
-        all-joined (λ other. job.task.key ≢ other.task.key) (IsOfNode app old.nodes) (IsOfNode app now.nodes) job_stays (end.performed.before ++ end.performed.after) differ
+        All-joined (λ other. job.task.key ≢ other.task.key) (IsOfNode app old.nodes) (IsOfNode app now.nodes) job_stays (end.performed.before ++ end.performed.after) differ
         (all_but_one (IsOfNode app old.nodes) end.performed.before job end.performed.after (subst (AllByRecursion (IsOfNode app old.nodes)) end.performed.there end.sound.outs_match.named))
 
     others_own : Pairwise (λ job other. job.task.key ≢ other.task.key) (end.performed.before ++ end.performed.after)

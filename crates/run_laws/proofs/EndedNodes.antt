@@ -1,36 +1,30 @@
 -- The recorded sets after the end of a task.
-use Rattle.std.proofs.Common.{◌≡◌, ◌≢◌, Bool, true, false, not, cond, List, [], ◌∷◌, map, Some, refl, sym, ap, subst, ◌∙◌, eqb-true, eq-eqb, ⊎_elim}
+use Rattle.std.proofs.Common.{◌≡◌, ◌≢◌, Bool, true, false, not, cond, List, [], ◌∷◌, map, Some, refl, sym, ap, subst, ◌∙◌, eq-eqb, ⊎_elim}
 use Rattle.std.specs.Prelude.{Contains, unwrap_or}
 use Rattle.std.specs.List.{filter, find}
 use Rattle.std.specs.Option.{option_map}
 use Rattle.std.specs.Ordering.{is_lt}
 use Rattle.std.proofs.lemmas.Bool.{true≢false, and_parts}
+use Rattle.plain_laws.specs.Bools.{false_from_not}
+use Rattle.plain_laws.specs.Members.{none, here, there, cases, all_at, in_filter, from_filter, none_passes}
 use Rattle.task_order.specs.Key.{key_cmp}
 use Rattle.std.specs.declared.cmp.Ordering.TheVariants.{Less}
 use Rattle.rw_sets.specs.Accesses.{Accesses, AreIndependent, conflicts_with}
 use Rattle.cell_store.specs.Cells.{cells_given}
 use Rattle.kdg_graph.specs.declared.change.SetChange.{SetChange}
-use Rattle.kdg_graph.specs.declared.node_id.NodeId.{NodeId}
 use Rattle.kdg_graph.specs.Edges.{is_blocked}
 use Rattle.kdg_graph.specs.Node.{Node}
 use Rattle.kdg_graph.specs.Nodes.{is_at, node_at, earlier_than, later_than}
 use Rattle.kdg_graph.specs.Rewrite.{set_after}
+use Rattle.kdg_graph.specs.NodeLaws.{same_id}
 use Rattle.app_laws.specs.Applications.{Application}
 use Rattle.run_laws.specs.Jobs.{Done, Job}
 use Rattle.run_laws.specs.Events.{renewals, renewed}
 use Rattle.run_laws.specs.FinishBasis.{FinishBasis}
 use Rattle.run_laws.specs.Finishes.{IsEnd}
-use Rattle.run_laws.specs.Lists.{all_at, cases, from_filter, here, in_filter, none, none_passes, there}
 use Rattle.run_laws.specs.Progress.{Progress}
 use Rattle.run_laws.specs.Sound.{is_unblocked}
 use Rattle.run_laws.proofs.Ended.{ended_node, is_there}
-
-same_id : (id : NodeId) (node : Node) → is_at id node ≡ true → node.id ≡ id
-same_id id node is = ap (λ n. let made : NodeId = record { at = n } in made) (eqb-true node.id.at id.at is)
-
-false_from_not : (b : Bool) → not b ≡ true → b ≡ false
-false_from_not true is = absurd (true≢false (sym is))
-false_from_not false is = refl
 
 -- ---- sets that are changed node by node
 

@@ -2,10 +2,10 @@
 use Rattle.std.proofs.Common.{◌≡◌, ◌≢◌, Bool, true, false, not, cond, List, [], ◌∷◌, map, refl, sym, ap, subst, ◌∙◌, ⊎_elim}
 use Rattle.std.specs.Prelude.{Contains}
 use Rattle.std.specs.List.{AllByRecursion}
-use Rattle.std.specs.declared.cmp.Ordering.{Ordering}
-use Rattle.std.specs.declared.cmp.Ordering.TheVariants.{Less, Equal, Greater}
 use Rattle.std.specs.Ordering.{is_lt}
 use Rattle.std.proofs.lemmas.Bool.{true≢false, and_from, and_parts}
+use Rattle.plain_laws.specs.Orderings.{less_from_test}
+use Rattle.plain_laws.specs.Members.{all_at, all_from, from_filter, from_map, in_filter, in_map, none_any}
 use Rattle.task_order.specs.declared.key.Key.{Key}
 use Rattle.task_order.specs.declared.task.Task.{Task}
 use Rattle.task_order.specs.Key.{key_cmp}
@@ -24,17 +24,11 @@ use Rattle.run_laws.specs.Jobs.{Done, Job}
 use Rattle.run_laws.specs.Events.{fresh_from, renewals, renewed}
 use Rattle.run_laws.specs.FinishBasis.{FinishBasis}
 use Rattle.run_laws.specs.Finishes.{IsEnd}
-use Rattle.run_laws.specs.Lists.{all_at, all_from, from_filter, from_map, in_filter, in_map, none_any}
 use Rattle.run_laws.specs.Progress.{Progress, whole_state}
 use Rattle.run_laws.specs.Sound.{is_unblocked}
 use Rattle.run_laws.proofs.Ended.{covered, whole_after}
 use Rattle.run_laws.proofs.EndedNodes.{independent_of_ended, running_is_free, runs_unblocked, set_unchanged, unblocked_apart}
 use Rattle.run_laws.proofs.EndedSets.{covers_of, independent_tasks, item_set, moves_within, same_set, set_cases}
-
-less_from_test : (o : Ordering) → is_lt o ≡ true → o ≡ Less
-less_from_test Less is = refl
-less_from_test Equal is = cc
-less_from_test Greater is = cc
 
 -- the tasks of the earlier nodes are the earlier tasks
 tasks_earlier : (key : Key) (nodes : List Node) → tasks_of (earlier_than key nodes) ≡ tasks_before key (tasks_of nodes)

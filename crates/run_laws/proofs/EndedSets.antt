@@ -4,6 +4,7 @@ use Rattle.std.specs.Prelude.{Contains, IsSome, is_some, if◌then◌else◌}
 use Rattle.std.specs.List.{AllByRecursion}
 use Rattle.std.specs.Ordering.{is_lt}
 use Rattle.std.proofs.lemmas.Bool.{true≢false}
+use Rattle.plain_laws.specs.Members.{all_at, all_from, in_map}
 use Rattle.task_order.specs.declared.key.Key.{Key}
 use Rattle.task_order.specs.declared.start.Start.{Start}
 use Rattle.rw_sets.specs.declared.access.Access.{Access}
@@ -24,7 +25,6 @@ use Rattle.run_laws.specs.Jobs.{Done, Job}
 use Rattle.run_laws.specs.Events.{fresh_from, renewals, renewed}
 use Rattle.run_laws.specs.FinishBasis.{FinishBasis}
 use Rattle.run_laws.specs.Finishes.{IsEnd}
-use Rattle.run_laws.specs.Lists.{all_at, all_from, in_map}
 use Rattle.run_laws.specs.Progress.{Progress, whole_state}
 use Rattle.run_laws.specs.Sound.{Covers}
 use Rattle.run_laws.proofs.Ended.{covered, ended_node, is_there, ready_after}

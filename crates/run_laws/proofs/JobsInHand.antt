@@ -1,5 +1,6 @@
 -- The jobs in hand may run.
 use Rattle.std.proofs.Common.{◌≡◌, sym, ap, subst, ◌∙◌}
+use Rattle.plain_laws.specs.Members.{all_at, in_map}
 use Rattle.cell_store.specs.Cells.{part_of}
 use Rattle.cell_store.specs.Values.{homes}
 use Rattle.kdg_graph.specs.Node.{Node}
@@ -8,7 +9,6 @@ use Rattle.app_laws.specs.Applications.{Application, IsFitTask, set_in}
 use Rattle.run_laws.specs.Basis.{Basis}
 use Rattle.run_laws.specs.Jobs.{Job}
 use Rattle.run_laws.specs.Laws.{JobsMayRun}
-use Rattle.run_laws.specs.Lists.{all_at, in_map}
 use Rattle.run_laws.specs.Sound.{Covers, IsOfNode}
 
 module _ {V : Type 0} {app : Application V} (basis : Basis app) where

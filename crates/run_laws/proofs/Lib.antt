@@ -25,7 +25,6 @@ pub mod EventsKeep
 pub mod FinishTasks
 pub mod FinishesKeepSound
 pub mod JobsInHand
-pub mod Listed
 pub mod Marks
 pub mod Moving
 pub mod Performed

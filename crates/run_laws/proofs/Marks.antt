@@ -3,6 +3,8 @@ use Rattle.std.proofs.Common.{◌≡◌, ◌≢◌, ◌≤◌, false, List, [], 
 use Rattle.std.specs.List.{AllByRecursion}
 use Rattle.std.specs.Option.{option_or}
 use Rattle.std.specs.List.Sorted.{IsStrictlySortedBy}
+use Rattle.plain_laws.specs.Members.{all_at, all_from}
+use Rattle.plain_laws.specs.Lists.{All-filter, length-filter_le}
 use Rattle.task_order.specs.declared.task.Task.{Task}
 use Rattle.task_order.specs.Key.{at_key}
 use Rattle.output_log.specs.Entries.{Entry, IsInKeyOrder}
@@ -10,13 +12,13 @@ use Rattle.kdg_graph.specs.Node.{Node}
 use Rattle.kdg_graph.specs.Nodes.{tasks_of}
 use Rattle.app_laws.specs.Applications.{Application}
 use Rattle.app_laws.specs.Order.{Pairwise, is_prefix}
+use Rattle.app_laws.specs.PairLaws.{Pairwise-filter}
 use Rattle.run_laws.specs.Basis.{Basis}
 use Rattle.crew.specs.declared.answers.OverCause.{OverCause}
 use Rattle.crew.specs.declared.answers.OverCause.TheVariants as cause
 use Rattle.run_laws.specs.Jobs.{Job}
 use Rattle.run_laws.specs.Events.{marked, drained, undrainable}
 use Rattle.run_laws.specs.Laws.{MarksAndDrainsKeepSound}
-use Rattle.run_laws.specs.Lists.{all-filter, all_at, all_from, length-part, pairwise-filter}
 use Rattle.run_laws.specs.Progress.{Progress}
 use Rattle.run_laws.specs.Sound.{IsSound}
 
@@ -68,11 +70,11 @@ module _ {V : Type 0} {app : Application V} (basis : Basis app) where
   }
   left_over (least ∷ nodes) log ordered differs = record {
     ordered = (basis.lower.parts_in_order (at_key least.task.key) log ordered).1;
-    differs = pairwise-filter (λ (entry other : Entry). entry.0.path ≢ other.0.path) _ log differs;
+    differs = Pairwise-filter (λ (entry other : Entry). entry.0.path ≢ other.0.path) _ log differs;
     unlogged = λ tasks all. all_from (λ (task : Task). AllByRecursion (λ (entry : Entry). is_prefix task.key.path entry.0.path ≡ false) (undrainable app (least ∷ nodes) log)) tasks
-        (λ task has. all-filter (λ (entry : Entry). is_prefix task.key.path entry.0.path ≡ false) _ log
+        (λ task has. All-filter (λ (entry : Entry). is_prefix task.key.path entry.0.path ≡ false) _ log
         (all_at (λ (task : Task). AllByRecursion (λ (entry : Entry). is_prefix task.key.path entry.0.path ≡ false) log) tasks task all has));
-    shorter = length-part _ log;
+    shorter = length-filter_le _ log;
   }
 
   drained_one : (progress : Progress V) (jobs : List (Job V)) (values : List V) → IsSound app progress jobs values → IsSound app (drained app progress) jobs values

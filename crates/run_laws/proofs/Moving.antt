@@ -1,6 +1,7 @@
 -- What each call of an engine leaves is a move, and moves follow one another.
-use Rattle.std.proofs.Common.{◌≡◌, ℕ, List, [], ◌∷◌, ◌++◌, Option, Some, None, refl, sym, ap, subst, ◌∙◌}
+use Rattle.std.proofs.Common.{◌≡◌, ℕ, List, [], ◌∷◌, ◌++◌, Option, Some, refl, sym, ap, subst, ◌∙◌}
 use Rattle.std.specs.Option.{option_or}
+use Rattle.plain_laws.specs.Options.{none_is_not_some}
 use Rattle.task_order.specs.declared.key.Key.{Key}
 use Rattle.app_laws.specs.Applications.{Application}
 use Rattle.crew.specs.declared.answers.Claim.TheVariants as claim
@@ -24,9 +25,6 @@ ended_by-append (Event.claims pick job ∷ events) more = ended_by-append events
 ended_by-append (Event.exceeds done ∷ events) more = ended_by-append events more
 ended_by-append (Event.drains ∷ events) more = ended_by-append events more
 ended_by-append (Event.gives_up ∷ events) more = ended_by-append events more
-
-no_mark : {mark : OverCause} → None ≡ Some mark → ⊥
-no_mark same = cc
 
 mark_before : (old : Option OverCause) (mark new : OverCause) → old ≡ Some mark → option_or old (Some new) ≡ Some mark
 mark_before old mark new is = ap (λ (over : Option OverCause). option_or over (Some new)) is
@@ -73,7 +71,7 @@ module _ {V : Type 0} (app : Application V) where
   giving_up_moves now jobs = by_event Event.gives_up now (marked app now cause.NoRoom) jobs jobs (refl, refl)
 
   event_keeps_mark : (event : Event V) (old now : Moment V) (mark : OverCause) → Leads app event old now → old.progress.over ≡ Some mark → now.progress.over ≡ Some mark
-  event_keeps_mark (Event.claims pick job) old now mark (may, claimed, jobs_are) stands = absurd (no_mark (sym may ∙ stands))
+  event_keeps_mark (Event.claims pick job) old now mark (may, claimed, jobs_are) stands = absurd (none_is_not_some _ (sym may ∙ stands))
   event_keeps_mark (Event.finishes done) old now mark (performed, within, finished) stands = ap (λ (come : Progress V). come.over) finished.after ∙ stands
   event_keeps_mark (Event.exceeds done) old now mark (performed, over, progress_is, jobs_are) stands =
       ap (λ (come : Progress V). come.over) progress_is ∙ mark_before old.progress.over mark _ stands

@@ -1,15 +1,17 @@
 -- A job of a sound execution that was performed: its node, its effect, and its cells.
-use Rattle.std.proofs.Common.{◌≡◌, ℕ, suc, ◌<◌, ◌≤◌, ◌||◌, Bool, true, false, List, [], ◌∷◌, ◌++◌, length, map, Option, Some, None, refl, sym, ap, subst, ◌∙◌}
-use Rattle.std.specs.Prelude.{Contains, IsFalse, is_some}
+use Rattle.std.proofs.Common.{◌≡◌, ℕ, suc, ◌<◌, ◌≤◌, ◌||◌, Bool, true, false, List, [], ◌∷◌, ◌++◌, length, map, refl, sym, ap, subst, ◌∙◌}
+use Rattle.std.specs.Prelude.{Contains, IsFalse}
 use Rattle.std.specs.List.{AllByRecursion, list_any}
-use Rattle.std.proofs.lemmas.Bool.{true≢false}
+use Rattle.plain_laws.specs.Members.{all_at, in_map}
+use Rattle.plain_laws.specs.Lists.{All-weaker, All-swapped, All-middle}
 use Rattle.task_order.specs.declared.key.Key.{Key}
 use Rattle.task_order.specs.declared.task.Body.{Body}
 use Rattle.task_order.specs.declared.start.Start.{Start}
 use Rattle.task_order.specs.declared.task.Task.{Task}
 use Rattle.task_order.specs.TaskList.{HasDistinctKeys, IsNewKey, put_in, without}
-use Rattle.rw_sets.specs.declared.access.Access.{Access}
-use Rattle.rw_sets.specs.Accesses.{Accesses, access_at, allows_write, writes}
+use Rattle.task_order.specs.TaskListLaws.{All-put_in}
+use Rattle.rw_sets.specs.Accesses.{Accesses, access_at, writes}
+use Rattle.rw_sets.specs.AccessLaws.{some_from_writes}
 use Rattle.cell_store.specs.declared.cell.Cell.{Cell}
 use Rattle.cell_store.specs.declared.cell.Cell.TheVariants.{Out}
 use Rattle.cell_store.specs.Cells.{AreHome, AreWrittenOut, IsBundle, cell_at, cells_given, cells_taken, part_of}
@@ -23,20 +25,14 @@ use Rattle.app_laws.specs.declared.child.Child.{Child}
 use Rattle.app_laws.specs.Applications.{Application, IsFitTask, handed, set_in}
 use Rattle.app_laws.specs.Execution.{children_from}
 use Rattle.app_laws.specs.Order.{AreApart, Pairwise, is_prefix}
+use Rattle.app_laws.specs.ApartLaws.{TasksApart, apart_from_put_in, is_prefix-same}
 use Rattle.run_laws.specs.Jobs.{Done, Job}
 use Rattle.run_laws.specs.Events.{fresh_from}
 use Rattle.run_laws.specs.FinishBasis.{FinishBasis}
 use Rattle.run_laws.specs.Finishes.{IsEnded}
-use Rattle.run_laws.specs.Lists.{all-put_in, all-swapped, all-weaker, all_at, all_in_middle, in_map}
 use Rattle.crew.specs.Jobs.{IsPerformed}
 use Rattle.run_laws.specs.Progress.{Progress}
 use Rattle.run_laws.specs.Sound.{Covers, IsOfNode, IsSound, is_written}
-use Rattle.run_laws.proofs.FinishTasks.{TasksApart, apart_from_put_in, prefix_of_itself}
-
--- what is written is there
-pub some_where_written : (access : Option Access) → allows_write access ≡ true → is_some access ≡ true
-some_where_written None is = absurd (true≢false (sym is))
-some_where_written (Some access) is = refl
 
 any_in_middle : {X : Type 0} (p : X → Bool) (xs : List X) (x : X) (ys : List X) → p x ≡ true → list_any p (xs ++ x ∷ ys) ≡ true
 any_in_middle p [] x ys is = ap (λ (test : Bool). test || list_any p ys) is
@@ -52,21 +48,21 @@ IsUnlogged task entry = is_prefix task.key.path entry.0.path ≡ false
 
 pub path_differs : (task : Task) (entry : Entry) → IsUnlogged task entry → entry.0.path ≡ task.key.path → ⊥
 path_differs task entry none same =
-    let itself = prefix_of_itself task.key.path in
+    let itself = is_prefix-same task.key.path in
     let never : is_prefix task.key.path task.key.path ≡ false = subst (λ (path : List ℕ). is_prefix task.key.path path ≡ false) same none in
     cc
 
 -- paths of which one is no prefix of the other are no one path
 paths_differ : (path other : List ℕ) → is_prefix path other ≡ false → path ≡ other → ⊥
 paths_differ path other none same =
-    let itself = prefix_of_itself path in
+    let itself = is_prefix-same path in
     let never : is_prefix path path ≡ false = subst (λ (other : List ℕ). is_prefix path other ≡ false) (sym same) none in
     cc
 
 distinct_from_apart : (tasks : List Task) → Pairwise TasksApart tasks → HasDistinctKeys tasks
 distinct_from_apart [] pairs = tt
 distinct_from_apart (task ∷ tasks) pairs = (
-  all-weaker (TasksApart task) (λ (other : Task). other.key ≡ task.key → ⊥)
+  All-weaker (TasksApart task) (λ (other : Task). other.key ≡ task.key → ⊥)
       (λ other apart same. paths_differ task.key.path other.key.path apart.not_before (ap (λ (key : Key). key.path) (sym same))) tasks pairs.0,
   distinct_from_apart tasks pairs.1,
 )
@@ -91,7 +87,7 @@ module _ {V : Type 0} (app : Application V) where
 module _ {V : Type 0} {app : Application V} (basis : FinishBasis app) where
   module _ {old : Progress V} {done : Done V} {job : Job V} {jobs others : List (Job V)} {values : List V} (sound : IsSound app old jobs values) (performed : IsPerformed app jobs done job others) where
     pub named : IsOfNode app old.nodes job
-    named = all_in_middle (IsOfNode app old.nodes) performed.before job performed.after (subst (AllByRecursion (IsOfNode app old.nodes)) performed.there sound.outs_match.named)
+    named = All-middle (IsOfNode app old.nodes) performed.before job performed.after (subst (AllByRecursion (IsOfNode app old.nodes)) performed.there sound.outs_match.named)
 
     is_there : Contains old.nodes named.0
     is_there = (basis.keys_find old.nodes job.task.key named.0 named.1).0
@@ -104,7 +100,7 @@ module _ {V : Type 0} {app : Application V} (basis : FinishBasis app) where
     its_bundle : job.bundle ≡ part_of (homes values) (set_in app values job.task)
     its_bundle =
         let all = subst (AllByRecursion (λ job. job.bundle ≡ part_of (homes values) job.bundle.set)) performed.there sound.whole.bundles in
-        let own : job.bundle ≡ part_of (homes values) job.bundle.set = all_in_middle (λ job. job.bundle ≡ part_of (homes values) job.bundle.set) performed.before job performed.after all in
+        let own : job.bundle ≡ part_of (homes values) job.bundle.set = All-middle (λ job. job.bundle ≡ part_of (homes values) job.bundle.set) performed.before job performed.after all in
         own ∙ ap (λ set. part_of (homes values) set) (sym named.2.set ∙ node_set)
 
     pub performed_node : IsEnded app old values done job named.0
@@ -153,7 +149,7 @@ module _ {V : Type 0} {app : Application V} (basis : FinishBasis app) where
     bundle_is_out loc written =
         let of_job : writes job.bundle.set loc ≡ true = subst (λ (set : Accesses). writes set loc ≡ true) done_set written in
         let declared : writes (set_in app values job.task) loc ≡ true = subst (λ (set : Accesses). writes set loc ≡ true) job_set of_job in
-        let below = (basis.lawful.sets_are_in_range job.task values sound.ready.cells fit_task).below loc (some_where_written (access_at (set_in app values job.task) loc) declared) in
+        let below = (basis.lawful.sets_are_in_range job.task values sound.ready.cells fit_task).below loc (some_from_writes (access_at (set_in app values job.task) loc) declared) in
         let many : length old.cells ≡ app.count = sound.whole.home.as_many ∙ basis.lawful.cells_are_counted values sound.ready.cells in
         let inside : loc < length old.cells = subst (λ (n : ℕ). loc < n) (sym many) below in
         (inside, written_is_out loc inside of_job)
@@ -200,7 +196,7 @@ module _ {V : Type 0} {app : Application V} (basis : FinishBasis app) where
 
     pub new_entry : IsNewEntry job.task.key old.log
     new_entry =
-        all-weaker (IsUnlogged job.task) (λ (entry : Entry). entry.0 ≡ job.task.key → ⊥)
+        All-weaker (IsUnlogged job.task) (λ (entry : Entry). entry.0 ≡ job.task.key → ⊥)
         (λ entry none same. path_differs job.task entry none (ap (λ key. key.path) same)) old.log tasks_unlogged
 
     pub restored : put_in job.task (without job.task.key (tasks_of old.nodes)) ≡ tasks_of old.nodes
@@ -220,17 +216,17 @@ module _ {V : Type 0} {app : Application V} (basis : FinishBasis app) where
         let rest = without job.task.key (tasks_of old.nodes) in
         let apart : AllByRecursion (TasksApart job.task) rest = apart_from_put_in job.task rest (subst (Pairwise TasksApart) (sym restored) sound.ready.apart) in
         let others : AllByRecursion (λ (other : Task). AllByRecursion (λ (child : Task). other.key ≡ child.key → ⊥) children) rest =
-        all-weaker (TasksApart job.task) (λ (other : Task). AllByRecursion (λ (child : Task). other.key ≡ child.key → ⊥) children)
-        (λ other apart. all-weaker (λ (child : Task). AreApart child.key.path other.key.path) (λ (child : Task). other.key ≡ child.key → ⊥)
+        All-weaker (TasksApart job.task) (λ (other : Task). AllByRecursion (λ (child : Task). other.key ≡ child.key → ⊥) children)
+        (λ other apart. All-weaker (λ (child : Task). AreApart child.key.path other.key.path) (λ (child : Task). other.key ≡ child.key → ⊥)
         (λ child both same. paths_differ child.key.path other.key.path both.not_before (ap (λ (key : Key). key.path) (sym same))) children
         (basis.children_apart job.task.key starts other.key.path apart)) rest apart in
         let parent : AllByRecursion (λ (child : Task). job.task.key ≡ child.key → ⊥) children =
-        all-weaker (λ (child : Task). is_prefix child.key.path job.task.key.path ≡ false) (λ (child : Task). job.task.key ≡ child.key → ⊥)
+        All-weaker (λ (child : Task). is_prefix child.key.path job.task.key.path ≡ false) (λ (child : Task). job.task.key ≡ child.key → ⊥)
         (λ child none same. paths_differ child.key.path job.task.key.path none (ap (λ (key : Key). key.path) (sym same))) children (basis.children_go_on job.task.key starts) in
         let each : AllByRecursion (λ (other : Task). AllByRecursion (λ (child : Task). other.key ≡ child.key → ⊥) children) (tasks_of old.nodes) =
         subst (AllByRecursion (λ (other : Task). AllByRecursion (λ (child : Task). other.key ≡ child.key → ⊥) children)) restored
-        (all-put_in (λ (other : Task). AllByRecursion (λ (child : Task). other.key ≡ child.key → ⊥) children) job.task rest parent others) in
-        all-swapped (λ (child other : Task). other.key ≡ child.key → ⊥) children (tasks_of old.nodes) each
+        (All-put_in (λ (other : Task). AllByRecursion (λ (child : Task). other.key ≡ child.key → ⊥) children) job.task rest parent others) in
+        All-swapped (λ (child other : Task). other.key ≡ child.key → ⊥) children (tasks_of old.nodes) each
 
     pub fresh_new : HaveNewKeys (tasks_of old.nodes) (fresh_from done.task.key 0 done.effect.children)
     fresh_new = record {

@@ -12,7 +12,7 @@ use Rattle.run_laws.specs.Progress.{Progress}
 use Rattle.run_laws.specs.Renaming.{RenamingsKeepSound}
 use Rattle.run_laws.proofs.AtRest.{at_rest, home_values}
 use Rattle.run_laws.proofs.Beginnings.{first_nodes_are_sound}
-use Rattle.run_laws.proofs.Listed.{listed_fit}
+use Rattle.app_laws.specs.ListedLaws.{listed_fit}
 use Rattle.run_laws.proofs.FinishTasks.{length-mapped}
 
 -- as many first tasks as nodes

@@ -11,18 +11,15 @@ use Rattle.rw_sets.specs.Accesses.{Accesses, IsAscending as IsAscendingSet, conf
 use Rattle.kdg_graph.specs.declared.node_id.NodeId.{NodeId}
 use Rattle.kdg_graph.specs.Node.{Node}
 use Rattle.kdg_graph.specs.Nodes.{HaveOwnIds, IsGraph, earlier_than, is_at, started, tasks_of}
+use Rattle.kdg_graph.specs.NodeLaws.{start, start_keeps_id, start_keeps_set, start_keeps_task}
 use Rattle.app_laws.specs.Applications.{Application}
 use Rattle.run_laws.specs.Basis.{LowerLaws}
-use Rattle.run_laws.specs.NodeLists.{start, start_keeps_set, start_keeps_task}
 use Rattle.run_laws.specs.Sound.{is_unblocked}
 
 -- ---- one node
 
 pub as_many_started : (id : NodeId) (nodes now : List Node) → now ≡ started id nodes → length now ≡ length nodes
 as_many_started id nodes now is = ap length is ∙ length-map nodes (start id)
-
-pub start_keeps_id : (id : NodeId) (node : Node) → (start id node).id ≡ node.id
-start_keeps_id id node = elim (is_at id node) as (λ test. let now : Node = cond test (record node { running = true }) node in now.id ≡ node.id) [ true ↦ refl | false ↦ refl ]
 
 pub start_keeps_running : (id : NodeId) (node : Node) → node.running ≡ true → (start id node).running ≡ true
 start_keeps_running id node running = elim (is_at id node) as (λ test. let now : Node = cond test (record node { running = true }) node in now.running ≡ true) [ true ↦ refl | false ↦ running ]

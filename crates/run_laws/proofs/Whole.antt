@@ -1,11 +1,11 @@
 -- The whole cells are known by the cells that are home and by the bundles of the jobs.
-use Rattle.std.proofs.Common.{◌≡◌, ℕ, ◌<◌, ◌||◌, Bool, true, false, List, [], ◌∷◌, Option, Some, None, length, refl, sym, ap, subst, ◌∙◌, arith}
+use Rattle.std.proofs.Common.{◌≡◌, ℕ, ◌<◌, ◌||◌, Bool, true, false, List, [], ◌∷◌, length, refl, sym, ap, subst, ◌∙◌, arith}
 use lib.ListN.{length-map}
-use Rattle.std.specs.Prelude.{IsSome, IsTrue}
+use Rattle.std.specs.Prelude.{IsTrue}
 use Rattle.std.specs.List.{AllByRecursion}
 use Rattle.std.proofs.lemmas.Bool.{true≢false}
-use Rattle.rw_sets.specs.declared.access.Access.{Access}
-use Rattle.rw_sets.specs.Accesses.{Accesses, access_at, allows_write, writes}
+use Rattle.rw_sets.specs.Accesses.{writes}
+use Rattle.rw_sets.specs.AccessLaws.{has_from_writes}
 use Rattle.cell_store.specs.declared.cell.Cell.{Cell}
 use Rattle.cell_store.specs.declared.cell.Cell.TheVariants.{Home, Out}
 use Rattle.cell_store.specs.Cells.{cell_at, cell_in, part_of}
@@ -17,14 +17,6 @@ use Rattle.run_laws.specs.Jobs.{Job}
 use Rattle.run_laws.specs.Laws.{WholeIsOne}
 use Rattle.run_laws.specs.Sound.{IsWhole, is_written}
 
--- a set has what it writes
-pub has_written : (set : Accesses) (loc : ℕ) → IsTrue (writes set loc) → IsSome (access_at set loc)
-has_written set loc written = by_access (access_at set loc) written
-  where
-    by_access : (access : Option Access) → IsTrue (allows_write access) → IsSome access
-    by_access None never = absurd (true≢false (sym never))
-    by_access (Some access) written = refl
-
 module _ {V : Type 0} {app : Application V} (basis : Basis app) where
   abbrev AreBundlesOf : List V → List (Job V) → Type 0
   AreBundlesOf values jobs = AllByRecursion (λ job. job.bundle ≡ part_of (homes values) job.bundle.set) jobs
@@ -32,7 +24,7 @@ module _ {V : Type 0} {app : Application V} (basis : Basis app) where
   in_bundle : (values : List V) (job : Job V) (loc : ℕ) → job.bundle ≡ part_of (homes values) job.bundle.set → IsTrue (writes job.bundle.set loc)
       → cell_in job.bundle loc ≡ cell_at (homes values) loc
   in_bundle values job loc is written =
-      ap (λ part. cell_in part loc) is ∙ basis.cells.parts.each (homes values) job.bundle.set loc (has_written job.bundle.set loc written)
+      ap (λ part. cell_in part loc) is ∙ basis.cells.parts.each (homes values) job.bundle.set loc (has_from_writes job.bundle.set loc written)
 
   -- the cells that some job has away are the same
   same_away : (values others : List V) (loc : ℕ) (jobs : List (Job V)) → AreBundlesOf values jobs → AreBundlesOf others jobs → IsTrue (is_written app jobs loc)

@@ -9,19 +9,14 @@ use Rattle.std.proofs.lemmas.List.Sorted.{IsNonDecreasingBy-from_default}
 use Rattle.std.proofs.lemmas.Bool.Decides.{nat_tests}
 use Rattle.rw_sets.specs.declared.access.Access.{Access}
 use Rattle.rw_sets.specs.declared.access.Access.TheVariants.{Read}
-use Rattle.rw_sets.specs.Accesses.{Accesses, AllBeyond, IsAscending, access_at, stronger, put_access}
+use Rattle.rw_sets.specs.Accesses.{Accesses, IsAscending, access_at, stronger, put_access}
 use Rattle.rw_sets.specs.Places.{location_at, IsAt, IsGapFor}
-use Rattle.rw_sets.specs.AccessLaws.{ascending_first, ascending_rest, access_first, access_other}
+use Rattle.rw_sets.specs.AccessLaws.{ascending_first, ascending_rest, access_first, access_other, location_beyond}
 use Rattle.rw_sets.specs.MergeLaws.{ascending_put, put_below, put_at, put_above}
 
 -- the access at place i
 abbrev pub access_in : Accesses → ℕ → Access
 access_in l i = let pair = get_or l i (0, Read) in pair.1
-
-location_beyond : (n : ℕ) (ps : Accesses) → AllBeyond n ps → (j : ℕ) → j < length ps → n < location_at ps j
-location_beyond n [] h j lt = absurd (omega arith)
-location_beyond n (p ∷ ps) h zero lt = h.0
-location_beyond n (p ∷ ps) h (suc j) lt = location_beyond n ps h.1 j (omega arith)
 
 -- the locations rise from place to place
 locations_rise : (l : Accesses) → IsAscending l → (i j : ℕ) → i ≤ j → j < length l → location_at l i ≤ location_at l j

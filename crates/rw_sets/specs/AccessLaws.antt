@@ -1,14 +1,18 @@
 -- What a look-up finds in ascending lists, and that it determines them.
-use Rattle.std.proofs.Common.{◌≡◌, ℕ, ◌≤◌, [], ◌∷◌, Some, None, refl, sym, inl, inr, arith, zero, suc, drop}
+use Rattle.std.proofs.Common.{◌≡◌, ℕ, ◌≤◌, [], ◌∷◌, Some, None, refl, sym, inl, inr, arith, zero, suc, drop, IsTrue, IsSome, Option, length, get_or, ◌<◌}
 use Rattle.std.specs.List.{AllByRecursion}
 use Rattle.std.specs.List.Sorted.{IsStrictlySortedBy}
 use Rattle.std.specs.declared.cmp.Ordering.TheVariants.{Less}
 use Rattle.std.proofs.lemmas.Cmp.{ranked}
-use Rattle.std.proofs.lemmas.Bool.{cases_lt, cases_order}
+use Rattle.std.proofs.lemmas.Bool.{cases_eq, cases_lt, cases_order, false≢true, true≢false}
 use Rattle.std.proofs.lemmas.Bool.Decides.{nat_tests}
+use Rattle.std.specs.Prelude.{true}
+use Rattle.std.specs.Option.{is_some}
 use Rattle.rw_sets.specs.declared.access.Access.{Access}
 use Rattle.rw_sets.specs.Laws.{AscendingByParts}
-use Rattle.rw_sets.specs.Accesses.{Accesses, by_location, AllBeyond, IsAscending, access_at}
+use Rattle.rw_sets.specs.Accesses.{Accesses, by_location, AllBeyond, IsAscending, access_at, writes, allows_write, clash}
+use Rattle.rw_sets.specs.Places.{location_at}
+use Rattle.rw_sets.specs.declared.access.Access.TheVariants.{Read, Write}
 
 -- an ascending list by its first pair and its rest
 pub ascending_first : (p : ℕ × Access) (ps : Accesses) → IsAscending (p ∷ ps) → AllBeyond p.0 ps
@@ -92,3 +96,40 @@ pub ascending_drop : (i : ℕ) (ps : Accesses) → IsAscending ps → IsAscendin
 ascending_drop zero ps up = up
 ascending_drop (suc i) [] up = ascending_none
 ascending_drop (suc i) (p ∷ ps) up = ascending_drop i ps (ascending_rest _ _ up)
+
+-- what is written is there
+pub has_from_writes : (ps : Accesses) (loc : ℕ) → IsTrue (writes ps loc) → IsSome (access_at ps loc)
+has_from_writes ps loc h = some_from (access_at ps loc) h
+  where
+    some_from : (x : Option Access) → IsTrue (allows_write x) → IsSome x
+    some_from None k = absurd (false≢true k)
+    some_from (Some x) k = refl
+
+pub has_in_place : (ps : Accesses) (i : ℕ) (d : ℕ × Access) → i < length ps → IsSome (access_at ps (get_or ps i d).0)
+has_in_place [] i d lt = absurd (omega arith)
+has_in_place (p ∷ ps) zero d lt = rw (access_first p ps p.0 refl) refl
+has_in_place (p ∷ ps) (suc i) d lt = elim (cases_eq p.0 (get_or ps i d).0) [
+  | inl same ↦ rw (access_first p ps (get_or ps i d).0 same) refl
+  | inr differs ↦ rw (access_other p ps (get_or ps i d).0 differs) (has_in_place ps i d (omega arith))
+]
+
+pub has_later : (p : ℕ × Access) (ps : Accesses) (loc : ℕ) → IsSome (access_at ps loc) → IsSome (access_at (p ∷ ps) loc)
+has_later p ps loc has = elim (cases_eq p.0 loc) [
+  | inl same ↦ rw (access_first p ps loc same) refl
+  | inr differs ↦ rw (access_other p ps loc differs) has
+]
+
+pub location_beyond : (n : ℕ) (ps : Accesses) → AllBeyond n ps → (j : ℕ) → j < length ps → n < location_at ps j
+location_beyond n [] h j lt = absurd (omega arith)
+location_beyond n (p ∷ ps) h zero lt = h.0
+location_beyond n (p ∷ ps) h (suc j) lt = location_beyond n ps h.1 j (omega arith)
+
+pub some_from_writes : (x : Option Access) → allows_write x ≡ true → is_some x ≡ true
+some_from_writes None writes = writes
+some_from_writes (Some x) writes = refl
+
+pub clash_where_written : (x y : Option Access) → allows_write x ≡ true → is_some y ≡ true → clash x y ≡ true
+clash_where_written None y writes there = absurd (true≢false (sym writes))
+clash_where_written (Some Read) y writes there = absurd (true≢false (sym writes))
+clash_where_written (Some Write) None writes there = absurd (true≢false (sym there))
+clash_where_written (Some Write) (Some y) writes there = refl

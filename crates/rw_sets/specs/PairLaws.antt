@@ -21,7 +21,7 @@ pair_is (n, x) loc access e f = ap (λ m. (m, x)) e ∙ ap (λ y. (loc, y)) f
 contains_here : (p : ℕ × Access) (ps : Accesses) → Contains (p ∷ ps) p
 contains_here p ps = (0, omega arith, refl)
 
-contains_later : (p : ℕ × Access) (ps : Accesses) (x : ℕ × Access) → Contains ps x → Contains (p ∷ ps) x
+pub contains_later : (p : ℕ × Access) (ps : Accesses) (x : ℕ × Access) → Contains ps x → Contains (p ∷ ps) x
 contains_later p ps x (k, lt, e) = (suc k, omega arith, e)
 
 contains_cases : (p : ℕ × Access) (ps : Accesses) (x : ℕ × Access) → Contains (p ∷ ps) x → (p ≡ x) ⊎ Contains ps x

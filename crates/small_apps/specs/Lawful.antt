@@ -1,11 +1,11 @@
 -- The laws of places where tasks leave their paths.
 use Rattle.std.specs.Prelude.{◌≡◌, ◌≢◌, ◌==◌, ℕ, zero, suc, ◌<◌, ◌≤◌, ◌^◌, List, [], ◌∷◌, length, slice_get, slice_set, IsSome, IsFalse, refl}
 use Rattle.std.specs.List.{AllByRecursion}
-use Rattle.std.proofs.Common.{arith, lit<, ap, ◌∙◌, subst}
+use Rattle.std.proofs.Common.{arith, lit<, ◌∙◌, subst}
 use Rattle.std.proofs.lemmas.Bool.{cond_both}
 use Rattle.std.proofs.lemmas.Bool.Decides.{nat_tests}
 use Rattle.std.proofs.lemmas.List.{length-set}
-use Rattle.plain_laws.specs.Lists.{All-filter}
+use Rattle.plain_laws.specs.Lists.{All-filter, get-set_other}
 use Rattle.task_order.specs.declared.start.Start.{Start}
 use Rattle.task_order.specs.declared.task.Body.{Body}
 use Rattle.task_order.specs.declared.task.Task.{Task}
@@ -16,14 +16,6 @@ use Rattle.app_laws.specs.Applications.{set_in, CellsAreCounted, SetsAreInRange,
 use Rattle.app_laws.specs.Execution.{children_from}
 use Rattle.small_apps.specs.declared.trails.Trail.{Trail}
 use Rattle.small_apps.specs.Trails.{place_of, follower, followers, trails}
-
--- what one location has, where a list is changed at one
-get-set_other : (cells : List Trail) (place loc : ℕ) (trail : Trail) → loc ≢ place → slice_get (slice_set cells place trail) loc ≡ slice_get cells loc
-get-set_other [] place loc trail differs = refl
-get-set_other (cell ∷ cells) zero zero trail differs = absurd (differs refl)
-get-set_other (cell ∷ cells) zero (suc loc) trail differs = refl
-get-set_other (cell ∷ cells) (suc place) zero trail differs = refl
-get-set_other (cell ∷ cells) (suc place) (suc loc) trail differs = get-set_other cells place loc trail (λ e. differs (ap suc e))
 
 get-set_alike : (cells others : List Trail) (place loc : ℕ) (trail : Trail) → slice_get cells loc ≡ slice_get others loc
     → slice_get (slice_set cells place trail) loc ≡ slice_get (slice_set others place trail) loc

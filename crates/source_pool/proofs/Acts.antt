@@ -7,7 +7,7 @@ use Rattle.std.specs.declared.cmp.Ordering.TheVariants.{Less}
 use Rattle.std.proofs.lemmas.Bool.{true≢false, and_from}
 use Rattle.std.proofs.lemmas.List.{length-map}
 use Rattle.std.proofs.lemmas.Option.{same_Some}
-use Rattle.kdg_graph.proofs.KeyOrder.{ascending_filtered}
+use Rattle.plain_laws.specs.Members.{all_at, all_from, from_filter, from_map, in_filter, in_map}
 use Rattle.task_order.specs.declared.task.Task.{Task}
 use Rattle.task_order.specs.Key.{key_cmp}
 use Rattle.task_order.specs.TaskList.{IsAscending}
@@ -15,6 +15,7 @@ use Rattle.output_log.specs.Entries.{with_entry}
 use Rattle.kdg_graph.specs.declared.node_id.NodeId.{NodeId}
 use Rattle.kdg_graph.specs.Node.{Node}
 use Rattle.kdg_graph.specs.Nodes.{ids_of, node_at, tasks_of}
+use Rattle.kdg_graph.specs.NodeLaws.{ascending_filtered}
 use Rattle.app_laws.specs.Applications.{Application}
 use Rattle.commuting.specs.Clear.{IsClear, IsReady}
 use Rattle.commuting.specs.Rounds.{clear_tasks}
@@ -24,7 +25,6 @@ use Rattle.run_laws.specs.Acting.{HasActed}
 use Rattle.run_laws.specs.Course.{HasCome}
 use Rattle.run_laws.specs.Events.{clear_nodes, is_clear}
 use Rattle.run_laws.specs.Jobs.{Job}
-use Rattle.run_laws.specs.Lists.{all_at, all_from, from_filter, from_map, in_filter, in_map}
 use Rattle.run_laws.specs.Progress.{Progress, whole_state}
 use Rattle.run_laws.specs.Rest.{IsClearNode}
 use Rattle.run_laws.specs.Sound.{HasJob, IsSound}

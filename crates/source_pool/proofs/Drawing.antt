@@ -10,6 +10,8 @@ use Rattle.std.proofs.lemmas.List.{length-map}
 use Rattle.std.proofs.lemmas.List.Elements.{Contains-get_or}
 use Rattle.std.proofs.lemmas.List.Folds.{Any-from_list_any, list_any_none}
 use Rattle.std.proofs.lemmas.List.Sorted.{Contains-permutation, IsPermutation-sym, IsPermutation-to_front}
+use Rattle.plain_laws.specs.Members.{all_at, all_from, cases, found_is_there, from_filter, from_map, in_filter, in_map, none}
+use Rattle.plain_laws.specs.Lists.{length-filter_le}
 use Rattle.task_order.specs.declared.key.Key.{Key}
 use Rattle.task_order.specs.declared.task.Task.{Task}
 use Rattle.task_order.specs.Key.{key_cmp}
@@ -18,14 +20,14 @@ use Rattle.rw_sets.specs.Accesses.{Accesses, Conflicts, conflicts_with}
 use Rattle.kdg_graph.specs.Edges.{is_blocked}
 use Rattle.kdg_graph.specs.Node.{Node}
 use Rattle.kdg_graph.specs.Nodes.{earlier_than, is_at, started, tasks_of}
+use Rattle.kdg_graph.specs.NodeLaws.{start, start_keeps_set, start_keeps_task}
 use Rattle.app_laws.specs.Applications.{Application, set_in, tasks_before}
 use Rattle.commuting.specs.Clear.{IsClear, IsReady}
 use Rattle.commuting.specs.Rounds.{after_round, clear_tasks}
 use Rattle.commuting.specs.States.{State, after_tasks, state_of}
 use Rattle.run_laws.specs.Jobs.{Job}
 use Rattle.run_laws.specs.Events.{is_clear, clear_nodes}
-use Rattle.run_laws.specs.Lists.{all_at, all_from, cases, found_is_there, from_filter, from_map, in_filter, in_map, length-part, none}
-use Rattle.run_laws.specs.NodeLists.{start, start_keeps_set, start_keeps_task, tasks-earlier_than}
+use Rattle.run_laws.specs.NodeLists.{tasks-earlier_than}
 use Rattle.run_laws.specs.Progress.{Progress, whole_state}
 use Rattle.run_laws.specs.Sound.{HasJob, IsSound, is_unblocked}
 use Rattle.source_pool.specs.Basis.{Basis}
@@ -51,7 +53,7 @@ fewer_where_one_fails {X} p (y ∷ xs) x has fails = by_case (p y) refl (cases y
     by_case : (test : Bool) → p y ≡ test → (y ≡ x) ⊎ Contains xs x → (Contains xs x → length (filter p xs) < length xs) → length (cond test (y ∷ filter p xs) (filter p xs)) < suc (length xs)
     by_case true is (inl same) fewer = absurd (true≢false (sym is ∙ ap p same ∙ fails))
     by_case true is (inr later) fewer = let rest = fewer later in omega (arith, rest)
-    by_case false is where_ fewer = let rest = length-part p xs in omega (arith, rest)
+    by_case false is where_ fewer = let rest = length-filter_le p xs in omega (arith, rest)
 
 module _ {V : Type 0} {app : Application V} (basis : Basis app) where
   pub starts_are_at_rest : StartsAreAtRest app

@@ -7,16 +7,14 @@ use Rattle.std.specs.declared.cmp.Ordering.TheVariants.{Less}
 use Rattle.std.proofs.lemmas.Bool.{true≢false}
 use Rattle.std.proofs.lemmas.List.Sorted.{ranks_by, sorted_far}
 use Rattle.plain_laws.specs.Lists.{All-map}
+use Rattle.plain_laws.specs.Members.{all_at, all_from, in_map}
 use Rattle.task_order.specs.declared.key.Key.{Key}
 use Rattle.task_order.specs.declared.task.Task.{Task}
 use Rattle.task_order.specs.Key.{key_cmp, key_cmp_total}
 use Rattle.task_order.specs.Laws.{EarlierIsConnected}
 use Rattle.task_order.specs.TaskList.{HasDistinctKeys, IsAscending, IsNewKey}
 use Rattle.run_laws.specs.Jobs.{Done, Job}
-use Rattle.run_laws.specs.Lists.{all_at, all_from, in_map}
 use Rattle.source_pool.specs.Course.{HaveOwnKeys, job_tasks}
-
--- ---- lists of anything
 
 -- ---- keys
 

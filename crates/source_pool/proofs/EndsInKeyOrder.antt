@@ -3,6 +3,7 @@ use Rattle.std.proofs.Common.{◌≡◌, List, [], ◌∷◌, refl, sym, subst, 
 use Rattle.std.specs.Prelude.{IsSortedByKey}
 use Rattle.std.specs.List.{AllZip}
 use Rattle.std.proofs.lemmas.List.Sorted.{IsPermutation-map, IsPermutation-trans, length_permutation}
+use Rattle.plain_laws.specs.Lists.{some_in}
 use Rattle.task_order.specs.Key.{key_cmp}
 use Rattle.task_order.specs.Laws.{DistinctInAnyOrder, EarlierIsConnected}
 use Rattle.task_order.specs.TaskList.{HasDistinctKeys, IsAscending}
@@ -18,7 +19,7 @@ use Rattle.source_pool.specs.Performing.{AreDone, AreDoneInSomeTurn}
 use Rattle.source_pool.specs.Round.{BeginsRound, IsRoundDrawn}
 use Rattle.source_pool.proofs.EarliestFirst.{ascends, done_tasks, own_tasks}
 use Rattle.source_pool.proofs.EngineAtRest.{some_pending}
-use Rattle.source_pool.proofs.Lists.{Beside, beside_in_order, some_in}
+use Rattle.source_pool.proofs.Lists.{Beside, beside_in_order}
 
 module _ {V : Type 0} (app : Application V) where
   -- what was done has the tasks of the jobs

@@ -10,8 +10,8 @@ use Rattle.std.proofs.lemmas.List.{length-map}
 use Rattle.std.proofs.lemmas.List.Elements.{filter-append}
 use Rattle.std.proofs.lemmas.Option.{same_Some}
 use Rattle.plain_laws.specs.Orderings.{not_less}
-use Rattle.kdg_graph.proofs.Marks.{filter_again}
-use Rattle.plain_laws.specs.Lists.{filter-none}
+use Rattle.plain_laws.specs.Lists.{All-middle, All-weaker, filter-none, filter_again, length-filter_le}
+use Rattle.plain_laws.specs.Members.{all_from}
 use Rattle.task_order.specs.declared.key.Key.{Key}
 use Rattle.task_order.specs.declared.task.Task.{Task}
 use Rattle.task_order.specs.Key.{Bound, at_key, end, is_before, key_cmp}
@@ -28,7 +28,6 @@ use Rattle.commuting.specs.Rounds.{after_round, clear_tasks}
 use Rattle.commuting.specs.Standing.{AreUnlogged, IsLaterLog}
 use Rattle.commuting.specs.States.{State, execution_from, run_from}
 use Rattle.run_laws.specs.Events.{drainable}
-use Rattle.run_laws.specs.Lists.{all-weaker, all_from, all_in_middle, length-part}
 use Rattle.run_laws.specs.Progress.{whole_state}
 use Rattle.source_pool.specs.Basis.{Basis}
 use Rattle.source_pool.specs.Kept.{acted_in, entries_after, first_pending}
@@ -62,7 +61,7 @@ before_first : (log : List Entry) (tasks : List Task) → AllByRecursion (λ tas
 before_first log [] after front entry rest is = refl
 before_first log (task ∷ tasks) after front entry rest is =
     let Earlier = λ (other : Entry). key_cmp other.0 task.key ≡ Less in
-    ap is_lt (all_in_middle Earlier front entry rest (subst (AllByRecursion Earlier) is after.0))
+    ap is_lt (All-middle Earlier front entry rest (subst (AllByRecursion Earlier) is after.0))
 
 -- ---- steps
 
@@ -199,7 +198,7 @@ module _ {V : Type 0} {app : Application V} (basis : Basis app) where
           next.2,
           (
             from,
-            all-weaker (Ordered entry) (λ (other : Entry). is_entry_before bound other ≡ false) (λ other less. not_earlier bound task.key other.0 from less) next.1
+            All-weaker (Ordered entry) (λ (other : Entry). is_entry_before bound other ≡ false) (λ other less. not_earlier bound task.key other.0 from less) next.1
                 (to_later Ordered (there steps).log entry next.1 pairs),
           ),
         )
@@ -240,7 +239,7 @@ module _ {V : Type 0} {app : Application V} (basis : Basis app) where
       let bound = first_pending state.pending in
       let stands = rounds_stand basis rounds first first state [] (basis.starts_stand first ready) keeps.leads in
       let run = run_to basis first state entries bound (none_before_first basis state.cells state.pending stands.ready.ascending) stands in
-      let few = length-part (is_entry_before bound) entries in
+      let few = length-filter_le (is_entry_before bound) entries in
       let within : length (entries_before bound entries) ≤ most = omega (arith, few, entries_counted rounds [] first, keeps.within) in
       let sequential = (after_steps app.act most (execution_from first)).log in
       let same = same_before first ready bound (length (entries_before bound entries)) most entries within run refl in
@@ -268,7 +267,7 @@ module _ {V : Type 0} {app : Application V} (basis : Basis app) where
       let bound = first_pending pending in
       let clear = none_before_first basis values pending later.graph.ascending in
       let run = run_to basis first (whole_state now values) entries bound clear come.stands in
-      let few = length-part (is_entry_before bound) entries in
+      let few = length-filter_le (is_entry_before bound) entries in
       let within : length (entries_before bound entries) ≤ most = omega (arith, few, come.ended, come.limit, later.created, later.within) in
       let sequential = (after_steps app.act most (execution_from first)).log in
       let same = same_before first sound.ready bound (length (entries_before bound entries)) most entries within run refl in

@@ -6,18 +6,17 @@ use Rattle.std.specs.declared.cmp.Ordering.TheVariants.{Less}
 use Rattle.std.proofs.Math.Nat.{zero-mod}
 use Rattle.std.proofs.lemmas.Bool.{eqb-true}
 use Rattle.std.proofs.lemmas.Option.{same_Some}
-use Rattle.plain_laws.specs.Members.{filter_of_all}
-use Rattle.kdg_graph.proofs.KeyOrder.{ascending_filtered}
+use Rattle.plain_laws.specs.Members.{all_at, filter_of_all, from_filter, here, in_map, there}
 use Rattle.task_order.specs.declared.task.Task.{Task}
 use Rattle.task_order.specs.Key.{key_cmp}
 use Rattle.task_order.specs.TaskList.{IsAscending}
 use Rattle.kdg_graph.specs.Node.{Node}
 use Rattle.kdg_graph.specs.Nodes.{is_at, node_at, tasks_of}
 use Rattle.kdg_graph.specs.Rewrite.{without}
+use Rattle.kdg_graph.specs.NodeLaws.{ascending_filtered}
 use Rattle.app_laws.specs.Applications.{Application}
 use Rattle.run_laws.specs.Events.{clear_nodes, is_clear}
 use Rattle.run_laws.specs.Jobs.{Job}
-use Rattle.run_laws.specs.Lists.{all_at, from_filter, here, in_map, there}
 use Rattle.run_laws.specs.Progress.{Progress}
 use Rattle.source_pool.specs.Basis.{Basis}
 use Rattle.source_pool.specs.Laws.{ClaimsGoInKeyOrder, ClearNodesHaveClearTasks}

@@ -1,12 +1,12 @@
 -- The jobs of a sound execution, and one of them performed.
 use Rattle.std.proofs.Common.{List, [], ◌∷◌, refl, subst}
 use Rattle.std.specs.Prelude.{Contains}
+use Rattle.plain_laws.specs.Members.{all_at}
 use Rattle.kdg_graph.specs.Node.{Node}
 use Rattle.app_laws.specs.Applications.{Application}
 use Rattle.commuting.specs.Clear.{IsClear}
 use Rattle.crew.specs.Jobs.{IsPerformed}
 use Rattle.run_laws.specs.Jobs.{Done, Job}
-use Rattle.run_laws.specs.Lists.{all_at}
 use Rattle.run_laws.specs.Progress.{Progress, whole_state}
 use Rattle.run_laws.specs.Sound.{IsOfNode, IsRunningAs, IsSound}
 use Rattle.source_pool.specs.Basis.{Basis}

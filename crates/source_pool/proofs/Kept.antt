@@ -6,12 +6,13 @@ use Rattle.std.specs.declared.cmp.Ordering.{Ordering}
 use Rattle.std.specs.declared.cmp.Ordering.TheVariants.{Less}
 use Rattle.std.proofs.lemmas.List.{length-map}
 use Rattle.std.proofs.lemmas.Option.{same_Some}
-use Rattle.kdg_graph.proofs.KeyOrder.{turned}
+use Rattle.plain_laws.specs.Members.{all_at, none_any}
 use Rattle.plain_laws.specs.Orderings.{not_less}
 use Rattle.task_order.specs.declared.key.Key.{Key}
 use Rattle.task_order.specs.declared.task.Task.{Task}
 use Rattle.task_order.specs.Key.{Bound, at_key, is_before, key_cmp}
 use Rattle.task_order.specs.TaskList.{IsAscending}
+use Rattle.task_order.specs.KeyLaws.{not_past_earlier}
 use Rattle.cell_store.specs.Values.{values_of}
 use Rattle.kdg_graph.specs.Node.{Node}
 use Rattle.kdg_graph.specs.Nodes.{tasks_of}
@@ -23,16 +24,15 @@ use Rattle.commuting.specs.Commuting.{entries_of}
 use Rattle.commuting.specs.Rounds.{after_round, clear_tasks}
 use Rattle.commuting.specs.Standing.{IsRestOf, StandsFor}
 use Rattle.commuting.specs.States.{State, execution_from, run_from, state_of}
+use Rattle.commuting.specs.EndLaws.{end_beside}
 use Rattle.run_laws.specs.CourseLaws.{least_bound}
 use Rattle.run_laws.specs.Events.{drainable}
-use Rattle.run_laws.specs.Lists.{all_at, none_any}
 use Rattle.run_laws.specs.Progress.{Progress, whole_state}
 use Rattle.source_pool.specs.Basis.{Basis}
 use Rattle.source_pool.specs.Course.{IsAtRest, LeadsByRounds}
 use Rattle.source_pool.specs.Kept.{KeepsAfter, acted_in, entries_after, first_pending}
 use Rattle.source_pool.specs.KeptLaws.{DrainedTextsAreKept}
 use Rattle.source_pool.specs.Runs.{state_at_rest}
-use Rattle.source_pool.proofs.RunsBeside.{end_beside}
 
 pub bound_is : (nodes : List Node) → least_bound nodes ≡ first_pending (tasks_of nodes)
 bound_is [] = refl
@@ -60,7 +60,7 @@ module _ {V : Type 0} {app : Application V} (basis : Basis app) where
       let test = λ (other : Task). is_before other.key (at_key key) in
       let own : is_lt (key_cmp key key) ≡ false = not_less (key_cmp key key) (λ less. basis.irreflexive key key less refl) in
       let later : list_any test tasks ≡ false =
-      none_any test tasks (λ other has. turned key other.key (all_at (λ (other : Task). key_cmp key other.key ≡ Less) tasks other up.0 has)) in
+      none_any test tasks (λ other has. not_past_earlier key other.key (all_at (λ (other : Task). key_cmp key other.key ≡ Less) tasks other up.0 has)) in
       ap not (ap (λ found. found || list_any test tasks) own ∙ later)
 
   -- ---- one run
@@ -81,8 +81,8 @@ module _ {V : Type 0} {app : Application V} (basis : Basis app) where
   -- two runs to one bound that come to an end come to the same one
   pub one_run : (first : State V) (bound : Bound) (steps others : ℕ) (last other : Execution V) → run_from app.act steps bound first ≡ Some last → run_from app.act others bound first ≡ Some other → last ≡ other
   one_run first bound steps others last other is other_is =
-      let turned : steps + others ≡ others + steps = omega arith in
-      let longer = subst (λ n. run_from app.act n bound first ≡ Some last) turned (basis.greater_limits (execution_from first) steps others bound last is) in
+      let not_past_earlier : steps + others ≡ others + steps = omega arith in
+      let longer = subst (λ n. run_from app.act n bound first ≡ Some last) not_past_earlier (basis.greater_limits (execution_from first) steps others bound last is) in
       same_Some last other (sym longer ∙ basis.greater_limits (execution_from first) others steps bound other other_is)
 
   -- so entries with which one state stands for the rest are the same, up to a bound that no pending task is before

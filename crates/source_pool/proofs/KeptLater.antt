@@ -2,11 +2,15 @@
 use Rattle.std.proofs.Common.{◌≡◌, ℕ, zero, suc, ◌+◌, ◌≤◌, not, cond, Bool, true, false, List, [], ◌∷◌, refl, sym, ap, subst, ◌∙◌, arith}
 use Rattle.std.specs.List.{AllByRecursion, filter}
 use Rattle.std.specs.declared.cmp.Ordering.TheVariants.{Less}
+use Rattle.plain_laws.specs.Members.{all_at, all_from}
+use Rattle.plain_laws.specs.Lists.{All-filter}
 use Rattle.task_order.specs.declared.start.Start.{Start}
 use Rattle.task_order.specs.declared.task.Task.{Task}
 use Rattle.task_order.specs.Key.{child_key, key_cmp}
 use Rattle.task_order.specs.TaskList.{has_key, without}
+use Rattle.task_order.specs.TaskListLaws.{All-put_all}
 use Rattle.output_log.specs.Entries.{Entry, entries_before, is_written, with_texts}
+use Rattle.output_log.specs.EntryLaws.{all_before}
 use Rattle.app_laws.specs.Applications.{Application, IsFitTask}
 use Rattle.app_laws.specs.Execution.{children_from}
 use Rattle.commuting.specs.Clear.{IsReady}
@@ -14,11 +18,9 @@ use Rattle.commuting.specs.Commuting.{AreClear}
 use Rattle.commuting.specs.Rounds.{after_round, clear_tasks}
 use Rattle.commuting.specs.Standing.{ComeBefore}
 use Rattle.commuting.specs.States.{State, after_task, after_tasks}
-use Rattle.run_laws.specs.Lists.{all-filter, all-put_all, all_at, all_from}
 use Rattle.source_pool.specs.Basis.{Basis}
 use Rattle.source_pool.specs.Course.{LeadsByRounds}
 use Rattle.source_pool.specs.Kept.{acted_in, first_pending}
-use Rattle.source_pool.proofs.JoinedTexts.{all_before}
 
 -- entries without text have none in any part of them
 pub silent_part : (test : Entry → Bool) (entries : List Entry) → with_texts entries ≡ [] → with_texts (filter test entries) ≡ []
@@ -80,9 +82,9 @@ module _ {V : Type 0} {app : Application V} (basis : Basis app) (entries : List 
       let stay = basis.in_turn state (task ∷ []) tasks ready clear in
       let later = basis.lawful.children_come_no_earlier task state.cells ready.cells (all_at (IsFitTask app) state.pending task ready.tasks has) in
       tasks_follow tasks (after_task app.act task state) stay.ready stay.clear
-      (all-put_all Follows (children_from task.key 0 children) (without task.key state.pending)
+      (All-put_all Follows (children_from task.key 0 children) (without task.key state.pending)
       (children_follow task 0 children (all_at Follows state.pending task all has) later)
-      (all-filter Follows (λ other. not (has_key task.key other)) state.pending all))
+      (All-filter Follows (λ other. not (has_key task.key other)) state.pending all))
 
   pub rounds_follow : (rounds : ℕ) (state now : State V) → IsReady app state → ComeBefore entries state.pending → LeadsByRounds app rounds state now → ComeBefore entries now.pending
   rounds_follow zero state now ready all leads = subst (λ (s : State V). ComeBefore entries s.pending) (sym leads) all

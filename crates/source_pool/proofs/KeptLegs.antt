@@ -4,6 +4,7 @@ use Rattle.std.specs.Prelude.{IfSome, map}
 use Rattle.std.specs.List.{AllByRecursion}
 use Rattle.std.proofs.lemmas.List.{length-map}
 use Rattle.std.proofs.lemmas.List.Elements.{filter-append}
+use Rattle.plain_laws.specs.Lists.{All-filter, All-weaker}
 use Rattle.task_order.specs.declared.start.Start.{Start}
 use Rattle.task_order.specs.declared.task.Task.{Task}
 use Rattle.task_order.specs.Key.{Bound}
@@ -21,8 +22,8 @@ use Rattle.commuting.specs.Renaming.{renamed_state}
 use Rattle.commuting.specs.Rounds.{after_round, clear_tasks}
 use Rattle.commuting.specs.Standing.{AreUnlogged, IsLaterLog, StandsFor}
 use Rattle.commuting.specs.States.{State, execution_from, run_from, state_of}
+use Rattle.commuting.specs.EndLaws.{end_beside}
 use Rattle.run_laws.specs.CourseLaws.{IsJoinedRest}
-use Rattle.run_laws.specs.Lists.{all-filter, all-weaker}
 use Rattle.run_laws.specs.Progress.{Progress, whole_state}
 use Rattle.source_pool.specs.Basis.{Basis}
 use Rattle.source_pool.specs.Course.{IsAtRest, LeadsByRounds}
@@ -33,7 +34,6 @@ use Rattle.source_pool.proofs.JoinedTexts.{texts_of_rest}
 use Rattle.source_pool.proofs.Kept.{RunTo, none_before_first, one_run, rounds_stand, run_to}
 use Rattle.source_pool.proofs.KeptLater.{acted_add, before_first, leads_on_to, rounds_follow, silent_part}
 use Rattle.source_pool.proofs.KeptNames.{IsSameAfter, before_first-renamed, joined-renamed, same_after, texts_renamed}
-use Rattle.source_pool.proofs.RunsBeside.{end_beside}
 
 module _ {V : Type 0} {app : Application V} (basis : Basis app) (start now next : Progress V) (state : State V) (text : List ℕ) (rounds : ℕ) (ignored : PathsAreIgnored app)
     (begins : BeginsAtRest app start) (rest : IsAtRest app start (values_of start.cells) state text now) (leads : LeadsByRounds app rounds (state_at_rest start) state)
@@ -126,9 +126,9 @@ module _ {V : Type 0} {app : Application V} (basis : Basis app) (start now next 
         let logged = entries_before bound now.log in
         let later : IsLaterLog drained rest_log = subst (λ run. IfSome run (λ e. IsLaterLog drained e.log)) run_here.is (basis.log_later here drained ready come.earlier steps bound) in
         let unlogged : AreUnlogged logged here.pending =
-        all-weaker (λ (task : Task). AllByRecursion (λ (entry : Entry). is_prefix task.key.path entry.0.path ≡ _) now.log)
+        All-weaker (λ (task : Task). AllByRecursion (λ (entry : Entry). is_prefix task.key.path entry.0.path ≡ _) now.log)
         (λ (task : Task). AllByRecursion (λ (entry : Entry). is_prefix task.key.path entry.0.path ≡ _) logged)
-        (λ task all. all-filter (λ (entry : Entry). is_prefix task.key.path entry.0.path ≡ _) (is_entry_before bound) now.log all)
+        (λ task all. All-filter (λ (entry : Entry). is_prefix task.key.path entry.0.path ≡ _) (is_entry_before bound) now.log all)
         here.pending counts.unlogged in
         let unheard : ShareNoKey logged rest_log = subst (λ run. IfSome run (λ e. ShareNoKey logged e.log)) run_here.is (basis.log_new_keys here logged ready unlogged steps bound) in
         texts_of_rest basis (entries_before bound start.log) ended drained logged rest_log parts (basis.parts_in_order bound rest.course.entries come.stands.ordered).0

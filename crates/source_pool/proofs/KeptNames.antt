@@ -4,6 +4,8 @@ use Rattle.std.specs.Prelude.{map}
 use Rattle.std.specs.List.{AllByRecursion, filter}
 use Rattle.std.specs.Ordering.{is_lt, nat_cmp, ordering_then}
 use Rattle.std.proofs.lemmas.List.{length-map, map-append}
+use Rattle.plain_laws.specs.Members.{all_from}
+use Rattle.plain_laws.specs.Lists.{All-filter, All-append}
 use Rattle.task_order.specs.declared.key.Key.{Key}
 use Rattle.task_order.specs.declared.task.Task.{Task}
 use Rattle.task_order.specs.Key.{at_key, end, key_cmp}
@@ -17,7 +19,6 @@ use Rattle.commuting.specs.Commuting.{entries_of}
 use Rattle.commuting.specs.Renaming.{renamed_state}
 use Rattle.commuting.specs.Rounds.{after_round, clear_tasks, is_clear}
 use Rattle.commuting.specs.States.{State}
-use Rattle.run_laws.specs.Lists.{all-append, all-filter, all_from}
 use Rattle.source_pool.specs.Basis.{Basis}
 use Rattle.source_pool.specs.Course.{LeadsByRounds}
 use Rattle.source_pool.specs.Kept.{acted_in, entries_after, first_pending}
@@ -76,9 +77,9 @@ module _ {name : List ℕ → List ℕ} {has_name : List ℕ → Bool} (naming :
   with_entry-named : (key : Key) (text : List ℕ) (entries : List Entry) → has_name key.path ≡ true → HaveNamedKeys has_name entries → HaveNamedKeys has_name (with_entry key text entries)
   with_entry-named key text entries named all =
       let Named = λ (entry : Entry). has_name entry.0.path ≡ true in
-      all-append Named (entries_before (at_key key) entries) ((key, text) ∷ entries_from (at_key key) entries)
-      (all-filter Named (is_entry_before (at_key key)) entries all)
-      (named, all-filter Named (λ entry. not (is_entry_before (at_key key) entry)) entries all)
+      All-append Named (entries_before (at_key key) entries) ((key, text) ∷ entries_from (at_key key) entries)
+      (All-filter Named (is_entry_before (at_key key)) entries all)
+      (named, All-filter Named (λ entry. not (is_entry_before (at_key key) entry)) entries all)
 
   joined-named : (entries others : List Entry) → HaveNamedKeys has_name entries → HaveNamedKeys has_name others → HaveNamedKeys has_name (joined_by_key entries others)
   joined-named entries [] all others_named = all
@@ -138,8 +139,8 @@ module _ {V : Type 0} {app : Application V} (basis : Basis app) (ignored : Paths
       let next = after_round app state in
       let tasks = clear_tasks app state in
       let more = entries_of app.act state.cells tasks in
-      let tasks_named : HaveNames has_name tasks = all-filter (λ (task : Task). has_name task.key.path ≡ true) (is_clear app state) state.pending have in
-      let tasks_fit : AreFitTasks app tasks = all-filter (IsFitTask app) (is_clear app state) state.pending ready.tasks in
+      let tasks_named : HaveNames has_name tasks = All-filter (λ (task : Task). has_name task.key.path ≡ true) (is_clear app state) state.pending have in
+      let tasks_fit : AreFitTasks app tasks = All-filter (IsFitTask app) (is_clear app state) state.pending ready.tasks in
       let more_named = entries_of-named state.cells tasks tasks_named in
       let both = joined_by_key entries more in
       let here = renamed_state name state in

@@ -1,11 +1,11 @@
 -- Legs of a run, each of which goes on where the one before it came to, with first tasks.
-use Rattle.std.proofs.Common.{◌≡◌, ℕ, ◌+◌, ◌-◌, List, [], ◌∷◌, ◌++◌, length, Option, Some, None, refl, sym, ap, subst, ◌∙◌, append_assoc, arith}
+use Rattle.std.proofs.Common.{◌≡◌, ℕ, ◌+◌, ◌-◌, List, [], ◌++◌, length, Option, Some, None, refl, sym, ap, subst, ◌∙◌, append_assoc, arith}
 use Rattle.std.specs.Prelude.{IfSome}
 use Rattle.std.proofs.lemmas.List.{length-map}
-use Rattle.task_order.specs.declared.task.Task.{Task}
 use Rattle.task_order.specs.Key.{end}
 use Rattle.task_order.specs.TaskList.{put_all}
 use Rattle.cell_store.specs.Values.{homes, values_of}
+use Rattle.output_log.specs.EntryLaws.{same_texts}
 use Rattle.kdg_graph.specs.Nodes.{tasks_of}
 use Rattle.output_log.specs.Entries.{Entry, ShareNoKey, joined_by_key, joined_texts, with_texts}
 use Rattle.app_laws.specs.Applications.{Application, PathsAreIgnored}
@@ -15,8 +15,9 @@ use Rattle.commuting.specs.Clear.{IsReady}
 use Rattle.commuting.specs.Commuting.{BothEnd}
 use Rattle.commuting.specs.Renaming.{ComesToSame, HasSameTexts}
 use Rattle.commuting.specs.Rounds.{TakesRounds}
-use Rattle.commuting.specs.Standing.{AreUnlogged, ComeBefore, IsLaterLog}
+use Rattle.commuting.specs.Standing.{AreUnlogged, IsLaterLog}
 use Rattle.commuting.specs.States.{State, state_of, run_from}
+use Rattle.commuting.specs.EndLaws.{given_up, end_beside, none_before}
 use Rattle.run_laws.specs.CourseLaws.{IsJoinedRest}
 use Rattle.run_laws.specs.Progress.{Progress, whole_state}
 use Rattle.run_laws.specs.Renaming.{IsRenamed}
@@ -27,14 +28,9 @@ use Rattle.source_pool.specs.Kept.{IsLastAfter, KeepsAfter}
 use Rattle.source_pool.specs.KeptLaws.{RenamingsKeepTexts}
 use Rattle.source_pool.specs.Legs.{IsEndBehind, LegsBegin, LegsGoOn, RenamingsGoOn}
 use Rattle.source_pool.specs.Runs.{IsRoundsEnd, rest_of_run, state_at_rest}
-use Rattle.source_pool.proofs.JoinedTexts.{same_texts, texts_of_rest}
+use Rattle.source_pool.proofs.JoinedTexts.{texts_of_rest}
 use Rattle.source_pool.proofs.KeptLegs.{keeps_behind}
 use Rattle.source_pool.proofs.RoundNumbers.{rounds_take_more, whole_is_home}
-use Rattle.source_pool.proofs.RunsBeside.{end_beside, given_up}
-
-none_before : (tasks : List Task) → ComeBefore [] tasks
-none_before [] = tt
-none_before (task ∷ tasks) = (tt, none_before tasks)
 
 module _ {V : Type 0} (app : Application V) where
   -- ---- legs

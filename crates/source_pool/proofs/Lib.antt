@@ -29,7 +29,6 @@ pub mod Passing
 pub mod PerformedInOrder
 pub mod RoundDrawn
 pub mod RoundNumbers
-pub mod RunsBeside
 pub mod Sending
 pub mod SharesInParts
 pub mod Telling

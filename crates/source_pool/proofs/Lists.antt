@@ -1,20 +1,16 @@
 -- Two lists place by place, members of lists, and lists in key order.
-use Rattle.std.proofs.Common.{◌≡◌, ◌≢◌, ◌<◌, ℕ, inl, inr, List, [], ◌∷◌, ◌++◌, drop, length, length-append, map, take, Some, refl, sym, ◌∙◌, ap, subst, arith, IsPermutation}
+use Rattle.std.proofs.Common.{◌≡◌, ◌<◌, ℕ, inl, inr, List, [], ◌∷◌, ◌++◌, drop, length, length-append, map, take, Some, refl, sym, ◌∙◌, ap, subst, arith, IsPermutation}
 use Rattle.std.specs.Prelude.{Contains, slice_index_or, slice_set}
 use Rattle.std.specs.List.{All, AllZip, swap}
 use Rattle.std.specs.declared.cmp.Ordering.TheVariants.{Less}
 use Rattle.std.proofs.lemmas.List.{get_or-map, length-map, map-set}
 use Rattle.std.proofs.lemmas.List.Elements.{All-append, All-cons, All-drop, All-head, All-nil, All-take}
 use Rattle.std.proofs.lemmas.List.Sorted.{IsPermutation-keeps, IsPermutation-map, IsPermutation-refl, IsPermutation-swap, IsPermutation-trans}
+use Rattle.plain_laws.specs.Members.{none, here, there, cases, all_at}
 use Rattle.task_order.specs.declared.task.Task.{Task}
 use Rattle.task_order.specs.Key.{key_cmp}
 use Rattle.task_order.specs.Laws.{EarlierIsIrreflexive, EarlierIsTransitive}
 use Rattle.task_order.specs.TaskList.{IsAscending}
-use Rattle.run_laws.specs.Lists.{all_at, cases, here, none, there}
-
-pub some_in : {X : Type 0} (xs : List X) → xs ≢ [] → 0 < length xs
-some_in [] some = absurd (some refl)
-some_in (x ∷ xs) some = omega arith
 
 -- ---- two lists, place by place
 

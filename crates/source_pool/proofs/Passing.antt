@@ -3,7 +3,7 @@ use Rattle.std.proofs.Common.{◌≡◌, ◌+◌, ◌<◌, ◌≤◌, ℕ, suc, 
 use Rattle.std.specs.Prelude.{Contains}
 use Rattle.std.proofs.lemmas.List.{length-map}
 use Rattle.std.proofs.lemmas.Option.{same_Some}
-use Rattle.app_laws.proofs.Apart.{length-children_from}
+use Rattle.plain_laws.specs.Members.{found_is_there, all_at, all_from, from_filter, from_map}
 use Rattle.task_order.specs.declared.task.Task.{Task}
 use Rattle.task_order.specs.TaskList.{without}
 use Rattle.kdg_graph.specs.declared.node_id.NodeId.{NodeId}
@@ -12,6 +12,7 @@ use Rattle.kdg_graph.specs.Nodes.{node_at, tasks_of}
 use Rattle.app_laws.specs.declared.app.Effect.{Effect}
 use Rattle.app_laws.specs.Applications.{Application, handed}
 use Rattle.app_laws.specs.Execution.{children_from}
+use Rattle.app_laws.specs.TaskLaws.{length-children_from}
 use Rattle.commuting.specs.Clear.{IsClear, IsReady}
 use Rattle.commuting.specs.Commuting.{AreClear}
 use Rattle.commuting.specs.States.{State, after_task, after_tasks}
@@ -19,7 +20,6 @@ use Rattle.crew.specs.Jobs.{IsPerformed}
 use Rattle.run_laws.specs.Acting.{IsTooMany}
 use Rattle.run_laws.specs.Events.{clear_nodes, is_clear}
 use Rattle.run_laws.specs.Jobs.{Done, Job}
-use Rattle.run_laws.specs.Lists.{all_at, all_from, found_is_there, from_filter, from_map}
 use Rattle.run_laws.specs.Progress.{Progress, whole_state}
 use Rattle.run_laws.specs.Rest.{IsClearNode}
 use Rattle.run_laws.specs.Sound.{IsSound}

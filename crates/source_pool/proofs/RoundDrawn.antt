@@ -2,6 +2,7 @@
 use Rattle.std.proofs.Common.{◌≡◌, ◌+◌, ◌++◌, ◌∙◌, List, [], length, ap, sym, subst, arith}
 use Rattle.std.proofs.lemmas.List.{append-nil, length-map}
 use Rattle.std.proofs.lemmas.List.Sorted.{IsPermutation-refl}
+use Rattle.plain_laws.specs.Lists.{some_in}
 use Rattle.task_order.specs.TaskList.{IsAscending}
 use Rattle.cell_store.specs.Values.{values_of}
 use Rattle.kdg_graph.specs.Node.{Node}
@@ -17,7 +18,6 @@ use Rattle.source_pool.specs.Laws.{ClearNodesHaveClearTasks, DrawingsBegin, Draw
 use Rattle.source_pool.specs.Performing.{EndAtFault, HasDrawn, HaveEnded, MayEnd}
 use Rattle.source_pool.specs.Round.{BeginsRound, IsEndFault, IsRoundDrawn, IsRoundFault, IsRoundPlayed, next_point}
 use Rattle.source_pool.proofs.EngineAtRest.{some_pending}
-use Rattle.source_pool.proofs.Lists.{some_in}
 
 module _ {V : Type 0} (app : Application V) (from : RunPoint V) (AreSuch : List (Job V) → Type 0) (old now : Progress V) where
   abbrev to : RunPoint V

@@ -1,9 +1,10 @@
 -- What a sink has got of a text, from the first piece on.
-use Rattle.std.proofs.Common.{arith, ◌≡◌, ℕ, ◌+◌, ◌≤◌, Bool, true, false, List, [], ◌++◌, append-nil, append_assoc, length, take, length-append, Option, Some, None, refl, sym, ap, subst, ◌∙◌}
+use Rattle.std.proofs.Common.{arith, ◌≡◌, ℕ, ◌+◌, ◌≤◌, Bool, true, false, List, [], ◌++◌, append-nil, append_assoc, length, take, length-append, Option, refl, sym, ap, subst, ◌∙◌}
 use Rattle.std.proofs.Math.Seq.{take-append-add}
 use Rattle.std.proofs.lemmas.Bool.{true≢false}
 use Rattle.std.proofs.lemmas.List.{take-append-le}
 use Rattle.std.specs.Io.KnownBytes.{Appends}
+use Rattle.std.proofs.KnownBytes.{Appends-nil}
 use Rattle.outer_edge.specs.Transfers.{Transfer, transfer_of}
 use Rattle.outer_edge.specs.Writing.{AppendsFront}
 use Rattle.text_outlet.specs.declared.outlet.Outlet.{Outlet}
@@ -15,10 +16,6 @@ front_of a b front rest text whole first =
     let within : length front + 0 ≤ length text = omega (arith, ap length whole, length-append front rest) in
     let taken : take (length front + 0) text ≡ front = ap (take (length front + 0)) whole ∙ take-append-add front rest 0 ∙ append-nil front in
     (length front + 0, within, subst (Appends a b) (sym taken) first)
-
-nothing_appended : (known : Option (List ℕ)) → Appends known known []
-nothing_appended None = tt
-nothing_appended (Some bytes) = sym (append-nil bytes)
 
 -- nothing yet
 pub nothing_sent : (known : Option (List ℕ)) (faults : ℕ) → Appends known known [] → IsSent (record { before = known; after = known; faults_before = faults; faults_after = faults }) false [] []
@@ -32,7 +29,7 @@ nothing_sent known faults nothing = record {
 pub first_told : {K : Type 0} (known : K → Option (List ℕ)) (faults : K → ℕ) (outlet : Outlet) (sink : K) → outlet.held ≡ [] → outlet.has_failed ≡ false → HasTold known faults sink outlet sink []
 first_told known faults outlet sink held none =
     subst (λ h. IsSent (transfer_of known faults sink sink) outlet.has_failed h []) (sym held)
-    (subst (λ b. IsSent (transfer_of known faults sink sink) b [] []) (sym none) (nothing_sent (known sink) (faults sink) (nothing_appended (known sink))))
+    (subst (λ b. IsSent (transfer_of known faults sink sink) b [] []) (sym none) (nothing_sent (known sink) (faults sink) (Appends-nil (known sink))))
 
 -- ---- what is told by and by
 

@@ -1,33 +1,26 @@
 -- What is held of the lines so far, line by line.
 use Rattle.std.proofs.Common.{arith, refl, sym, ap, subst, ◌∙◌, ◌≡◌, ◌+◌, [], ◌∷◌, ◌++◌, ℕ, List, Option, Some, None, Ok, Err, length, append-nil, append_assoc, option_to_list}
 use Rattle.std.proofs.lemmas.List.Elements.{filter_map-append}
-use Rattle.std.specs.List.{cons_option, slice_get}
+use Rattle.std.specs.List.{slice_get}
 use Rattle.std.specs.Option.{option_or, is_some}
+use Rattle.plain_laws.specs.Options.{cons_option-none}
 use Rattle.kdg_text.specs.declared.fault.LineFault.{LineFault}
-use Rattle.kdg_text.specs.Faults.{Numbered, forms_from, first_fault, first_fault_after}
+use Rattle.kdg_text.specs.Faults.{Numbered, forms_from, first_fault, first_fault_after, fault_where}
 use Rattle.spring_mesh.specs.declared.draft.Draft.{Draft}
 use Rattle.spring_mesh.specs.declared.statement.Statement.TheVariants as says
 use Rattle.spring_mesh.specs.LineForms.{LineForm, form_of}
 use Rattle.spring_mesh.specs.Faults.{syntax}
-use Rattle.spring_mesh.specs.Files.{said, node_in, mass_in, spring_in, end_in, end_of, fault_where, form_fault, line_fault}
+use Rattle.spring_mesh.specs.Files.{said, node_in, mass_in, spring_in, end_in, end_of, form_fault, line_fault}
 use Rattle.spring_mesh.specs.Grammar.{said_lines}
 use Rattle.spring_mesh.specs.Drafts.{draft_of, draft_fault, draft_plus}
 
-one_option : {X : Type 0} (o : Option X) → cons_option o [] ≡ option_to_list o
-one_option None = refl
-one_option (Some x) = refl
-
 pub said-push : {X : Type 0} (by : LineForm → Option X) (lines : List (Numbered LineForm)) (line : Numbered LineForm) → said by (lines ++ line ∷ []) ≡ said by lines ++ option_to_list (by line.form)
 said-push by lines line =
-    filter_map-append (λ (each : Numbered LineForm). by each.form) lines (line ∷ []) ∙ ap (λ last. said by lines ++ last) (one_option (by line.form))
+    filter_map-append (λ (each : Numbered LineForm). by each.form) lines (line ∷ []) ∙ ap (λ last. said by lines ++ last) (cons_option-none (by line.form))
 
 no_first : (numbers : List ℕ) → slice_get numbers 0 ≡ None → numbers ≡ []
 no_first [] none = refl
 no_first (number ∷ numbers) none = cc
-
-pub or_none : (a b : Option LineFault) → option_or a b ≡ None → (a ≡ None) × (b ≡ None)
-or_none None b none = (refl, none)
-or_none (Some fault) b none = cc
 
 -- no line sets an end before a line that fits
 pub endless : (before : List (Numbered LineForm)) (form : LineForm) → line_fault before form ≡ None → end_of before ≡ None

@@ -5,16 +5,18 @@ use Rattle.std.proofs.lemmas.Bool.Decides.{nat_tests}
 use Rattle.std.proofs.lemmas.Int.{ints}
 use Rattle.std.proofs.lemmas.List.Elements.{All-nil, All-push, All-weaker}
 use Rattle.std.specs.List.{All, AllByRecursion}
-use Rattle.std.specs.Option.{option_map, option_map_or, option_or}
+use Rattle.std.specs.Option.{option_map_or}
 use Rattle.std.specs.Str.{bytes_eq}
+use Rattle.plain_laws.specs.Bools.{true_from_not}
+use Rattle.plain_laws.specs.Options.{option_or-both_none}
 use Rattle.kdg_text.specs.Lines.{lines_of}
 use Rattle.kdg_text.specs.Tokens.{tokens_of}
 use Rattle.kdg_text.specs.Numbers.{u64_of, i64_of}
-use Rattle.kdg_text.specs.declared.fault.Fault.{Fault}
 use Rattle.kdg_text.specs.declared.fault.LineFault.{LineFault}
 use Rattle.kdg_text.specs.declared.fault.ReadFail.{ReadFail}
 use Rattle.kdg_text.specs.declared.number.NumFault.{NumFault}
-use Rattle.kdg_text.specs.Faults.{Numbered, Answers, before_comment, fault_on, forms_from, first_fault, first_fault_after, unless_fault}
+use Rattle.kdg_text.specs.Faults.{Numbered, Answers, before_comment, forms_from, first_fault, first_fault_after}
+use Rattle.kdg_text.specs.FaultLaws.{fits_first, faultless, not_where}
 use Rattle.spring_mesh.specs.declared.draft.Draft.{Draft}
 use Rattle.spring_mesh.specs.declared.file.MeshFile.{MeshFile}
 use Rattle.spring_mesh.specs.declared.file.MeshNode.{MeshNode}
@@ -23,10 +25,10 @@ use Rattle.spring_mesh.specs.declared.statement.SpringDraft.{SpringDraft}
 use Rattle.spring_mesh.specs.declared.statement.Statement.TheVariants as says
 use Rattle.spring_mesh.specs.Faults.{syntax, bad_number}
 use Rattle.spring_mesh.specs.LineForms.{LineForm, reach, most_stiffness, most_mass, latest, allowed, is_within_reach, is_stiffness, is_between, coordinate_of, stiffness_of, number_in, any_number, with_number, node_by, spring_by, end_by, form_by, form_of_words, form_of, comment}
-use Rattle.spring_mesh.specs.Files.{most_nodes, most_springs, fault_where, is_one_of, are_two_of, form_fault, line_fault, spring_from, IsWithin, IsNode, IsMass, IsSpring, IsMesh, end_of, file_with}
+use Rattle.spring_mesh.specs.Files.{most_nodes, most_springs, is_one_of, are_two_of, form_fault, line_fault, spring_from, IsWithin, IsNode, IsMass, IsSpring, IsMesh, end_of, file_with}
 use Rattle.spring_mesh.specs.Grammar.{said_lines, mesh_of}
 use Rattle.spring_mesh.specs.Drafts.{draft_of, draft_fault, draft_with, draft_plus, ended}
-use Rattle.spring_mesh.proofs.Reading.{draft_of-push, or_none}
+use Rattle.spring_mesh.proofs.Reading.{draft_of-push}
 
 -- a spring's numbers are in their ranges, but for its ends
 record IsRanged (draft : SpringDraft) : Type 0 where
@@ -151,14 +153,6 @@ record IsSound (draft : Draft) : Type 0 where
   mesh : IsMesh (until draft 0)
   end : (end : ℕ) → draft.end ≡ Some end → end ≤ latest
 
-not_where : (test : Bool) (fault : LineFault) → fault_where test fault ≡ None → test ≡ false
-not_where true fault none = cc
-not_where false fault none = refl
-
-not_not : (b : Bool) → not b ≡ false → b ≡ true
-not_not true h = refl
-not_not false h = cc
-
 fewer : (most n : ℕ) → nat_le most n ≡ false → n + 1 ≤ most
 fewer most n test = grind (arith, nat_tests)
 
@@ -237,9 +231,9 @@ sound-plus draft (Ok (says.Node node mass)) good fits sound = record {
   end = sound.end;
 }
 sound-plus draft (Ok (says.Spring spring)) good fits sound =
-    let parts = or_none _ _ fits in
+    let parts = option_or-both_none _ _ fits in
     record {
-      mesh = spring-added draft spring good (not_not _ (not_where _ _ parts.0)) (fewer most_springs (length draft.springs) (not_where _ _ parts.1)) sound.mesh;
+      mesh = spring-added draft spring good (true_from_not _ (not_where _ _ parts.0)) (fewer most_springs (length draft.springs) (not_where _ _ parts.1)) sound.mesh;
       end = sound.end;
     }
 sound-plus draft (Ok (says.End time)) good fits sound = record {
@@ -250,7 +244,7 @@ sound-plus draft (Err fault) good fits sound = cc
 
 -- a draft of few nodes stays one
 pub few-plus : (draft after : Draft) (form : LineForm) → after ≡ draft_plus draft form → draft_fault draft form ≡ None → length draft.nodes ≤ 4096 → length after.nodes ≤ 4096
-few-plus draft after form added fits few = rw added (by_form form (or_none _ _ fits).1)
+few-plus draft after form added fits few = rw added (by_form form (option_or-both_none _ _ fits).1)
   where
     by_form : (form : LineForm) → form_fault (length draft.nodes) (length draft.springs) form ≡ None → length (draft_plus draft form).nodes ≤ 4096
     by_form (Ok (says.Node node mass)) fits = let room = fewer most_nodes (length draft.nodes) (not_where _ _ fits) in omega (arith, one_more draft.nodes node)
@@ -262,7 +256,7 @@ few-plus draft after form added fits few = rw added (by_form form (or_none _ _ f
 pub ends-fit : (nodes springs : ℕ) (draft : SpringDraft) → nodes ≤ 4096 → form_fault nodes springs (Ok (says.Spring draft)) ≡ None
     → ((1 ≤ draft.a) × (draft.a ≤ 4096)) × ((1 ≤ draft.b) × (draft.b ≤ 4096))
 ends-fit nodes springs draft few fits =
-    let two = not_not (are_two_of nodes draft) (not_where _ _ (or_none _ _ fits).0) in
+    let two = true_from_not (are_two_of nodes draft) (not_where _ _ (option_or-both_none _ _ fits).0) in
     let last = and_parts (is_one_of nodes draft.a && is_one_of nodes draft.b) (not (draft.a == draft.b)) two in
     let ends = and_parts (is_one_of nodes draft.a) (is_one_of nodes draft.b) last.0 in
     let a = one_of nodes draft.a ends.0 in
@@ -284,20 +278,12 @@ sound-none = record {
   end = λ end is. cc;
 }
 
-fits_first : (wrong : Option LineFault) (number : ℕ) (rest : Option Fault) → option_or (option_map (fault_on number) wrong) rest ≡ None → (wrong ≡ None) × (rest ≡ None)
-fits_first None number rest none = (refl, none)
-fits_first (Some fault) number rest none = cc
-
 sound-after : (before rest : List (Numbered LineForm)) → AreGood rest → IsSound (draft_of before) → first_fault_after line_fault before rest ≡ None → IsSound (draft_of (before ++ rest))
 sound-after before [] good sound none = rw (append-nil before) sound
 sound-after before (line ∷ rest) good sound none =
     let fits = fits_first (line_fault before line.form) line.number _ none in
-    let more : IsSound (draft_of (before ++ line ∷ [])) = rw (draft_of-push before line fits.0) (sound-plus (draft_of before) line.form good.0 (or_none _ _ fits.0).1 sound) in
+    let more : IsSound (draft_of (before ++ line ∷ [])) = rw (draft_of-push before line fits.0) (sound-plus (draft_of before) line.form good.0 (option_or-both_none _ _ fits.0).1 sound) in
     subst (λ lines. IsSound (draft_of lines)) (append_assoc before (line ∷ []) rest) (sound-after (before ++ line ∷ []) rest good.1 more fits.1)
-
-faultless : {V : Type 0} (o : Option Fault) (answer : Result V Fault) (value : V) → unless_fault o answer ≡ Ok value → (o ≡ None) × (answer ≡ Ok value)
-faultless None answer value made = (refl, made)
-faultless (Some fault) answer value made = cc
 
 ended-sound : (draft : Draft) (behind : ℕ) (end : Option ℕ) (file : MeshFile) → draft.end ≡ end → IsSound draft → ended draft behind end ≡ Ok file → IsMesh file
 ended-sound draft behind (Some end) file is sound made =

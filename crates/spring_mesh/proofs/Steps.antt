@@ -6,7 +6,9 @@ use Rattle.std.proofs.lemmas.Bool.{cond_both}
 use Rattle.std.proofs.lemmas.Bool.Decides.{nat_tests}
 use Rattle.std.proofs.lemmas.List.{length-map, append-nil, append_assoc, map-append}
 use Rattle.std.proofs.lemmas.List.FromFn.{length-range_with_len}
+use Rattle.std.proofs.lemmas.Grind.{flat_map-append}
 use Rattle.plain_laws.specs.Ranges.{filter-range_more, range_more}
+use Rattle.plain_laws.specs.Lists.{length-filter_le}
 use Rattle.task_order.specs.declared.start.Start.{Start}
 use Rattle.spring_mesh.specs.declared.file.MeshFile.{MeshFile}
 use Rattle.spring_mesh.specs.declared.file.Spring.{Spring}
@@ -50,10 +52,6 @@ pub first_steps_late : (file : MeshFile) (n : ℕ) (spring : Spring) (starts : L
 first_steps_late file n spring starts is late so_far =
     so_far ∙ ap (map (first_step file)) (sym (stepping_among-more file n spring false is (late_is spring.h file.end late) ∙ append-nil (stepping_among file n)))
 
-flat_map-append : (f : ℕ → List ℕ) (xs ys : List ℕ) → flat_map f (xs ++ ys) ≡ flat_map f xs ++ flat_map f ys
-flat_map-append f [] ys = refl
-flat_map-append f (x ∷ xs) ys = ap (λ rest. f x ++ rest) (flat_map-append f xs ys) ∙ sym (append_assoc (f x) (flat_map f xs) (flat_map f ys))
-
 -- one line more
 pub flat_map_more : (f : ℕ → List ℕ) (n : ℕ) → flat_map f (range_with_len 0 (n + 1)) ≡ flat_map f (range_with_len 0 n) ++ f n
 flat_map_more f n =
@@ -84,19 +82,13 @@ steps_fit file (number ∷ numbers) below =
 pub start_tasks-fit : (file : MeshFile) → AreFitStarts (mesh_steps file) (start_tasks file)
 start_tasks-fit file = steps_fit file (range_with_len 0 (length file.springs)) (range_below 0 (length file.springs) (length file.springs) (omega arith))
 
-kept-no_more : (p : ℕ → Bool) (xs : List ℕ) → length (filter p xs) ≤ length xs
-kept-no_more p [] = omega arith
-kept-no_more p (x ∷ xs) =
-    let rest = kept-no_more p xs in
-    cond_both (p x) (x ∷ filter p xs) (filter p xs) (λ kept. length kept ≤ suc (length xs)) (λ yes. omega (arith, rest)) (λ no. omega (arith, rest))
-
 -- and there are few of them
 pub start_tasks-few : (file : MeshFile) → IsMesh file → length (start_tasks file) < 2 ^ 32
 start_tasks-few file is =
     omega (
       arith,
       length-map (stepping_among file (length file.springs)) (first_step file),
-      kept-no_more (λ number. nat_le (spring_at file number).h file.end) (range_with_len 0 (length file.springs)),
+      length-filter_le (λ number. nat_le (spring_at file number).h file.end) (range_with_len 0 (length file.springs)),
       length-range_with_len 0 (length file.springs),
       is.spring_count,
     )

@@ -3,13 +3,13 @@ use Rattle.std.specs.Prelude.{ℕ, ◌++◌, [], ◌∷◌, List, length, Option
 use Rattle.std.specs.Option.{option_or}
 use Rattle.kdg_text.specs.declared.fault.Fault.{Fault}
 use Rattle.kdg_text.specs.declared.fault.LineFault.{LineFault}
-use Rattle.kdg_text.specs.Faults.{Numbered, fault_on}
+use Rattle.kdg_text.specs.Faults.{Numbered, fault_on, fault_where}
 use Rattle.spring_mesh.specs.declared.draft.Draft.{Draft}
 use Rattle.spring_mesh.specs.declared.file.MeshFile.{MeshFile}
 use Rattle.spring_mesh.specs.declared.statement.Statement.{Statement}
 use Rattle.spring_mesh.specs.declared.statement.Statement.TheVariants as says
 use Rattle.spring_mesh.specs.Faults.{syntax, no_end}
-use Rattle.spring_mesh.specs.Files.{said, node_in, mass_in, spring_in, end_of, spring_from, fault_where, form_fault}
+use Rattle.spring_mesh.specs.Files.{said, node_in, mass_in, spring_in, end_of, spring_from, form_fault}
 use Rattle.spring_mesh.specs.LineForms.{LineForm}
 
 -- what lines say so far

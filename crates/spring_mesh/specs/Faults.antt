@@ -1,10 +1,7 @@
 -- The faults of a line.
 use Rattle.std.specs.Prelude.{ℕ}
 use Rattle.kdg_text.specs.declared.fault.LineFault.{LineFault}
-
--- a fault of this kind that is no limit
-abbrev pub fault_of_kind : ℕ → LineFault
-fault_of_kind kind = record { kind = kind; bound = 0 }
+use Rattle.kdg_text.specs.Faults.{fault_of_kind}
 
 -- the line has none of the forms, or comes behind the end
 abbrev pub syntax : LineFault

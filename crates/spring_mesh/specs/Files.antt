@@ -1,10 +1,10 @@
 -- The mesh that lines describe, and what holds of every mesh that was read.
-use Rattle.std.specs.Prelude.{◌≡◌, ◌≢◌, ℕ, ◌-◌, ◌<◌, ◌≤◌, Bool, ◌&&◌, not, ◌==◌, nat_le, if◌then◌else◌, List, length, Option, None, Some, is_some, Result, Ok, Err, ℤ, pos, ◌≤ℤ◌, unsigned_abs, slice_get, All}
+use Rattle.std.specs.Prelude.{◌≡◌, ◌≢◌, ℕ, ◌-◌, ◌<◌, ◌≤◌, Bool, ◌&&◌, not, ◌==◌, nat_le, List, length, Option, None, Some, is_some, Result, Ok, Err, ℤ, pos, ◌≤ℤ◌, unsigned_abs, slice_get, All}
 use Rattle.std.specs.List.{filter_map}
 use Rattle.std.specs.Option.{option_or}
 use Rattle.kdg_text.specs.declared.fault.Fault.{Fault}
 use Rattle.kdg_text.specs.declared.fault.LineFault.{LineFault}
-use Rattle.kdg_text.specs.Faults.{Numbered, fault_on}
+use Rattle.kdg_text.specs.Faults.{Numbered, fault_on, fault_where}
 use Rattle.spring_mesh.specs.declared.file.MeshFile.{MeshFile}
 use Rattle.spring_mesh.specs.declared.file.MeshNode.{MeshNode}
 use Rattle.spring_mesh.specs.declared.file.Spring.{Spring}
@@ -50,10 +50,6 @@ most_nodes = 4096
 
 abbrev pub most_springs : ℕ
 most_springs = 16384
-
--- the fault, where the test holds
-abbrev pub fault_where : Bool → LineFault → Option LineFault
-fault_where test fault = if test then Some fault else None
 
 -- whether a number, counted from 1, is that of one of `nodes` nodes
 abbrev pub is_one_of : ℕ → ℕ → Bool

@@ -7,7 +7,7 @@ use Rattle.std.proofs.lemmas.Bool.Decides.{nat_tests}
 use Rattle.std.proofs.lemmas.List.{length-set}
 use Rattle.std.proofs.lemmas.List.Elements.{All-get_or, All-set}
 use Rattle.std.proofs.lemmas.Option.{slice_get-get_or, same_Some}
-use Rattle.plain_laws.specs.Lists.{All-filter}
+use Rattle.plain_laws.specs.Lists.{All-filter, get-set_other}
 use Rattle.task_order.specs.declared.start.Start.{Start}
 use Rattle.task_order.specs.declared.task.Body.{Body}
 use Rattle.task_order.specs.declared.task.Task.{Task}
@@ -24,14 +24,6 @@ use Rattle.spring_mesh.specs.Motion.{brought_to, first_after, second_after}
 use Rattle.spring_mesh.specs.Meaning.{IsFitCells, IsFitTask, node_at, no_node, mass_at, spring_at, no_spring, ends_of, first_stepped, second_stepped, with_ends, next_steps, step_of, mesh_steps}
 use Rattle.spring_mesh.specs.Bounds.{brought_to-fits, first_after-fits, second_after-fits}
 use Rattle.spring_mesh.specs.Ends.{ends_of-ascending, first-named, second-named, end_from_named, unwritten-apart}
-
--- what one location has, where a list is changed at one
-get-set_other : (cells : List MeshNode) (place loc : ℕ) (node : MeshNode) → loc ≢ place → slice_get (slice_set cells place node) loc ≡ slice_get cells loc
-get-set_other [] place loc node differs = refl
-get-set_other (cell ∷ cells) zero zero node differs = absurd (differs refl)
-get-set_other (cell ∷ cells) zero (suc loc) node differs = refl
-get-set_other (cell ∷ cells) (suc place) zero node differs = refl
-get-set_other (cell ∷ cells) (suc place) (suc loc) node differs = get-set_other cells place loc node (λ e. differs (ap suc e))
 
 get-set_alike : (cells others : List MeshNode) (place loc : ℕ) (node : MeshNode) → slice_get cells loc ≡ slice_get others loc
     → slice_get (slice_set cells place node) loc ≡ slice_get (slice_set others place node) loc

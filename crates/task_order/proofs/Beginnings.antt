@@ -6,10 +6,10 @@ use Rattle.std.specs.Ordering.{nat_cmp, ordering_then}
 use Rattle.std.proofs.Common.{◌≡◌, ℕ, zero, suc, ◌+◌, ◌-◌, ◌/◌, ◌%◌, ◌<◌, ◌≤◌, ⊎_elim, List, [], ◌∷◌, ◌++◌, length, take, replicate, refl, sym, ◌∙◌, ap, append_assoc, length-append, length-take, arith}
 use Rattle.std.proofs.lemmas.Bool.{cases_lt}
 use Rattle.std.proofs.lemmas.List.{take-append-le}
+use Rattle.plain_laws.specs.Orderings.{nat_cmp-below, nat_cmp-above}
 use Rattle.task_order.specs.PathCode.{digits, head_byte, item_rest, item, code_bytes, end_zeros, number_of, first_word}
 use Rattle.task_order.specs.Laws.{LowerBeginningsComeFirst}
 use Rattle.task_order.specs.SharedBytes.{IsPadded}
-use Rattle.task_order.specs.Comparing.{nat_cmp-below, nat_cmp-above}
 use Rattle.task_order.proofs.PathCode.{slice_cmp-code, head-few, head-many, rest-small, rest-few, rest-many}
 use Rattle.task_order.proofs.Words.{AreBytes, AreBytes-take, AreBytes-push, slice_cmp-words}
 

@@ -6,12 +6,13 @@ use Rattle.std.specs.Ordering.{is_lt}
 use Rattle.std.specs.Prelude.{slice_get}
 use Rattle.std.specs.List.{AllByRecursion, insert, remove}
 use Rattle.std.specs.declared.cmp.Ordering.TheVariants.{Less}
+use Rattle.plain_laws.specs.Lists.{All-weaker, All-append, filter-all, filter-none}
 use Rattle.task_order.specs.declared.key.Key.{Key}
 use Rattle.task_order.specs.declared.task.Task.{Task}
 use Rattle.task_order.specs.Key.{key_cmp}
 use Rattle.task_order.specs.TaskList.{put_in, is_earlier, tasks_before}
 use Rattle.task_order.specs.Blocks.{tasks_in, IsFilled, IsGapless, block_at, IsPlace}
-use Rattle.task_order.proofs.TaskLists.{All-weaker, All-append, filter-all, filter-none, put_in-behind}
+use Rattle.task_order.proofs.TaskLists.{put_in-behind}
 use Rattle.task_order.proofs.Fronts.{put_in-front}
 use Rattle.task_order.proofs.Places.{not_earlier_from_later}
 
@@ -141,23 +142,6 @@ rank_from_place key blocks at place found =
 
 -- ---- no gaps
 
-pub All-take : {X : Type 0} (P : X → Type 0) (n : ℕ) (xs : List X) → AllByRecursion P xs → AllByRecursion P (take n xs)
-All-take P zero [] all = tt
-All-take P (suc n) [] all = tt
-All-take P zero (x ∷ xs) all = tt
-All-take P (suc n) (x ∷ xs) all = (all.0, All-take P n xs all.1)
-
-pub All-drop : {X : Type 0} (P : X → Type 0) (n : ℕ) (xs : List X) → AllByRecursion P xs → AllByRecursion P (drop n xs)
-All-drop P zero [] all = tt
-All-drop P (suc n) [] all = tt
-All-drop P zero (x ∷ xs) all = all
-All-drop P (suc n) (x ∷ xs) all = All-drop P n xs all.1
-
-All-set : {X : Type 0} (P : X → Type 0) (xs : List X) (n : ℕ) (y : X) → P y → AllByRecursion P xs → AllByRecursion P (set xs n y)
-All-set P [] n y one all = all
-All-set P (x ∷ xs) zero y one all = (one, all.1)
-All-set P (x ∷ xs) (suc n) y one all = (all.0, All-set P xs n y one all.1)
-
 -- beside a block with a task, each block has one
 pub all_filled : (blocks : List (List Task)) (at : ℕ) → IsGapless blocks → at < length blocks → IsFilled (block_at blocks at) → AllByRecursion IsFilled blocks
 all_filled blocks at (inr all) inside filled = all
@@ -216,10 +200,6 @@ count_more blocks i inside = rw add-one (ap length (take_more blocks i inside) �
 pub count_within : (key : Key) (blocks : List (List Task)) (at place i : ℕ) → IsPlace key blocks at place → i ≤ at → place + length (tasks_in (take i blocks)) ≤ length (tasks_in blocks)
 count_within key blocks at place i found up_to =
     omega (arith, take_le blocks i at up_to, rank_from_place key blocks at place found, length-filter (is_earlier key) (tasks_in blocks), count_by-le-length (is_earlier key) (tasks_in blocks))
-
-pub empty_block : (block : List Task) → length block ≡ 0 → block ≡ []
-empty_block [] none = refl
-empty_block (task ∷ block) none = absurd (omega (arith, none))
 
 pub first_of_blocks : (blocks : List (List Task)) → IsGapless blocks → slice_get (block_at blocks 0) 0 ≡ slice_get (tasks_in blocks) 0
 first_of_blocks [] gapless = refl

@@ -1,18 +1,21 @@
 -- Lists in which each key stands once.
-use Rattle.std.proofs.Common.{◌≡◌, ◌≢◌, ℕ, ◌+◌, ◌≤◌, ◌⊎◌, inl, inr, ⊎_elim, Bool, true, false, cond, List, [], ◌∷◌, ◌++◌, refl, sym, ◌∙◌, ap, subst, arith}
+use Rattle.std.proofs.Common.{◌≡◌, ◌≢◌, ℕ, ◌+◌, ◌≤◌, ⊎_elim, Bool, true, false, cond, List, [], ◌∷◌, ◌++◌, refl, sym, ◌∙◌, ap, subst, arith}
 use Rattle.std.specs.List.{AllByRecursion, Contains, sum_by}
 use Rattle.std.specs.List.Sorted.{IsPermutation}
 use Rattle.std.specs.declared.cmp.Ordering.TheVariants.{Less}
 use Rattle.std.proofs.lemmas.Bool.{cond_both}
-use Rattle.std.proofs.lemmas.List.Elements.{All-from_recursion, All-contains, Contains-append_cases, Contains-append_right, Contains-push_cases}
+use Rattle.std.proofs.lemmas.List.Elements.{All-from_recursion, All-contains}
 use Rattle.std.proofs.lemmas.List.Sorted.{IsPermutation-refl, IsPermutation-sym, IsPermutation-trans, IsPermutation-middle, IsPermutation-append_left, IsPermutation-append_right, Contains-permutation, sum_by-IsPermutation}
 use Rattle.std.proofs.lemmas.List.Sums.{sum_by-cons}
+use Rattle.plain_laws.specs.Lists.{All-weaker, All-append, All-parts}
+use Rattle.plain_laws.specs.Members.{none as none_there, here, there, cases}
 use Rattle.task_order.specs.declared.key.Key.{Key}
 use Rattle.task_order.specs.declared.task.Task.{Task}
 use Rattle.task_order.specs.Key.{key_cmp, key_cmp_total}
 use Rattle.task_order.specs.TaskList.{IsAscending, IsNewKey, HasDistinctKeys, put_in, put_all, is_earlier, has_key}
-use Rattle.task_order.proofs.KeyOrder.{differ_from_earlier}
-use Rattle.task_order.proofs.TaskLists.{has_from_test, test_from_has, All-weaker, All-append, All-parts, AllByRecursion-put_in, IsNewKey-rest, IsAscending-put_in, IsPermutation-put_in}
+use Rattle.task_order.proofs.TaskLists.{has_from_test, test_from_has, IsNewKey-rest, IsAscending-put_in, IsPermutation-put_in}
+use Rattle.task_order.specs.TaskListLaws.{All-put_in}
+use Rattle.task_order.specs.KeyLaws.{differ_from_earlier}
 
 pub distinct_from_ascending : (tasks : List Task) → IsAscending tasks → HasDistinctKeys tasks
 distinct_from_ascending [] up = tt
@@ -27,7 +30,7 @@ HasDistinctKeys-put_in : (task : Task) (tasks : List Task) → IsNewKey task.key
 HasDistinctKeys-put_in task [] new distinct = (tt, tt)
 HasDistinctKeys-put_in task (other ∷ tasks) new distinct =
     cond_both (is_earlier task.key other) (other ∷ put_in task tasks) (task ∷ other ∷ tasks) HasDistinctKeys
-    (λ _. (AllByRecursion-put_in (λ next. next.key ≢ other.key) task tasks (λ same. new.0 (sym same)) distinct.0, HasDistinctKeys-put_in task tasks new.1 distinct.1))
+    (λ _. (All-put_in (λ next. next.key ≢ other.key) task tasks (λ same. new.0 (sym same)) distinct.0, HasDistinctKeys-put_in task tasks new.1 distinct.1))
     (λ _. (new, distinct))
 
 -- a task with a new key is put in behind others
@@ -35,7 +38,7 @@ pub distinct-put_in : (new : List Task) (task : Task) (tasks : List Task) → Is
 distinct-put_in [] task tasks is_new distinct = HasDistinctKeys-put_in task tasks is_new distinct
 distinct-put_in (next ∷ new) task tasks is_new distinct =
     let parts : IsNewKey next.key new × IsNewKey next.key tasks = All-parts (λ other. other.key ≢ next.key) new tasks distinct.0 in (
-      All-append (λ other. other.key ≢ next.key) new (put_in task tasks) parts.0 (AllByRecursion-put_in (λ other. other.key ≢ next.key) task tasks (λ same. is_new.0 (sym same)) parts.1),
+      All-append (λ other. other.key ≢ next.key) new (put_in task tasks) parts.0 (All-put_in (λ other. other.key ≢ next.key) task tasks (λ same. is_new.0 (sym same)) parts.1),
       distinct-put_in new task tasks is_new.1 distinct.1,
     )
 
@@ -99,22 +102,6 @@ distinct_in_any_order tasks others distinct moved =
 
 -- ---- ascending lists with the same tasks
 
-none_there : (task : Task) → Contains [] task → ⊥
-none_there task has = omega (arith, has.1)
-
-pub has_cases : (task other : Task) (tasks : List Task) → Contains (task ∷ tasks) other → (task ≡ other) ⊎ Contains tasks other
-has_cases task other tasks has =
-    ⊎_elim
-    (λ first. ⊎_elim (λ none. absurd (none_there other none)) (λ same. inl same) (Contains-push_cases [] task other first))
-    (λ rest. inr rest)
-    (Contains-append_cases (task ∷ []) tasks other has)
-
-pub has_first : (task : Task) (tasks : List Task) → Contains (task ∷ tasks) task
-has_first task tasks = (0, omega arith, refl)
-
-pub has_later : (task other : Task) (tasks : List Task) → Contains tasks other → Contains (task ∷ tasks) other
-has_later task other tasks has = Contains-append_right (task ∷ []) tasks other has
-
 pub later_than_first : (task other : Task) (tasks : List Task) → IsAscending (task ∷ tasks) → Contains tasks other → key_cmp task.key other.key ≡ Less
 later_than_first task other tasks up has =
     All-contains (λ (next : Task). key_cmp task.key next.key ≡ Less) tasks other (All-from_recursion (λ (next : Task). key_cmp task.key next.key ≡ Less) tasks up.0) has
@@ -128,22 +115,22 @@ same_first task other tasks others up up' has has' =
     ⊎_elim (λ same. sym same)
     (λ later. ⊎_elim (λ same. same)
     (λ later'. absurd (differ_from_earlier task.key task.key (key_cmp_total.trans task.key other.key task.key (later_than_first task other tasks up later') (later_than_first other task others up' later)) refl))
-    (has_cases task other tasks has'))
-    (has_cases other task others has)
+    (cases task other tasks has'))
+    (cases other task others has)
 
 rest_has : (task other : Task) (tasks others : List Task) → IsAscending (task ∷ tasks) → task ≡ other → HasAllOf (other ∷ others) (task ∷ tasks) → HasAllOf others tasks
 rest_has task other tasks others up same all next has =
     ⊎_elim
     (λ first. absurd (differ_from_earlier task.key next.key (later_than_first task next tasks up has) (ap (λ (t : Task). t.key) (same ∙ first))))
     (λ rest. rest)
-    (has_cases other next others (all next (has_later task next tasks has)))
+    (cases other next others (all next (there task next tasks has)))
 
 same_from_tasks : (tasks others : List Task) → IsAscending tasks → IsAscending others → HasAllOf others tasks → HasAllOf tasks others → tasks ≡ others
 same_from_tasks [] [] up up' all all' = refl
-same_from_tasks [] (other ∷ others) up up' all all' = absurd (none_there other (all' other (has_first other others)))
-same_from_tasks (task ∷ tasks) [] up up' all all' = absurd (none_there task (all task (has_first task tasks)))
+same_from_tasks [] (other ∷ others) up up' all all' = absurd (none_there other (all' other (here other others)))
+same_from_tasks (task ∷ tasks) [] up up' all all' = absurd (none_there task (all task (here task tasks)))
 same_from_tasks (task ∷ tasks) (other ∷ others) up up' all all' =
-    let first : task ≡ other = same_first task other tasks others up up' (all task (has_first task tasks)) (all' other (has_first other others)) in
+    let first : task ≡ other = same_first task other tasks others up up' (all task (here task tasks)) (all' other (here other others)) in
     let rest : tasks ≡ others = same_from_tasks tasks others up.1 up'.1 (rest_has task other tasks others up first all) (rest_has other task others tasks up' (sym first) all') in
     λ i. first i ∷ rest i
 

@@ -4,12 +4,12 @@ use Rattle.std.specs.Prelude.{slice_get}
 use Rattle.std.specs.Option.{unwrap_or}
 use Rattle.std.specs.List.{AllByRecursion}
 use Rattle.std.specs.declared.cmp.Ordering.TheVariants.{Less}
+use Rattle.plain_laws.specs.Lists.{All-weaker, All-append}
 use Rattle.task_order.specs.declared.key.Key.{Key}
 use Rattle.task_order.specs.declared.task.Task.{Task}
 use Rattle.task_order.specs.Key.{key_cmp, key_cmp_total}
 use Rattle.task_order.specs.TaskList.{IsAscending, is_earlier}
 use Rattle.task_order.specs.Blocks.{tasks_in, block_at, IsPlace}
-use Rattle.task_order.proofs.TaskLists.{All-weaker, All-append}
 use Rattle.task_order.proofs.Places.{ascending_parts, IsAscendingParts, AreInTurn, block_ascends}
 use Rattle.task_order.proofs.Cuts.{tasks_in-at, take-all, drop-all}
 

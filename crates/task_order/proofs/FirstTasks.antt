@@ -4,6 +4,7 @@ use Rattle.std.specs.declared.cmp.Ordering.{Ordering}
 use Rattle.std.specs.declared.cmp.Ordering.TheVariants.{Less, Greater}
 use Rattle.std.specs.Ordering.{is_le, nat_cmp, ordering_then, ordering_reverse}
 use Rattle.std.proofs.Common.{◌≡◌, ◌≢◌, ℕ, zero, suc, ◌<◌, ◌≤◌, false, nat_lt, List, [], ◌∷◌, length, refl, sym, ◌∙◌, ap, subst, arith, lt-ltb}
+use Rattle.plain_laws.specs.Orderings.{nat_cmp-same}
 use Rattle.task_order.specs.declared.key.Key.{Key}
 use Rattle.task_order.specs.declared.task.Task.{Task}
 use Rattle.task_order.specs.PathCode.{CanCode, path_beginning}
@@ -11,7 +12,6 @@ use Rattle.task_order.specs.Blocks.{starts_by, IsFirstPriority, IsFirstBeginning
 use Rattle.std.specs.List.{insert}
 use Rattle.std.proofs.lemmas.List.Edits.{length-insert}
 use Rattle.task_order.proofs.Beginnings.{lower_beginnings_come_first}
-use Rattle.task_order.specs.Comparing.{nat_cmp-same}
 
 -- a first task at the key's priority is earlier than the key where its path begins with a lower number
 pub starts_by-lower : (key : Key) (beginning : ℕ) (tasks : List Task) → IsFirstPriority key.prio tasks → IsFirstBeginning beginning tasks → CanCode 0 key.path → beginning < path_beginning key.path

@@ -11,16 +11,19 @@ use Rattle.std.proofs.lemmas.Bool.{true≢false}
 use Rattle.std.specs.Ordering.{is_lt, is_eq}
 use Rattle.std.specs.declared.cmp.Ordering.{Ordering}
 use Rattle.std.specs.declared.cmp.Ordering.TheVariants.{Less, Equal, Greater}
+use Rattle.plain_laws.specs.Lists.{All-weaker, All-append, drop-found}
 use Rattle.task_order.specs.declared.key.Key.{Key}
 use Rattle.task_order.specs.declared.task.Task.{Task}
 use Rattle.task_order.specs.Key.{key_cmp, key_cmp_total}
 use Rattle.task_order.specs.TaskList.{IsAscending, IsNewKey, put_in, is_earlier, without}
 use Rattle.task_order.specs.Blocks.{tasks_in, block_at, IsGapless, IsPlace, IsFound, AreBlocks, IsElsewhere}
-use Rattle.task_order.proofs.KeyOrder.{differ_from_earlier, earlier_connected}
-use Rattle.task_order.proofs.TaskLists.{All-weaker, All-append, IsNewKey-rest, IsAscending-filter, IsAscending-put_in, length-put_in}
+use Rattle.task_order.proofs.KeyOrder.{earlier_connected}
+use Rattle.task_order.proofs.TaskLists.{IsNewKey-rest, IsAscending-put_in}
 use Rattle.task_order.proofs.Places.{AreInTurn, IsAscendingParts, ascending_parts}
 use Rattle.task_order.proofs.Cuts.{tasks_in-at, tasks_in-cut, regroup}
 use Rattle.task_order.proofs.Without.{without_new_key, without-first, stays, put_in_restores}
+use Rattle.task_order.specs.TaskListLaws.{length-put_in, IsAscending-filter}
+use Rattle.task_order.specs.KeyLaws.{differ_from_earlier}
 
 -- the tasks from a place on begin with the one there
 abbrev BeginsThere : List Task → ℕ → Option Task → Type 0
@@ -91,9 +94,6 @@ without-middle task front rest up =
     filter-append (stays task.key) front (task ∷ rest)
     ∙ (λ i. without_new_key task.key front (new_in_front task front rest parts.turn) i ++ without-first task rest (IsNewKey-rest task.key rest parts.second.0) i)
 
-begins_with : (block : List Task) (place : ℕ) (task : Task) → slice_get block place ≡ Some task → drop place block ≡ task ∷ drop (suc place) block
-begins_with block place task is = subst (BeginsThere block place) is (begins_there block place)
-
 pub without_at : (blocks : List (List Task)) (at place : ℕ) (task : Task) → IsAscending (tasks_in blocks) → at < length blocks → slice_get (block_at blocks at) place ≡ Some task
     → tasks_in (take at blocks) ++ (remove (block_at blocks at) place ++ tasks_in (drop (suc at) blocks)) ≡ without task.key (tasks_in blocks)
 without_at blocks at place task up inside is =
@@ -102,7 +102,7 @@ without_at blocks at place task up inside is =
     let after = tasks_in (drop (suc at) blocks) in
     let front = before ++ take place block in
     let rest = drop (suc place) block ++ after in
-    let cut : tasks_in blocks ≡ front ++ task ∷ rest = tasks_in-cut blocks at place (inl inside) ∙ ap (λ l. front ++ (l ++ after)) (begins_with block place task is) in
+    let cut : tasks_in blocks ≡ front ++ task ∷ rest = tasks_in-cut blocks at place (inl inside) ∙ ap (λ l. front ++ (l ++ after)) (drop-found block place task is) in
     sym (regroup before (take place block) (drop (suc place) block) after)
     ∙ sym (without-middle task front rest (subst IsAscending cut up))
     ∙ ap (without task.key) (sym cut)

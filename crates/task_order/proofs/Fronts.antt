@@ -5,18 +5,19 @@ use Rattle.std.specs.declared.cmp.Ordering.{Ordering}
 use Rattle.std.specs.declared.cmp.Ordering.TheVariants.{Less, Equal, Greater}
 use Rattle.std.specs.Ordering.{is_lt}
 use Rattle.std.proofs.lemmas.Bool.{cond_both}
+use Rattle.plain_laws.specs.Orderings.{less_from_test}
+use Rattle.plain_laws.specs.Lists.{All-weaker, All-filter, filter-all, filter-none}
 use Rattle.task_order.specs.declared.key.Key.{Key}
 use Rattle.task_order.specs.declared.task.Task.{Task}
 use Rattle.task_order.specs.Key.{key_cmp, key_cmp_total}
 use Rattle.task_order.specs.TaskList.{IsAscending, put_in, is_earlier, tasks_before, tasks_from}
-use Rattle.task_order.proofs.KeyOrder.{Less_from_test}
-use Rattle.task_order.proofs.TaskLists.{All-weaker, All-filter, filter-all, filter-none, put_in-behind}
+use Rattle.task_order.proofs.TaskLists.{put_in-behind}
 
 -- what is later than a task that isn't earlier than the key isn't either
 stays_late : (key : Key) (task other : Task) → is_earlier key task ≡ false → key_cmp task.key other.key ≡ Less → (test : Bool) → is_earlier key other ≡ test → test ≡ false
 stays_late key task other late later false is = refl
 stays_late key task other late later true is =
-    let earlier : is_earlier key task ≡ true = ap is_lt (key_cmp_total.trans task.key other.key key later (Less_from_test _ is)) in
+    let earlier : is_earlier key task ≡ true = ap is_lt (key_cmp_total.trans task.key other.key key later (less_from_test _ is)) in
     sym earlier ∙ late
 
 pub all_late : (key : Key) (task : Task) (tasks : List Task) → is_earlier key task ≡ false → AllByRecursion (λ other. key_cmp task.key other.key ≡ Less) tasks → AllByRecursion (λ other. is_earlier key other ≡ false) tasks
@@ -44,7 +45,7 @@ pub all_before : (key : Key) (tasks : List Task) → AllByRecursion (λ task. ke
 all_before key [] = tt
 all_before key (task ∷ tasks) =
     cond_both (is_earlier key task) (task ∷ tasks_before key tasks) (tasks_before key tasks) (λ l. AllByRecursion (λ other. key_cmp other.key key ≡ Less) l)
-    (λ earlier. (Less_from_test _ earlier, all_before key tasks)) (λ _. all_before key tasks)
+    (λ earlier. (less_from_test _ earlier, all_before key tasks)) (λ _. all_before key tasks)
 
 between_step : (task other : Task) (tasks : List Task) (test : Bool) → is_earlier task.key other ≡ test → IsAscending (other ∷ tasks) → put_in task tasks ≡ tasks_before task.key tasks ++ task ∷ tasks_from task.key tasks
     → cond test (other ∷ put_in task tasks) (task ∷ other ∷ tasks)
@@ -74,7 +75,7 @@ put_in-front task (other ∷ tasks) all = ap (λ test. cond test (other ∷ put_
 
 behind_step : (p : Task → Bool) (task other : Task) (tasks : List Task) (test : Bool) → is_earlier task.key other ≡ true → filter p (put_in task tasks) ≡ put_in task (filter p tasks)
     → cond test (other ∷ filter p (put_in task tasks)) (filter p (put_in task tasks)) ≡ put_in task (cond test (other ∷ filter p tasks) (filter p tasks))
-behind_step p task other tasks true is rest = ap (λ l. other ∷ l) rest ∙ sym (put_in-behind task other (filter p tasks) (Less_from_test _ is))
+behind_step p task other tasks true is rest = ap (λ l. other ∷ l) rest ∙ sym (put_in-behind task other (filter p tasks) (less_from_test _ is))
 behind_step p task other tasks false is rest = rest
 
 -- one that is picked may be put in before or after

@@ -1,44 +1,25 @@
 -- What follows from the order of keys.
-use Rattle.std.specs.Cmp.{nat_cmp_total, tied_itself}
 use Rattle.std.specs.Cmp.Lexicographic.{slice_cmp}
 use Rattle.std.specs.declared.cmp.Ordering.{Ordering}
 use Rattle.std.specs.declared.cmp.Ordering.TheVariants.{Less, Equal, Greater}
-use Rattle.std.specs.Ordering.{nat_cmp, ordering_then, ordering_reverse, is_lt}
-use Rattle.std.proofs.Common.{◌≡◌, ◌≢◌, ℕ, ◌<◌, ◌≤◌, ◌⊎◌, inl, inr, true, List, [], ◌∷◌, ◌++◌, refl, sym, ◌∙◌, ap, arith}
+use Rattle.std.specs.Ordering.{nat_cmp, ordering_then, ordering_reverse}
+use Rattle.std.proofs.Common.{◌≡◌, ◌≢◌, ℕ, ◌<◌, ◌≤◌, ◌⊎◌, inl, inr, List, [], ◌∷◌, ◌++◌, refl, ◌∙◌, ap, arith}
 use Rattle.std.proofs.lemmas.Bool.Decides.{nat_tests}
 use Rattle.std.proofs.lemmas.Map.Lookups.{exact_unsigned, exact_bytes, exact_pairs}
+use Rattle.plain_laws.specs.Orderings.{nat_cmp-same, nat_cmp-below}
 use Rattle.task_order.specs.declared.key.Key.{Key}
 use Rattle.task_order.specs.Key.{key_cmp, key_cmp_total, IsExactOrder, ChildrenComeLater, ChildrenComeInTurn}
 use Rattle.task_order.specs.Laws.{EarlierIsConnected, EarlierIsTurned}
-
-nat_cmp-same : (n : ℕ) → nat_cmp n n ≡ Equal
-nat_cmp-same = tied_itself nat_cmp_total
-
-nat_cmp-below : (m n : ℕ) → m < n → nat_cmp m n ≡ Less
-nat_cmp-below m n below = grind (arith, nat_tests)
+use Rattle.task_order.specs.KeyLaws.{key_cmp-turned_back}
 
 -- keys that compare equal are the same
 pub key_cmp-exact : IsExactOrder
 key_cmp-exact a b equal =
     ap (λ (p : ℕ × List ℕ). record { prio = p.0; path = p.1 }) (exact_pairs nat_cmp (slice_cmp nat_cmp) exact_unsigned exact_bytes (a.prio, a.path) (b.prio, b.path) equal)
 
--- a key compares equal to itself
-pub key_cmp-same : (a : Key) → key_cmp a a ≡ Equal
-key_cmp-same = tied_itself key_cmp_total
-
--- an earlier key is another key
-pub differ_from_earlier : (a b : Key) → key_cmp a b ≡ Less → a ≢ b
-differ_from_earlier a b earlier same =
-    let equal : key_cmp a b ≡ Equal = ap (key_cmp a) (sym same) ∙ key_cmp-same a in
-    let never : Less ≡ Equal = sym earlier ∙ equal in
-    cc
-
 -- the other way round
 pub key_cmp-turned : (a b : Key) → key_cmp a b ≡ Greater → key_cmp b a ≡ Less
 key_cmp-turned a b greater = key_cmp_total.antisymm b a ∙ ap ordering_reverse greater
-
-pub key_cmp-turned_back : (a b : Key) → key_cmp a b ≡ Less → key_cmp b a ≡ Greater
-key_cmp-turned_back a b earlier = key_cmp_total.antisymm b a ∙ ap ordering_reverse earlier
 
 pub earlier_turned : EarlierIsTurned
 earlier_turned a b = (key_cmp-turned_back a b, key_cmp-turned b a)
@@ -50,11 +31,6 @@ connected_by a b Greater is differ = inr (key_cmp-turned a b is)
 
 pub earlier_connected : EarlierIsConnected
 earlier_connected a b = connected_by a b _ refl
-
-pub Less_from_test : (o : Ordering) → is_lt o ≡ true → o ≡ Less
-Less_from_test Less is = refl
-Less_from_test Equal is = cc
-Less_from_test Greater is = cc
 
 -- a path comes before each that goes on from it
 slice_cmp-longer : (path : List ℕ) (number : ℕ) → slice_cmp nat_cmp path (path ++ number ∷ []) ≡ Less

@@ -8,8 +8,9 @@ use Rattle.std.proofs.Common.{◌≡◌, ◌≢◌, ℕ, zero, suc, ◌+◌, ◌
 use Rattle.std.proofs.lemmas.Bool.{cases_lt}
 use Rattle.std.proofs.lemmas.Cmp.{ranked, by_ranked}
 use Rattle.std.proofs.lemmas.List.{take_at, drop_at, replicate-append-replicate}
+use Rattle.plain_laws.specs.Orderings.{nat_cmp-same, nat_cmp-below, nat_cmp-above}
 use Rattle.task_order.specs.PathCode.{digits, head_byte, item_rest, item, code_bytes, end_zeros, CanCode, number_of, rest_len, item_zeros, item_number, item_numbers, Reading, read_byte, read_on, read_all, numbers_of, IsCode, IsPath}
-use Rattle.task_order.specs.Comparing.{nat_cmp-same, nat_cmp-below, nat_cmp-above, reverse-then, then-decided, slice_cmp-behind, IsBelow, IsBelow-first, IsBelow-append, IsBelow-behind}
+use Rattle.task_order.specs.Comparing.{reverse-then, then-decided, slice_cmp-behind, IsBelow, IsBelow-first, IsBelow-append, IsBelow-behind}
 
 -- ---- digits
 

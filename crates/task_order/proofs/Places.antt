@@ -9,14 +9,16 @@ use Rattle.std.specs.List.Sorted.{IsPartitionedBy, IsPartitionPoint}
 use Rattle.std.specs.declared.cmp.Ordering.{Ordering}
 use Rattle.std.specs.declared.cmp.Ordering.TheVariants.{Less, Equal, Greater}
 use Rattle.std.specs.Ordering.{is_lt, is_le}
+use Rattle.plain_laws.specs.Orderings.{less_from_test}
+use Rattle.plain_laws.specs.Lists.{All-weaker, All-append, All-parts}
 use Rattle.task_order.specs.declared.key.Key.{Key}
 use Rattle.task_order.specs.declared.task.Task.{Task}
 use Rattle.task_order.specs.Key.{key_cmp, key_cmp_total}
 use Rattle.task_order.specs.TaskList.{IsAscending, is_earlier, tasks_before, tasks_from}
 use Rattle.task_order.specs.Blocks.{tasks_in, starts_by, IsGapless, block_at, IsPlace}
-use Rattle.task_order.proofs.KeyOrder.{key_cmp-exact, key_cmp-turned, key_cmp-turned_back, Less_from_test}
-use Rattle.task_order.proofs.TaskLists.{All-weaker, All-append, All-parts}
+use Rattle.task_order.proofs.KeyOrder.{key_cmp-exact, key_cmp-turned}
 use Rattle.task_order.proofs.Fronts.{before_and_from, all_before}
+use Rattle.task_order.specs.KeyLaws.{key_cmp-turned_back}
 
 -- ---- parts of an ascending list
 
@@ -48,7 +50,7 @@ ascending_from_parts (task ∷ tasks) others parts = (
 -- an earlier task has only earlier ones before it
 pub first_earlier : (key : Key) (task : Task) (tasks : List Task) → AllByRecursion (λ other. key_cmp task.key other.key ≡ Less) tasks → (j : ℕ) (d : Task) → j < length tasks → is_earlier key (get_or tasks j d) ≡ true → is_earlier key task ≡ true
 first_earlier key task [] all j d inside earlier = absurd (omega (arith, inside))
-first_earlier key task (other ∷ tasks) all zero d inside earlier = ap is_lt (key_cmp_total.trans task.key other.key key all.0 (Less_from_test _ earlier))
+first_earlier key task (other ∷ tasks) all zero d inside earlier = ap is_lt (key_cmp_total.trans task.key other.key key all.0 (less_from_test _ earlier))
 first_earlier key task (other ∷ tasks) all (suc j) d inside earlier = first_earlier key task tasks all.1 j d (omega (arith, inside)) earlier
 
 pub before-cons : (key : Key) (task : Task) (tasks : List Task) (test : Bool) → is_earlier key task ≡ test → tasks_before key (task ∷ tasks) ≡ cond test (task ∷ tasks_before key tasks) (tasks_before key tasks)

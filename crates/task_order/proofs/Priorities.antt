@@ -7,6 +7,7 @@ use Rattle.std.specs.Cmp.Lexicographic.{slice_cmp}
 use Rattle.std.specs.declared.cmp.Ordering.{Ordering}
 use Rattle.std.specs.declared.cmp.Ordering.TheVariants.{Greater}
 use Rattle.std.specs.Ordering.{nat_cmp, ordering_then, is_lt, is_le}
+use Rattle.plain_laws.specs.Orderings.{less_from_test}
 use Rattle.task_order.specs.declared.key.Key.{Key}
 use Rattle.task_order.specs.declared.task.Task.{Task}
 use Rattle.task_order.specs.Key.{key_cmp}
@@ -15,7 +16,6 @@ use Rattle.task_order.specs.Blocks.{starts_by, IsEndOfPriority}
 use Rattle.task_order.proofs.Fronts.{before-late}
 use Rattle.task_order.proofs.Places.{before-cons}
 use Rattle.task_order.proofs.Counts.{counts_late, count_within_list}
-use Rattle.task_order.proofs.KeyOrder.{Less_from_test}
 
 then_above : (m n : ℕ) (o : Ordering) → n < m → ordering_then (nat_cmp m n) o ≡ Greater
 then_above m n o above = grind (arith, nat_tests)
@@ -39,7 +39,7 @@ end_bounds key tasks place up end = end_bounds_by key tasks place up end (cases_
 -- ---- the place
 
 starts_by_test : (key : Key) (task : Task) (block : List Task) (test : Bool) → is_earlier key task ≡ test → IsAscending (task ∷ block) → 0 < length (tasks_before key (task ∷ block)) → starts_by key (task ∷ block) ≡ true
-starts_by_test key task block true is up some = ap is_le (Less_from_test _ is)
+starts_by_test key task block true is up some = ap is_le (less_from_test _ is)
 starts_by_test key task block false is up some = absurd (omega (arith, some, ap length (before-cons key task block false is), ap length (before-late key task block is up.0)))
 
 -- a block with an earlier task starts by the key

@@ -2,13 +2,13 @@
 use Rattle.std.proofs.Common.{◌≡◌, ◌≢◌, ℕ, zero, suc, ◌+◌, ◌<◌, ◌≤◌, inl, inr, false, List, [], ◌∷◌, ◌++◌, length, take, drop, set, refl, sym, ◌∙◌, ap, subst, arith, length-append, length-take, length-drop, length-set, add-one}
 use Rattle.std.specs.List.{AllByRecursion, insert, remove}
 use Rattle.std.specs.declared.cmp.Ordering.TheVariants.{Less}
+use Rattle.plain_laws.specs.Lists.{All-take, All-drop, All-append, All-parts}
 use Rattle.task_order.specs.declared.key.Key.{Key}
 use Rattle.task_order.specs.declared.task.Task.{Task}
 use Rattle.task_order.specs.Key.{key_cmp}
 use Rattle.task_order.specs.TaskList.{IsNewKey, is_earlier}
 use Rattle.task_order.specs.Blocks.{tasks_in, IsFilled, IsGapless, block_at, full_length, IsPlace, AreOthersFilled, IsFree}
-use Rattle.task_order.proofs.TaskLists.{All-append, All-parts}
-use Rattle.task_order.proofs.Cuts.{tasks_in-cut, take_more, take-all, All-take, All-drop}
+use Rattle.task_order.proofs.Cuts.{tasks_in-cut, take_more, take-all}
 use Rattle.task_order.proofs.Found.{late_and_other}
 
 -- ---- a block between others

@@ -1,65 +1,26 @@
 -- What follows for lists of tasks in key order.
-use Rattle.std.proofs.Common.{◌≡◌, ◌≢◌, ◌+◌, Bool, true, false, cond, List, [], ◌∷◌, ◌++◌, length, refl, sym, ◌∙◌, ap, arith}
+use Rattle.std.proofs.Common.{◌≡◌, ◌≢◌, Bool, true, false, cond, List, [], ◌∷◌, ◌++◌, refl, sym, ◌∙◌, ap, arith}
 use Rattle.std.specs.BTreeSet.{insert_key}
 use Rattle.std.specs.Prelude.{◌↔◌}
-use Rattle.std.specs.List.{AllByRecursion, filter}
+use Rattle.std.specs.List.{AllByRecursion}
 use Rattle.std.specs.List.Sorted.{IsPermutation, IsStrictlySortedBy}
 use Rattle.std.specs.declared.cmp.Ordering.{Ordering}
 use Rattle.std.specs.declared.cmp.Ordering.TheVariants.{Less, Equal, Greater}
 use Rattle.std.specs.Ordering.{match_ordering, is_lt, is_eq}
 use Rattle.std.proofs.lemmas.List.Sorted.{IsPermutation-refl, IsPermutation-cons, IsPermutation-trans, IsPermutation-swap}
+use Rattle.plain_laws.specs.Orderings.{less_from_test, equal_from_test}
 use Rattle.task_order.specs.declared.key.Key.{Key}
 use Rattle.task_order.specs.declared.task.Task.{Task}
 use Rattle.task_order.specs.Key.{key_cmp, key_cmp_total}
 use Rattle.task_order.specs.TaskList.{IsAscending, IsNewKey, put_in, put_all, has_key}
-use Rattle.task_order.proofs.KeyOrder.{key_cmp-exact, key_cmp-same, key_cmp-turned, key_cmp-turned_back, differ_from_earlier, Less_from_test}
-
--- ---- what holds of each task
-
-pub All-weaker : {X : Type 0} (P Q : X → Type 0) → ((x : X) → P x → Q x) → (xs : List X) → AllByRecursion P xs → AllByRecursion Q xs
-All-weaker P Q weaker [] all = tt
-All-weaker P Q weaker (x ∷ xs) all = (weaker x all.0, All-weaker P Q weaker xs all.1)
-
-pub All-append : {X : Type 0} (P : X → Type 0) (xs ys : List X) → AllByRecursion P xs → AllByRecursion P ys → AllByRecursion P (xs ++ ys)
-All-append P [] ys all rest = rest
-All-append P (x ∷ xs) ys all rest = (all.0, All-append P xs ys all.1 rest)
-
-pub All-parts : {X : Type 0} (P : X → Type 0) (xs ys : List X) → AllByRecursion P (xs ++ ys) → AllByRecursion P xs × AllByRecursion P ys
-All-parts P [] ys all = (tt, all)
-All-parts P (x ∷ xs) ys all = let rest : AllByRecursion P xs × AllByRecursion P ys = All-parts P xs ys all.1 in ((all.0, rest.0), rest.1)
-
-pub All-filter : {X : Type 0} (P : X → Type 0) (p : X → Bool) (xs : List X) → AllByRecursion P xs → AllByRecursion P (filter p xs)
-All-filter P p [] all = tt
-All-filter P p (x ∷ xs) all = elim (p x) as (λ test. AllByRecursion P (cond test (x ∷ filter p xs) (filter p xs))) [
-  | true ↦ (all.0, All-filter P p xs all.1)
-  | false ↦ All-filter P p xs all.1
-]
-
-pub filter-all : {X : Type 0} (p : X → Bool) (xs : List X) → AllByRecursion (λ x. p x ≡ true) xs → filter p xs ≡ xs
-filter-all p [] all = refl
-filter-all p (x ∷ xs) all = ap (λ test. cond test (x ∷ filter p xs) (filter p xs)) all.0 ∙ ap (λ rest. x ∷ rest) (filter-all p xs all.1)
-
-pub filter-none : {X : Type 0} (p : X → Bool) (xs : List X) → AllByRecursion (λ x. p x ≡ false) xs → filter p xs ≡ []
-filter-none p [] all = refl
-filter-none p (x ∷ xs) all = ap (λ test. cond test (x ∷ filter p xs) (filter p xs)) all.0 ∙ filter-none p xs all.1
-
--- some tasks of an ascending list ascend too
-pub IsAscending-filter : (p : Task → Bool) (tasks : List Task) → IsAscending tasks → IsAscending (filter p tasks)
-IsAscending-filter p [] up = tt
-IsAscending-filter p (task ∷ tasks) up = elim (p task) as (λ test. IsAscending (cond test (task ∷ filter p tasks) (filter p tasks))) [
-  | true ↦ (All-filter (λ other. key_cmp task.key other.key ≡ Less) p tasks up.0, IsAscending-filter p tasks up.1)
-  | false ↦ IsAscending-filter p tasks up.1
-]
+use Rattle.task_order.proofs.KeyOrder.{key_cmp-exact, key_cmp-turned}
+use Rattle.task_order.specs.TaskListLaws.{All-put_in, all_from_put_in, is_past}
+use Rattle.task_order.specs.KeyLaws.{key_cmp-same, differ_from_earlier, key_cmp-turned_back}
 
 -- ---- the test for a key
 
-pub Equal_from_test : (o : Ordering) → is_eq o ≡ true → o ≡ Equal
-Equal_from_test Less is = cc
-Equal_from_test Equal is = refl
-Equal_from_test Greater is = cc
-
 pub has_from_test : (key : Key) (task : Task) → has_key key task ≡ true → task.key ≡ key
-has_from_test key task is = key_cmp-exact task.key key (Equal_from_test _ is)
+has_from_test key task is = key_cmp-exact task.key key (equal_from_test _ is)
 
 pub test_from_has : (key : Key) (task : Task) → task.key ≡ key → has_key key task ≡ true
 test_from_has key task same = ap (λ k. is_eq (key_cmp k key)) same ∙ ap is_eq (key_cmp-same key)
@@ -87,41 +48,13 @@ put_in_from_insert_key task (other ∷ tasks) new =
 
 -- ---- one task put in
 
--- whether a task goes past another
-abbrev is_past : Task → Task → Bool
-is_past task other = is_lt (key_cmp other.key task.key)
-
-pub length-put_in : (task : Task) (tasks : List Task) → length (put_in task tasks) ≡ length tasks + 1
-length-put_in task [] = refl
-length-put_in task (other ∷ tasks) = elim (is_past task other) as (λ past. length (cond past (other ∷ put_in task tasks) (task ∷ other ∷ tasks)) ≡ length (other ∷ tasks) + 1) [
-  | true ↦ omega (arith, length-put_in task tasks)
-  | false ↦ omega arith
-]
-
--- what holds of the task and of the others holds of all, and the way back
-pub AllByRecursion-put_in : (P : Task → Type 0) (task : Task) (tasks : List Task) → P task → AllByRecursion P tasks → AllByRecursion P (put_in task tasks)
-AllByRecursion-put_in P task [] one all = (one, tt)
-AllByRecursion-put_in P task (other ∷ tasks) one all = elim (is_past task other) as (λ past. AllByRecursion P (cond past (other ∷ put_in task tasks) (task ∷ other ∷ tasks))) [
-  | true ↦ (all.0, AllByRecursion-put_in P task tasks one all.1)
-  | false ↦ (one, all)
-]
-
-pub all_from_put_in : (P : Task → Type 0) (task : Task) (tasks : List Task) → AllByRecursion P (put_in task tasks) → P task × AllByRecursion P tasks
-all_from_put_in P task [] all = all
-all_from_put_in P task (other ∷ tasks) all =
-    let by_case : (past : Bool) → AllByRecursion P (cond past (other ∷ put_in task tasks) (task ∷ other ∷ tasks)) → P task × AllByRecursion P (other ∷ tasks) = elim [
-      | true ↦ λ all. let rest : P task × AllByRecursion P tasks = all_from_put_in P task tasks all.1 in (rest.0, (all.0, rest.1))
-      | false ↦ λ all. all
-    ] in
-    by_case (is_past task other) all
-
 pub new_key_put_in : (key : Key) (task : Task) (tasks : List Task) → IsNewKey key (put_in task tasks) ↔ ((task.key ≢ key) × IsNewKey key tasks)
 new_key_put_in key task tasks =
-    (all_from_put_in (λ other. other.key ≢ key) task tasks, λ new. AllByRecursion-put_in (λ other. other.key ≢ key) task tasks new.0 new.1)
+    (all_from_put_in (λ other. other.key ≢ key) task tasks, λ new. All-put_in (λ other. other.key ≢ key) task tasks new.0 new.1)
 
 -- the key stays new where another task is put in
 pub IsNewKey-put_in : (key : Key) (task : Task) (tasks : List Task) → task.key ≢ key → IsNewKey key tasks → IsNewKey key (put_in task tasks)
-IsNewKey-put_in key task tasks differs new = AllByRecursion-put_in (λ other. other.key ≢ key) task tasks differs new
+IsNewKey-put_in key task tasks differs new = All-put_in (λ other. other.key ≢ key) task tasks differs new
 
 all_later : (key next : Key) (tasks : List Task) → key_cmp key next ≡ Less → AllByRecursion (λ other. key_cmp next other.key ≡ Less) tasks → AllByRecursion (λ other. key_cmp key other.key ≡ Less) tasks
 all_later key next [] earlier all = tt
@@ -142,7 +75,7 @@ put_in-last task (other ∷ tasks) all = put_in-behind task other tasks all.0 �
 
 ascending_step : (task other : Task) (tasks : List Task) (o : Ordering) → key_cmp other.key task.key ≡ o → other.key ≢ task.key → IsAscending (other ∷ tasks) → IsAscending (put_in task tasks)
     → IsAscending (cond (is_lt o) (other ∷ put_in task tasks) (task ∷ other ∷ tasks))
-ascending_step task other tasks Less is new up rest = (AllByRecursion-put_in (λ next. key_cmp other.key next.key ≡ Less) task tasks is up.0, rest)
+ascending_step task other tasks Less is new up rest = (All-put_in (λ next. key_cmp other.key next.key ≡ Less) task tasks is up.0, rest)
 ascending_step task other tasks Equal is new up rest = absurd (new (key_cmp-exact other.key task.key is))
 ascending_step task other tasks Greater is new up rest =
     let earlier : key_cmp task.key other.key ≡ Less = key_cmp-turned other.key task.key is in
@@ -182,7 +115,7 @@ stops_before_both task next other tasks rest false earlier not_past = stops_at_h
 earlier_step : (task next other : Task) (tasks : List Task) → key_cmp task.key next.key ≡ Less → (past : Bool) → is_past task other ≡ past
     → put_in task (put_in next tasks) ≡ put_in next (put_in task tasks) → put_in task (put_in next (other ∷ tasks)) ≡ put_in next (put_in task (other ∷ tasks))
 earlier_step task next other tasks earlier true is rest =
-    let before_task : key_cmp other.key task.key ≡ Less = Less_from_test _ is in
+    let before_task : key_cmp other.key task.key ≡ Less = less_from_test _ is in
     let before_next : key_cmp other.key next.key ≡ Less = key_cmp_total.trans other.key task.key next.key before_task earlier in
     ap (put_in task) (put_in-behind next other tasks before_next) ∙ put_in-behind task other (put_in next tasks) before_task ∙ ap (λ r. other ∷ r) rest
     ∙ sym (ap (put_in next) (put_in-behind task other tasks before_task) ∙ put_in-behind next other (put_in task tasks) before_next)
@@ -205,14 +138,6 @@ pub put_in-put_in : (task next : Task) (tasks : List Task) → task.key ≢ next
 put_in-put_in task next tasks differ = either_way task next tasks _ refl differ
 
 -- ---- several tasks put in
-
-pub length-put_all : (new tasks : List Task) → length (put_all new tasks) ≡ length tasks + length new
-length-put_all [] tasks = omega arith
-length-put_all (task ∷ new) tasks = omega (arith, length-put_all new (put_in task tasks), length-put_in task tasks)
-
-pub AllByRecursion-put_all : (P : Task → Type 0) (new tasks : List Task) → AllByRecursion P new → AllByRecursion P tasks → AllByRecursion P (put_all new tasks)
-AllByRecursion-put_all P [] tasks all_new all = all
-AllByRecursion-put_all P (task ∷ new) tasks all_new all = AllByRecursion-put_all P new (put_in task tasks) all_new.1 (AllByRecursion-put_in P task tasks all_new.0 all)
 
 pub put_all-append : (new more tasks : List Task) → put_all (new ++ more) tasks ≡ put_all more (put_all new tasks)
 put_all-append [] more tasks = refl

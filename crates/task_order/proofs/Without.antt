@@ -5,14 +5,16 @@ use Rattle.std.specs.List.{Contains, filter}
 use Rattle.std.specs.declared.cmp.Ordering.TheVariants.{Less}
 use Rattle.std.proofs.lemmas.Bool.{true≢false, not-true, cond_both, cond-true, cond-false}
 use Rattle.std.proofs.lemmas.List.Elements.{All-contains, recursion_from_All, filter_passes}
+use Rattle.plain_laws.specs.Lists.{All-weaker, filter-all}
+use Rattle.plain_laws.specs.Members.{cases, here, there}
 use Rattle.task_order.specs.declared.key.Key.{Key}
 use Rattle.task_order.specs.declared.task.Task.{Task}
 use Rattle.task_order.specs.Key.{key_cmp}
 use Rattle.task_order.specs.TaskList.{IsAscending, IsNewKey, put_in, has_key, without}
-use Rattle.task_order.proofs.KeyOrder.{differ_from_earlier}
-use Rattle.task_order.proofs.TaskLists.{has_from_test, test_from_has, All-weaker, filter-all, put_in-first, put_in-behind, IsNewKey-rest}
+use Rattle.task_order.proofs.TaskLists.{has_from_test, test_from_has, put_in-first, put_in-behind, IsNewKey-rest}
 use Rattle.task_order.proofs.Fronts.{filter-put_in-dropped, filter-put_in-kept}
-use Rattle.task_order.proofs.Distinct.{has_cases, has_first, has_later, later_than_first}
+use Rattle.task_order.proofs.Distinct.{later_than_first}
+use Rattle.task_order.specs.KeyLaws.{differ_from_earlier}
 
 -- whether a task stays where the one with the key is taken out
 abbrev pub stays : Key → Task → Bool
@@ -69,7 +71,7 @@ put_in_restores task (other ∷ tasks) up has =
     (λ rest. let earlier : key_cmp other.key task.key ≡ Less = later_than_first other task tasks up rest in
     ap (put_in task) (without-later task.key other tasks (differ_from_earlier other.key task.key earlier))
     ∙ put_in-behind task other (without task.key tasks) earlier ∙ ap (λ l. other ∷ l) (put_in_restores task tasks up.1 rest))
-    (has_cases other task tasks has)
+    (cases other task tasks has)
 
 -- ---- picking twice
 
@@ -94,16 +96,16 @@ filter_has : (p : Task → Bool) (tasks : List Task) (task : Task) → p task �
 filter_has p [] task kept has = has
 filter_has p (other ∷ tasks) task kept has =
     ⊎_elim
-    (λ same. subst (λ test. Contains (cond test (other ∷ filter p tasks) (filter p tasks)) task) (sym (ap p same ∙ kept)) (subst (λ t. Contains (other ∷ filter p tasks) t) same (has_first other (filter p tasks))))
+    (λ same. subst (λ test. Contains (cond test (other ∷ filter p tasks) (filter p tasks)) task) (sym (ap p same ∙ kept)) (subst (λ t. Contains (other ∷ filter p tasks) t) same (here other (filter p tasks))))
     (λ rest. cond_both (p other) (other ∷ filter p tasks) (filter p tasks) (λ l. Contains l task)
-    (λ _. has_later other task (filter p tasks) (filter_has p tasks task kept rest)) (λ _. filter_has p tasks task kept rest))
-    (has_cases other task tasks has)
+    (λ _. there other task (filter p tasks) (filter_has p tasks task kept rest)) (λ _. filter_has p tasks task kept rest))
+    (cases other task tasks has)
 
 has_filtered : (p : Task → Bool) (tasks : List Task) (task : Task) → Contains (filter p tasks) task → Contains tasks task
 has_filtered p [] task = λ has. has
 has_filtered p (other ∷ tasks) task = elim (p other) as (λ test. Contains (cond test (other ∷ filter p tasks) (filter p tasks)) task → Contains (other ∷ tasks) task) [
-  | true ↦ λ has. ⊎_elim (λ same. subst (λ t. Contains (other ∷ tasks) t) same (has_first other tasks)) (λ rest. has_later other task tasks (has_filtered p tasks task rest)) (has_cases other task (filter p tasks) has)
-  | false ↦ λ has. has_later other task tasks (has_filtered p tasks task has)
+  | true ↦ λ has. ⊎_elim (λ same. subst (λ t. Contains (other ∷ tasks) t) same (here other tasks)) (λ rest. there other task tasks (has_filtered p tasks task rest)) (cases other task (filter p tasks) has)
+  | false ↦ λ has. there other task tasks (has_filtered p tasks task has)
 ]
 
 pub without_others : (key : Key) (tasks : List Task) (task : Task) → Contains (without key tasks) task ↔ (Contains tasks task × (task.key ≢ key))

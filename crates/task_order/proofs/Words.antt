@@ -8,9 +8,10 @@ use Rattle.std.specs.Int.{from_be_bytes, w64}
 use Rattle.std.proofs.Math.Seq.{drop-cons}
 use Rattle.std.proofs.lemmas.List.{drop_all}
 use Rattle.std.proofs.lemmas.Bool.Decides.{nat_tests}
+use Rattle.plain_laws.specs.Orderings.{nat_cmp-same, nat_cmp-below}
 use Rattle.task_order.specs.PathCode.{number_of}
 use Rattle.task_order.specs.SharedBytes.{IsPadded}
-use Rattle.task_order.specs.Comparing.{nat_cmp-same, nat_cmp-below, then_assoc, then-Equal, then-decided}
+use Rattle.task_order.specs.Comparing.{then_assoc, then-Equal, then-decided}
 
 -- each is below 256
 abbrev pub AreBytes : List ℕ → Type 0

@@ -1,29 +1,11 @@
 -- How lists compare that begin alike or are joined of parts: laws with their proofs.
-use Rattle.std.specs.Cmp.{nat_cmp_total, tied_itself}
+use Rattle.std.specs.Cmp.{tied_itself}
 use Rattle.std.specs.Cmp.Lexicographic.{slice_cmp, nat_list_cmp_total}
 use Rattle.std.specs.declared.cmp.Ordering.{Ordering}
 use Rattle.std.specs.declared.cmp.Ordering.TheVariants.{Less, Equal, Greater}
 use Rattle.std.specs.Ordering.{nat_cmp, ordering_then, ordering_reverse}
 use Rattle.std.proofs.Common.{◌≡◌, ◌≢◌, ℕ, ◌<◌, ◌≤◌, List, [], ◌∷◌, ◌++◌, length, take, drop, take-append-drop, refl, sym, ◌∙◌, ap, append_assoc, arith}
-use Rattle.std.proofs.lemmas.Bool.Decides.{nat_tests}
-
-pub nat_cmp-same : (n : ℕ) → nat_cmp n n ≡ Equal
-nat_cmp-same = tied_itself nat_cmp_total
-
-pub nat_cmp-below : (m n : ℕ) → m < n → nat_cmp m n ≡ Less
-nat_cmp-below m n below = grind (arith, nat_tests)
-
-pub nat_cmp-above : (m n : ℕ) → n < m → nat_cmp m n ≡ Greater
-nat_cmp-above m n above = grind (arith, nat_tests)
-
-pub from_Less : (m n : ℕ) → nat_cmp m n ≡ Less → m < n
-from_Less m n is = grind (arith, nat_tests)
-
-pub from_Equal : (m n : ℕ) → nat_cmp m n ≡ Equal → m ≡ n
-from_Equal m n is = grind (arith, nat_tests)
-
-pub from_Greater : (m n : ℕ) → nat_cmp m n ≡ Greater → n < m
-from_Greater m n is = grind (arith, nat_tests)
+use Rattle.plain_laws.specs.Orderings.{nat_cmp-below}
 
 pub then-Equal : (o : Ordering) → ordering_then o Equal ≡ o
 then-Equal Less = refl

@@ -6,3 +6,5 @@ pub mod PathCode
 pub mod Blocks
 pub mod Comparing
 pub mod Left
+pub mod KeyLaws
+pub mod TaskListLaws

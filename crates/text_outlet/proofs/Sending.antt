@@ -1,27 +1,21 @@
 -- What a sink has got of a text, piece by piece.
-use Rattle.std.proofs.Common.{arith, ◌≡◌, ℕ, ◌+◌, ◌≤◌, Bool, true, false, List, [], ◌++◌, append-nil, append_assoc, length, take, length-append, Option, Some, None, refl, sym, ap, subst, ◌∙◌}
+use Rattle.std.proofs.Common.{arith, ◌≡◌, ℕ, ◌+◌, ◌≤◌, Bool, true, false, List, [], ◌++◌, append-nil, append_assoc, length, take, length-append, Option, refl, sym, ap, subst, ◌∙◌}
 use Rattle.std.proofs.Math.Seq.{take-append-add}
 use Rattle.std.proofs.lemmas.Bool.{true≢false}
 use Rattle.std.specs.Prelude.{Result, Ok, Err, OnOk, OnErr}
 use Rattle.std.specs.Result.{is_err}
 use Rattle.std.specs.Io.KnownBytes.{Appends}
+use Rattle.std.proofs.KnownBytes.{Appends-trans}
 use Rattle.outer_edge.specs.Transfers.{HasFailed, Transfer}
 use Rattle.outer_edge.specs.Writing.{AppendsFront}
 use Rattle.text_outlet.specs.Sending.{IsSent}
-
--- bytes appended after others
-appends_both : (a b c : Option (List ℕ)) (xs ys : List ℕ) → Appends a b xs → Appends b c ys → Appends a c (xs ++ ys)
-appends_both None b c xs ys first second = tt
-appends_both (Some a) None c xs ys first second = absurd first
-appends_both (Some a) (Some b) None xs ys first second = absurd second
-appends_both (Some a) (Some b) (Some c) xs ys first second = rw (second, first) (append_assoc a xs ys)
 
 -- a front of the last piece, as a front of all
 front_behind : (a b c : Option (List ℕ)) (front piece text : List ℕ) → text ≡ front ++ piece → Appends a b front → AppendsFront b c piece → AppendsFront a c text
 front_behind a b c front piece text whole first last =
     let within : length front + last.0 ≤ length text = omega (arith, ap length whole, length-append front piece, last.1) in
     let taken : take (length front + last.0) text ≡ front ++ take last.0 piece = ap (take (length front + last.0)) whole ∙ take-append-add front piece last.0 in
-    (length front + last.0, within, subst (Appends a c) (sym taken) (appends_both a b c front (take last.0 piece) first last.2))
+    (length front + last.0, within, subst (Appends a c) (sym taken) (Appends-trans a b c front (take last.0 piece) first last.2))
 
 -- ---- what is sent
 
@@ -50,7 +44,7 @@ module _ (before middle after : Option (List ℕ)) (faults_before faults_middle 
   held_written sent written same =
       let so = sent.so_far refl in
       record {
-        so_far = λ none. (so.0 ++ held, so.1 ∙ sym (append-nil (so.0 ++ held)), (appends_both before middle after so.0 held so.2.0 written, same ∙ so.2.1));
+        so_far = λ none. (so.0 ++ held, so.1 ∙ sym (append-nil (so.0 ++ held)), (Appends-trans before middle after so.0 held so.2.0 written, same ∙ so.2.1));
         since = λ failed. absurd (true≢false (sym failed));
         never_falls = omega (arith, same, so.2.1);
       }

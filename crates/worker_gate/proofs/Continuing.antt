@@ -3,6 +3,7 @@ use Rattle.std.proofs.Common.{◌≡◌, List, [], ◌++◌, Option, Some, None,
 use Rattle.std.specs.Prelude.{IsPermutation}
 use Rattle.std.specs.Option.{option_or}
 use Rattle.std.proofs.lemmas.List.Sorted.{IsPermutation-append_comm, IsPermutation-append_left, IsPermutation-append_right, IsPermutation-refl, IsPermutation-sym, IsPermutation-trans}
+use Rattle.plain_laws.specs.Options.{option_or-none}
 use Rattle.task_order.specs.declared.key.Key.{Key}
 use Rattle.cell_store.specs.Values.{values_of}
 use Rattle.app_laws.specs.Applications.{Application}
@@ -12,20 +13,15 @@ use Rattle.run_laws.specs.Moves.{MarksStay}
 use Rattle.worker_gate.specs.Laws.{MovesContinue, OriginsContinue, SameSumsContinue, new_mark}
 use Rattle.worker_gate.proofs.Sums.{no_first, no_second}
 
--- what nobody marked, or one alone
-or_none : (over : Option OverCause) → option_or over None ≡ over
-or_none None = refl
-or_none (Some cause) = refl
-
 -- the mark of all, once a move has set one or found that one stands
 mark_after : (over others old now : Option OverCause) → old ≡ option_or over others → ((cause : OverCause) → old ≡ Some cause → now ≡ Some cause)
     → now ≡ option_or (option_or over (new_mark old now)) others
 mark_after over others None now was stays =
     let own : over ≡ None = no_first over others (sym was) in
     let other : others ≡ None = no_second over others (sym was) in
-    sym (ap (λ (mark : Option OverCause). option_or (option_or mark now) others) own ∙ ap (λ (mark : Option OverCause). option_or now mark) other ∙ or_none now)
+    sym (ap (λ (mark : Option OverCause). option_or (option_or mark now) others) own ∙ ap (λ (mark : Option OverCause). option_or now mark) other ∙ option_or-none now)
 mark_after over others (Some cause) now was stays =
-    stays cause refl ∙ was ∙ ap (λ (mark : Option OverCause). option_or mark others) (sym (or_none over))
+    stays cause refl ∙ was ∙ ap (λ (mark : Option OverCause). option_or mark others) (sym (option_or-none over))
 
 -- the keys that ended come in between
 keys_between : (ended own others : List Key) → IsPermutation (ended ++ (own ++ others)) ((own ++ ended) ++ others)

@@ -5,13 +5,13 @@ use Rattle.std.specs.List.{flat_map}
 use Rattle.std.specs.Option.{option_or}
 use mathlib.Core.Option.{some, some-injective}
 use lib.ListN.{get_elem?}
-use Rattle.run_laws.specs.Lists.{pairwise-filter}
 use Rattle.plain_laws.specs.Without.{kept_from, kept_in}
 use Rattle.atomic_table.specs.Table.{Joins, State}
 use Rattle.atomic_table.proofs.Lists.{at_set, set_else}
 use Rattle.std.proofs.lemmas.List.Sorted.{IsPermutation-append_right, IsPermutation-trans}
 use Rattle.app_laws.specs.Applications.{Application}
 use Rattle.app_laws.specs.Order.{Pairwise}
+use Rattle.app_laws.specs.PairLaws.{Pairwise-filter}
 use Rattle.crew.specs.declared.answers.OverCause.{OverCause}
 use Rattle.graph_update.specs.Engine.{EngineState}
 use Rattle.worker_gate.specs.declared.view.View.{View}
@@ -140,7 +140,7 @@ module _ {A V : Type 0} {meaning : A → Application V} {origin : EngineState A 
     few = subst (λ (u : Seen A V). suc u.splits < 2 ^ 32) first_is rule.numbered.few;
     seats = λ place u here. its_seat place u (stands place u here);
     unjoined = λ place. (now_unjoined place, (λ is. by_stand place is.1.0 is.0 is.1.2 (stands place is.1.0 is.1.1)));
-    once = pairwise-filter (λ one other. one ≢ other) (λ x. not (x == w.number)) v.unjoined (subst (λ (u : Seen A V). Pairwise (λ one other. one ≢ other) u.unjoined) first_is rule.numbered.once);
+    once = Pairwise-filter (λ one other. one ≢ other) (λ x. not (x == w.number)) v.unjoined (subst (λ (u : Seen A V). Pairwise (λ one other. one ≢ other) u.unjoined) first_is rule.numbered.once);
     no_others = λ place u here. no_others place u (stands (suc place) u here);
   }
 

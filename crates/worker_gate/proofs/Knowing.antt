@@ -6,7 +6,9 @@ use Rattle.std.specs.Option.{option_or}
 use Rattle.std.specs.Ordering.{is_lt}
 use Rattle.std.proofs.lemmas.Bool.{and_parts, true≢false}
 use Rattle.std.specs.declared.cmp.Ordering.TheVariants.{Less}
-use Rattle.plain_laws.specs.Lists.{All-front, All-map, All-shuffled}
+use Rattle.plain_laws.specs.Lists.{All-front, All-map, All-shuffled, All-swapped, All-weaker}
+use Rattle.plain_laws.specs.Members.{all_at, in_filter, none_passes}
+use Rattle.plain_laws.specs.Bools.{false_from_not}
 use Rattle.task_order.specs.declared.key.Key.{Key}
 use Rattle.task_order.specs.Key.{key_cmp}
 use Rattle.rw_sets.specs.Accesses.{Conflicts, conflicts_with}
@@ -23,9 +25,8 @@ use Rattle.app_laws.specs.Order.{Pairwise}
 use Rattle.run_laws.specs.Basis.{LowerLaws}
 use Rattle.run_laws.specs.CourseLaws.{CoursesMeanTheSequentialRun, keys_of}
 use Rattle.run_laws.specs.Jobs.{Job}
-use Rattle.run_laws.specs.Lists.{all_at, all-swapped, all-weaker, in_filter, none_passes}
 use Rattle.run_laws.specs.Moves.{Moved}
-use Rattle.run_laws.specs.NodeLists.{all-tasks, false_where_not}
+use Rattle.run_laws.specs.NodeLists.{all-tasks}
 use Rattle.run_laws.specs.Progress.{Progress}
 use Rattle.run_laws.specs.Sound.{IsOfNode, IsSound, is_unblocked}
 use Rattle.graph_update.specs.Engine.{EngineState}
@@ -50,7 +51,7 @@ module _ {V : Type 0} (app : Application V) (lower : LowerLaws) (nodes : List No
   none_earlier : (node other : Node) → Contains nodes node → Contains nodes other → node.running ≡ true → key_cmp other.task.key node.task.key ≡ Less → ¬ Conflicts other.set node.set
   none_earlier node other here there runs less conflict =
       let free = all_at (λ (node : Node). node.running ≡ true → is_unblocked app nodes node ≡ true) nodes node unblocked here runs in
-      let clear : is_blocked nodes node ≡ false = false_where_not (is_blocked nodes node) (and_parts (not (is_blocked nodes node)) _ free).0 in
+      let clear : is_blocked nodes node ≡ false = false_from_not (is_blocked nodes node) (and_parts (not (is_blocked nodes node)) _ free).0 in
       let earlier : Contains (earlier_than node.task.key nodes) other =
       in_filter (λ (other : Node). is_lt (key_cmp other.task.key node.task.key)) nodes other there (ap is_lt less) in
       let no : conflicts_with other.set node.set ≡ false =
@@ -72,11 +73,11 @@ gone_with_entries : NewKeysFindNone → (nodes : List Node) (entries : List Entr
     → AllByRecursion (λ (key : Key). node_with_key nodes key ≡ None) (keys_of entries)
 gone_with_entries new_keys nodes entries no_nodes =
     All-map (λ (key : Key). node_with_key nodes key ≡ None) (λ (entry : Entry). entry.0) entries
-    (all-weaker (λ (entry : Entry). AllByRecursion (λ (node : Node). entry.0 ≢ node.task.key) nodes) (λ (entry : Entry). node_with_key nodes entry.0 ≡ None)
+    (All-weaker (λ (entry : Entry). AllByRecursion (λ (node : Node). entry.0 ≢ node.task.key) nodes) (λ (entry : Entry). node_with_key nodes entry.0 ≡ None)
     (λ entry differ. (new_keys nodes entry.0).1
     (all-tasks (λ task. task.key ≢ entry.0) nodes (λ node has same. all_at (λ (node : Node). entry.0 ≢ node.task.key) nodes node differ has (sym same))))
     entries
-    (all-swapped (λ (entry : Entry) (node : Node). entry.0 ≢ node.task.key) entries nodes no_nodes))
+    (All-swapped (λ (entry : Entry) (node : Node). entry.0 ≢ node.task.key) entries nodes no_nodes))
 
 -- ---- all of it
 

@@ -1,7 +1,7 @@
 use Rattle.std.proofs.Common.{refl, sym, ◌∙◌, subst}
 use Rattle.cell_store.specs.Cells.{AreHome}
 use Rattle.std.proofs.lemmas.Result.{IfOk-weaker}
-use Rattle.app_laws.proofs.Acting.{ready, are_home, never_out, known_is, new_is, children_are, text_is}
+use Rattle.app_laws.specs.ActingLaws.{ready, are_home, never_out, known_is, new_is, children_are, text_is}
 use Rattle.app_laws.proofs.serial_run.act.Goals as goal
 
 pub unreachable-requires : goal.unreachable-requires

@@ -1,6 +1,7 @@
 use Rattle.std.proofs.Common.{◌≡◌, ◌≤◌, List, [], ◌++◌, length, refl, sym, ap, ◌∙◌, subst, arith}
 use Rattle.std.specs.List.{AllByRecursion}
 use Rattle.std.proofs.lemmas.Result.{err_from_is_err_and}
+use Rattle.plain_laws.specs.Options.{where_none}
 use Rattle.task_order.specs.declared.start.Start.{Start}
 use Rattle.task_order.specs.TaskList.{IsNewKey, put_all}
 use Rattle.output_log.specs.Entries.{joined_texts}
@@ -10,11 +11,11 @@ use Rattle.app_laws.specs.Execution.{children_from, first_from, start_of}
 use Rattle.app_laws.specs.Lower.{LowerLaws}
 use Rattle.app_laws.proofs.Reached.{IsReached, reached_at_start, over_at_start, counted}
 use Rattle.app_laws.proofs.Running.{keeps_fit, not_earlier, starts_of_handed, length-handed, handed_not_earlier}
-use Rattle.app_laws.proofs.Stepping.{at_none, IsRunning, cells_fit, task_fit, none_earlier, children_new, ends_under, few_pending, over_next, stepped, still_below, text_written, under_at_start}
+use Rattle.app_laws.proofs.Stepping.{IsRunning, cells_fit, task_fit, none_earlier, children_new, ends_under, few_pending, over_next, stepped, still_below, text_written, under_at_start}
 use Rattle.app_laws.proofs.UnderNames.{still_under_names}
-use Rattle.app_laws.proofs.Steps.{after_none}
 use Rattle.app_laws.proofs.serial_run.counted_run.Given.{Over}
 use Rattle.app_laws.proofs.serial_run.counted_run.Goals as goal
+use Rattle.app_laws.specs.StepLaws.{after_none}
 
 running : (g : Over) → LowerLaws → (app : g.row.A.Denot) → IsLawful (g.A.App.meaning app) → (cells : List g.row.A-Val.Denot) (first : List Start) → (g.A.App.meaning app).is_fit_cells cells → AreFitStarts (g.A.App.meaning app) first
     → IsRunning (g.A.App.meaning app).is_fit_cells (g.A.App.meaning app).is_fit_task (g.A.App.meaning app).act cells first
@@ -155,7 +156,7 @@ pub returns-clause-run : goal.returns-clause-run
 returns-clause-run g c =
     record {
       end = _;
-      ends = ends_under (running g c.lower_laws.ensures c.args.app.now (c.lawful.ensures c.args.app.now) c.args.cells.items c.args.first c.requires.fit_cells c.requires.fit_first) c.loop-task.invariant.reached c.loop-task.invariant.under (at_none c.take_first.result (c.loop-task.pending ≡ []) c.in_default.not-Some c.take_first.ensures.empty);
+      ends = ends_under (running g c.lower_laws.ensures c.args.app.now (c.lawful.ensures c.args.app.now) c.args.cells.items c.args.first c.requires.fit_cells c.requires.fit_first) c.loop-task.invariant.reached c.loop-task.invariant.under (where_none c.take_first.result (c.loop-task.pending ≡ []) c.in_default.not-Some c.take_first.ensures.empty);
       store = c.loop-task.invariant.home ∙ ap homes c.loop-task.invariant.reached.cells-are;
       text = c.loop-task.invariant.text;
       count = counted c.loop-task.invariant.reached refl;

@@ -1,5 +1,7 @@
-use Rattle.std.proofs.Common.{◌≡◌, ◌++◌, List, [], length, sym, ap, ◌∙◌, subst, arith, append-nil}
+use Rattle.std.proofs.Common.{◌≡◌, List, [], length, sym, ap, ◌∙◌, subst, arith}
 use Rattle.std.proofs.lemmas.Result.{IfOk-weaker}
+use Rattle.plain_laws.specs.Options.{where_none}
+use Rattle.plain_laws.specs.Lists.{all_taken}
 use Rattle.task_order.specs.declared.start.Start.{Start}
 use Rattle.task_order.specs.declared.task.Task.{Task}
 use Rattle.task_order.specs.TaskList.{put_all}
@@ -8,22 +10,17 @@ use Rattle.app_laws.specs.Names.{AreListed}
 use Rattle.app_laws.specs.Order.{Pairwise}
 use Rattle.app_laws.specs.RenamingLaws.{as_many_listed}
 use Rattle.app_laws.specs.Renumbering.{AreRenumbered}
-use Rattle.app_laws.proofs.Apart.{TasksApart}
-use Rattle.app_laws.proofs.Stepping.{at_none}
 use Rattle.app_laws.proofs.serial_run.renamed.Goals as goal
-
--- where none is left, all were taken
-all_taken : (taken left whole : List Task) → left ≡ [] → taken ++ left ≡ whole → taken ≡ whole
-all_taken taken left whole none parts = sym (append-nil taken) ∙ ap (λ tasks. taken ++ tasks) (sym none) ∙ parts
+use Rattle.app_laws.specs.ApartLaws.{TasksApart}
 
 pub starts_by_path-requires : goal.starts_by_path-requires
 starts_by_path-requires c =
-    let none = at_none c.take_first.result (c.loop-task.pending ≡ []) c.in_default.not-Some c.take_first.ensures.empty in
+    let none = where_none c.take_first.result (c.loop-task.pending ≡ []) c.in_default.not-Some c.take_first.ensures.empty in
     subst (λ (tasks : List Task). Pairwise TasksApart tasks) (sym (all_taken c.loop-task.tasks.items c.loop-task.pending c.args.pending none c.loop-task.invariant)) c.requires.apart
 
 pub first_tasks-requires : goal.first_tasks-requires
 first_tasks-requires c =
-    let none = at_none c.take_first.result (c.loop-task.pending ≡ []) c.in_default.not-Some c.take_first.ensures.empty in
+    let none = where_none c.take_first.result (c.loop-task.pending ≡ []) c.in_default.not-Some c.take_first.ensures.empty in
     let all = all_taken c.loop-task.tasks.items c.loop-task.pending c.args.pending none c.loop-task.invariant in
     record {
       few = omega (arith, ap length c.deref.ensures.value, as_many_listed c.loop-task.tasks.items c.in_ok-first.first.items c.in_ok-first.ensures, ap length all, c.requires.few);
@@ -31,7 +28,7 @@ first_tasks-requires c =
 
 pub returns : goal.returns
 returns c =
-    let none = at_none c.take_first.result (c.loop-task.pending ≡ []) c.in_default.not-Some c.take_first.ensures.empty in
+    let none = where_none c.take_first.result (c.loop-task.pending ≡ []) c.in_default.not-Some c.take_first.ensures.empty in
     let all = all_taken c.loop-task.tasks.items c.loop-task.pending c.args.pending none c.loop-task.invariant in
     let first = c.in_ok-first.first.items in
     let listed = subst (λ (tasks : List Task). AreListed tasks first) all c.in_ok-first.ensures in

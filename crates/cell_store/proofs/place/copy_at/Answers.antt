@@ -2,9 +2,10 @@ use Rattle.std.proofs.Common.{◌≡◌, get_or, sym, arith, false}
 use Rattle.std.proofs.lemmas.List.{get_or_default}
 use Rattle.rw_sets.specs.declared.access.Access.TheVariants.{Read}
 use Rattle.rw_sets.specs.Accesses.{is_write}
+use Rattle.rw_sets.specs.AccessLaws.{has_in_place}
 use Rattle.cell_store.specs.declared.cell.Cell.TheVariants.{Out}
 use Rattle.cell_store.proofs.Copies.{copy_of_read}
-use Rattle.cell_store.proofs.Locations.{has_in_place, home_in_range}
+use Rattle.cell_store.proofs.Locations.{home_in_range}
 use Rattle.cell_store.proofs.place.copy_at.Goals as goal
 
 pub offset_bounds-cells-loc : goal.offset_bounds-cells-loc

@@ -2,9 +2,9 @@ use Rattle.std.proofs.Common.{◌≡◌, ◌++◌, [], sym, ap, subst, ◌∙◌
 use Rattle.std.specs.Prelude.{Contains}
 use Rattle.std.specs.List.{AllByRecursion}
 use Rattle.std.proofs.lemmas.List.{append-nil}
+use Rattle.plain_laws.specs.Members.{all_from}
 use Rattle.kdg_graph.specs.Edges.{sources_of}
 use Rattle.kdg_graph.specs.Nodes.{tasks_of}
-use Rattle.run_laws.specs.Lists.{all_from}
 use Rattle.graph_update.specs.Engine.{HaveFixedSets}
 use Rattle.graph_update.proofs.ClearIds.{answer_is, clear_are_safe, next_passed, safe_ids}
 use Rattle.graph_update.proofs.acting.list_clear.Goals as goal

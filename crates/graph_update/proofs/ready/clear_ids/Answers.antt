@@ -3,11 +3,11 @@ use Rattle.std.specs.Prelude.{Contains}
 use Rattle.std.specs.List.{AllByRecursion}
 use Rattle.std.proofs.lemmas.List.{append-nil}
 use Rattle.std.proofs.lemmas.Option.{get_or_from_slice_get, slice_get_within}
+use Rattle.plain_laws.specs.Members.{all_at, all_from}
 use Rattle.kdg_graph.specs.Edges.{sources_of}
 use Rattle.kdg_graph.specs.Nodes.{tasks_of}
 use Rattle.graph_update.specs.Engine.{HaveFixedSets}
 use Rattle.run_laws.specs.Events.{IsOfClear}
-use Rattle.run_laws.specs.Lists.{all_at, all_from}
 use Rattle.graph_update.proofs.ClearIds.{answer_is, clear_are_safe, next_passed, safe_ids}
 use Rattle.graph_update.proofs.ReadyIds.{known_is_safe}
 use Rattle.graph_update.proofs.ready.clear_ids.Goals as goal

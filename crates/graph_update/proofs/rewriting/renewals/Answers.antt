@@ -1,7 +1,8 @@
 use Rattle.std.proofs.Common.{◌≡◌, ◌∙◌, subst}
 use Rattle.std.specs.Prelude.{IfSome}
 use Rattle.kdg_graph.specs.Edges.{laters_of}
-use Rattle.graph_update.proofs.Renewing.{all_renewed, has_next, none_renewed, one_more, some_node, step_within, steps_within}
+use Rattle.kdg_graph.specs.NodeLaws.{found_node}
+use Rattle.graph_update.proofs.Renewing.{all_renewed, has_next, none_renewed, one_more, step_within, steps_within}
 use Rattle.graph_update.proofs.rewriting.renewals.Goals as goal
 
 pub loop-node-init : goal.loop-node-init
@@ -16,7 +17,7 @@ loop-node-init g c = (
 
 pub renewed-requires-clause-later : goal.renewed-requires-clause-later
 renewed-requires-clause-later g c κs within =
-    let ended = some_node c.args.graph.now c.args.ended c.requires.there in
+    let ended = found_node c.args.graph.now c.args.ended c.requires.there in
     has_next (g.A.App.meaning c.args.app.now) c.args.store.now c.args.graph.now ended.0 c.args.steps.now c.loop-node.node-iterator c.loop-node.changes.items c.loop-node.steps
     (c.loop-node.invariant.2 ended.0 ended.1) c.in-Some.node c.next.new.self c.in-Some.ensures.steps c.node_laws.ensures.have_ids c.later_of-node-items.ensures.graph
 

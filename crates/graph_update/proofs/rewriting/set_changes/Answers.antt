@@ -1,8 +1,9 @@
 use Rattle.std.proofs.Common.{refl, ap}
 use Rattle.std.proofs.lemmas.Result.{IfOk-weaker}
 use Rattle.kdg_graph.specs.Rewrite.{with_sets, without}
+use Rattle.kdg_graph.specs.NodeLaws.{found_node}
 use Rattle.graph_update.proofs.FixedSets.{others_same}
-use Rattle.graph_update.proofs.Renewing.{are_changes, some_node}
+use Rattle.graph_update.proofs.Renewing.{are_changes}
 use Rattle.graph_update.proofs.rewriting.set_changes.Goals as goal
 
 pub returns-then-sets_are_fixed-clause-same : goal.returns-then-sets_are_fixed-clause-same
@@ -12,7 +13,7 @@ returns-then-sets_are_fixed-clause-same g c node is =
 
 pub returns-clause-changes : goal.returns-clause-changes
 returns-clause-changes g c =
-    let ended = some_node c.args.graph.now c.args.ended c.requires.there in
+    let ended = found_node c.args.graph.now c.args.ended c.requires.there in
     IfOk-weaker c.renewals.result _ _
     (λ changes are. are_changes (g.A.App.meaning c.args.app.now) c.args.store.now c.args.graph.now ended.0 c.later_laws.ensures.may_change c.requires.graph c.args.ended ended.1 changes.items (are ended.0 ended.1))
     c.renewals.ensures.changes

@@ -1,6 +1,7 @@
 use Rattle.std.proofs.Common.{arith}
+use Rattle.plain_laws.specs.Lists.{nothing_left}
 use Rattle.worker_gate.specs.declared.post.Post.{Post}
-use Rattle.hall_trials.proofs.Posts.{all_joined, last_here, last_unjoined, nothing_left, one_joined}
+use Rattle.hall_trials.proofs.Posts.{all_joined, last_here, last_unjoined, one_joined}
 use Rattle.hall_trials.proofs.team.join_all.Goals as goal
 
 pub join-requires-clause-here : goal.join-requires-clause-here

@@ -1,6 +1,7 @@
 use Rattle.std.proofs.Common.{◌∙◌, ℕ, sym, subst}
+use Rattle.plain_laws.specs.Ranges.{down_from}
 use Rattle.worker_gate.specs.declared.post.Post.{Post}
-use Rattle.hall_trials.specs.Team.{IsFirst, down_from}
+use Rattle.hall_trials.specs.Team.{IsFirst}
 use Rattle.hall_trials.proofs.Posts.{may_work, seats_after}
 use Rattle.hall_trials.proofs.team.work_at.Goals as goal
 

@@ -1,7 +1,8 @@
 use Rattle.std.proofs.Common.{◌≡◌, IsPermutation, List, is_lt, rules, subst}
 use Rattle.std.proofs.lemmas.Fn.{always_returns_same}
+use Rattle.plain_laws.specs.Lists.{All-shuffled}
 use Rattle.kdg_graph.proofs.Common.{Arrival, IsPermutation-map, NodeId, TellsItsKey, arrival_cmp, arrived}
-use Rattle.kdg_graph.proofs.Listed.{all_moved, earliest_first}
+use Rattle.kdg_graph.proofs.Listed.{earliest_first}
 use Rattle.kdg_graph.proofs.source_lane.order_arrivals.Goals as goal
 
 pub returns-then-arrivals-gt1-clause-moved : goal.returns-then-arrivals-gt1-clause-moved
@@ -9,7 +10,7 @@ returns-then-arrivals-gt1-clause-moved c =
     subst (λ (ids : List NodeId). IsPermutation ids (arrived c.sort_unstable_by.new.self)) c.look_up.ensures.ids (IsPermutation-map (λ (arrival : Arrival). arrival.id) c.look_up.new.arrivals c.sort_unstable_by.new.self c.sort_unstable_by.ensures.permutation)
 
 pub returns-then-arrivals-gt1-clause-told : goal.returns-then-arrivals-gt1-clause-told
-returns-then-arrivals-gt1-clause-told c _ = all_moved (TellsItsKey c.args.nodes.now.nodes) c.look_up.new.arrivals c.sort_unstable_by.new.self c.look_up.ensures.told c.sort_unstable_by.ensures.permutation
+returns-then-arrivals-gt1-clause-told c _ = All-shuffled (TellsItsKey c.args.nodes.now.nodes) c.look_up.new.arrivals c.sort_unstable_by.new.self c.sort_unstable_by.ensures.permutation c.look_up.ensures.told
 
 pub returns-then-arrivals-gt1-clause-in_turn : goal.returns-then-arrivals-gt1-clause-in_turn
 returns-then-arrivals-gt1-clause-in_turn c =

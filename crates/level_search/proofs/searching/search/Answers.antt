@@ -3,7 +3,7 @@ use Rattle.std.specs.List.{AllByRecursion}
 use Rattle.std.proofs.lemmas.Bool.{false≢true}
 use Rattle.std.proofs.lemmas.List.{length-replicate}
 use Rattle.cell_store.specs.Values.{homes, values_of}
-use Rattle.level_walk.proofs.Together.{first_fit}
+use Rattle.level_walk.specs.VisitLaws.{first_fit}
 use Rattle.level_search.specs.Counts.{IsMost}
 use Rattle.level_search.specs.Turns.{IsVertexOf, Left, after_level, visited}
 use Rattle.level_search.proofs.Course.{HasCome, after, ends_here, has_begun, level_done, level_within, next_within, rounds_here}
@@ -70,7 +70,7 @@ pub returns-clause-rounds : goal.returns-clause-rounds
 returns-clause-rounds c = rounds_here c.args.walk.now.pattern c.args.walk.now.from c.args.limit c.loop-found.level c.loop-found.ended c.loop-found.rounds c.loop-found.found c.loop-found.invariant (c.is_done.ensures.0 c.loop-found-test.false)
 
 pub returns-clause-start : goal.returns-clause-start
-returns-clause-start c = (levels_fit c.args.walk.now.pattern c.count-count.ensures.together _ (length-replicate _ _), first_fit c.args.walk.now.pattern c.count-count.ensures.sound c.args.walk.now.from c.from-from.ensures.some)
+returns-clause-start c = (levels_fit c.args.walk.now.pattern c.count-count.ensures.together _ (length-replicate _ _), first_fit c.args.walk.now.pattern c.args.walk.now.from c.from-from.ensures.some)
 
 pub returns-clause-fit : goal.returns-clause-fit
 returns-clause-fit c =

@@ -4,8 +4,6 @@ pub returns : goal.returns
 returns g c = λ app. record {
   lawful = c.lawful.ensures app;
   marked = c.marked_laws.ensures app;
-  turned = c.earlier_laws.ensures.turned;
-  equal = c.earlier_laws.ensures.equal;
   unbarred = c.free_laws.ensures;
   values = c.value_laws.ensures.values;
 }

@@ -1,5 +1,5 @@
 use Rattle.std.proofs.Common.{sym, ◌∙◌}
-use Rattle.app_laws.proofs.Acting.{never_out}
+use Rattle.app_laws.specs.ActingLaws.{never_out}
 use Rattle.mark_rounds.proofs.marking.declared_set.Goals as goal
 
 pub unreachable-requires : goal.unreachable-requires

@@ -1,7 +1,7 @@
 use Rattle.std.proofs.Common.{rules, arith, ◌++◌, take}
 use Rattle.std.proofs.lemmas.Grind.{common_steps}
+use Rattle.std.proofs.KnownBytes.{Consumes-trans}
 use Rattle.outer_edge.specs.Transfers.{BringsAtMost, BringsMore, transfer_of}
-use Rattle.outer_edge.proofs.Known.{Consumes-append}
 use Rattle.outer_edge.proofs.whole_input.read_all_counted.Goals as goal
 
 pub returns-in-Got-clause-reads_all : goal.returns-in-Got-clause-reads_all
@@ -11,7 +11,7 @@ returns-in-Got-clause-reads_all g c =
     let more : BringsMore c.args.limit (transfer_of g.S.Source.remaining g.S.Source.faults c.args.source.now c.counted_read.new.source) = (
       c.loop-count.text ++ take c.in-Got.count c.counted_read.new.buffer,
       grind (arith, common_steps, c.if-count-limit.true, c.len.ensures, i.within, got.1),
-      Consumes-append _ _ _ _ _ i.came got.2,
+      Consumes-trans _ _ _ _ _ i.came got.2,
     ) in
     record {
       ok = search rules;
@@ -30,7 +30,7 @@ returns-in_err-push_all-in-Got-2-clause-reads_all g c =
     let within : BringsAtMost c.args.limit (transfer_of g.S.Source.remaining g.S.Source.faults c.args.source.now c.counted_read.new.source) = (
       c.loop-count.text ++ take c.in-Got-2.count c.counted_read.new.buffer,
       grind (arith, common_steps, c.if-count-limit.false, c.len.ensures, i.within, got.1),
-      Consumes-append _ _ _ _ _ i.came got.2,
+      Consumes-trans _ _ _ _ _ i.came got.2,
     ) in
     record {
       ok = search rules;

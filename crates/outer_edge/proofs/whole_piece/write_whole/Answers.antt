@@ -1,5 +1,6 @@
 use Rattle.std.proofs.Common.{arith, ◌++◌, ◌+◌, take, length, length-append, ap, ◌∙◌}
-use Rattle.outer_edge.proofs.Known.{Appends-append, front-longer, take-front}
+use Rattle.std.proofs.KnownBytes.{Appends-trans}
+use Rattle.outer_edge.proofs.Known.{front-longer, take-front}
 use Rattle.outer_edge.proofs.whole_piece.write_whole.Goals as goal
 
 pub loop-rest-preserved : goal.loop-rest-preserved
@@ -9,7 +10,7 @@ loop-rest-preserved g c =
     let longer = simp length-append at (ap length i.whole) in record {
       front = i.front ++ take c.in-Took.taken c.loop-rest.rest.now;
       whole = front-longer _ i.front c.loop-rest.rest.now c.in-Took.taken i.whole took.1;
-      taken = Appends-append _ _ _ _ _ i.taken took.2;
+      taken = Appends-trans _ _ _ _ _ i.taken took.2;
       faults = c.in-Took.ensures.counts ∙ i.faults;
       room = c.in-Took.ensures.same_room ∙ i.room;
       untouched = λ none. absurd (omega (arith, ap length none));
@@ -20,7 +21,7 @@ returns-in-Failed-clause-front g c =
     let i = c.loop-rest.invariant in
     let took = c.in-Failed.ensures.bytes in
     let front = take-front _ i.front c.loop-rest.rest.now took.0 i.whole took.1 in
-    (length i.front + took.0, front.0, rw front.1 (Appends-append _ _ _ _ _ i.taken took.2))
+    (length i.front + took.0, front.0, rw front.1 (Appends-trans _ _ _ _ _ i.taken took.2))
 
 pub returns-clause-empty : goal.returns-clause-empty
 returns-clause-empty g c = c.loop-rest.invariant.untouched

@@ -1,8 +1,8 @@
 use Rattle.std.proofs.Common.{◌<◌, length, arith}
 use Rattle.std.specs.Prelude.{slice_index_or}
+use Rattle.plain_laws.specs.Lists.{All-found}
 use Rattle.app_laws.specs.Applications.{IsFitTask}
 use Rattle.resting_rounds.specs.Waiting.{tasks_of}
-use Rattle.resting_rounds.proofs.Gathered.{holds_there}
 use Rattle.resting_rounds.proofs.Gathering.{one_core_more, task_at}
 use Rattle.resting_rounds.proofs.Meetings.{in_range}
 use Rattle.resting_rounds.proofs.front.gather_cores.Goals as goal
@@ -14,7 +14,7 @@ core-core-requires g c =
     let count = c.loop-cores.cores.count in
     let task = (slice_index_or waiting count c.index-waiting-cores.result).task.now in
     let below : count < length waiting = omega arith in
-    (task.key.prio, holds_there (IsFitTask app) (tasks_of waiting) count task c.requires.fit (task_at waiting count c.index-waiting-cores.result below))
+    (task.key.prio, All-found (IsFitTask app) (tasks_of waiting) count task c.requires.fit (task_at waiting count c.index-waiting-cores.result below))
 
 pub put-requires : goal.put-requires
 put-requires g c =
@@ -23,7 +23,7 @@ put-requires g c =
     let count = c.loop-cores.cores.count in
     let task = (slice_index_or waiting count c.index-waiting-cores.result).task.now in
     let below : count < length waiting = omega arith in
-    let fit = holds_there (IsFitTask app) (tasks_of waiting) count task c.requires.fit (task_at waiting count c.index-waiting-cores.result below) in
+    let fit = All-found (IsFitTask app) (tasks_of waiting) count task c.requires.fit (task_at waiting count c.index-waiting-cores.result below) in
     in_range app (c.basis.ensures c.args.app.now) c.requires.some_cells.0 c.requires.some_cells.1 task fit c.core-core.result (c.core-core.ensures c.requires.some_cells.0 c.requires.some_cells.1)
 
 pub loop-cores-preserved : goal.loop-cores-preserved

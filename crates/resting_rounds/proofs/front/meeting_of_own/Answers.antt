@@ -1,11 +1,10 @@
 use Rattle.std.proofs.Common.{◌<◌, length, arith, subst, sym}
 use Rattle.std.specs.Prelude.{slice_index_or, take}
-use Rattle.task_order.proofs.Cuts.{All-take}
+use Rattle.plain_laws.specs.Lists.{All-take, All-found}
 use Rattle.cell_store.specs.Values.{values_of}
 use Rattle.app_laws.specs.Applications.{IsFitTask}
 use Rattle.resting_rounds.specs.Sets.{HasSet}
 use Rattle.resting_rounds.specs.Waiting.{tasks_of}
-use Rattle.resting_rounds.proofs.Gathered.{holds_there}
 use Rattle.resting_rounds.proofs.Gathering.{not_none, one_set_more, own_tells, task_at}
 use Rattle.resting_rounds.proofs.front.meeting_of_own.Goals as goal
 
@@ -16,7 +15,7 @@ gather-requires-clause-fit g c =
     let count = c.loop-met.front.sets.count in
     let task = (slice_index_or waiting count c.index-waiting-front.result).task.now in
     let below : count < length waiting = omega arith in
-    (task.key.prio, holds_there (IsFitTask app) (tasks_of waiting) count task c.requires.fit (task_at waiting count c.index-waiting-front.result below))
+    (task.key.prio, All-found (IsFitTask app) (tasks_of waiting) count task c.requires.fit (task_at waiting count c.index-waiting-front.result below))
 
 pub gather-requires-clause-others : goal.gather-requires-clause-others
 gather-requires-clause-others g c =

@@ -1,9 +1,9 @@
 use Rattle.std.proofs.Common.{arith, sym, ◌∙◌}
 use Rattle.std.proofs.lemmas.Option.{slice_get_within}
+use Rattle.plain_laws.specs.Lists.{All-found}
 use Rattle.cell_store.specs.Values.{values_of}
 use Rattle.app_laws.specs.Applications.{IsFitTask}
 use Rattle.resting_rounds.specs.Waiting.{tasks_of}
-use Rattle.resting_rounds.proofs.Gathered.{holds_there}
 use Rattle.resting_rounds.proofs.Gathering.{as_many_tasks, cores_tell, gathered_tells}
 use Rattle.resting_rounds.proofs.front.quick_meeting.Goals as goal
 
@@ -21,7 +21,7 @@ gather_cores-requires-clause-within g c =
 
 pub common-requires-clause-fit : goal.common-requires-clause-fit
 common-requires-clause-fit g c =
-    (c.args.task.now.key.prio, holds_there (IsFitTask (g.A.App.meaning c.args.app.now)) (tasks_of c.args.waiting.now) c.args.place c.args.task.now c.requires.fit c.requires.there)
+    (c.args.task.now.key.prio, All-found (IsFitTask (g.A.App.meaning c.args.app.now)) (tasks_of c.args.waiting.now) c.args.place c.args.task.now c.requires.fit c.requires.there)
 
 pub returns-clause-met : goal.returns-clause-met
 returns-clause-met g c =

@@ -6,7 +6,6 @@ returns g c = λ app. record {
   resting = c.rest_laws.ensures app;
   decided = c.conflict_laws.ensures.decided;
   distinct = c.ascending_laws.ensures.distinct;
-  turned = c.earlier_laws.ensures.turned;
   equal = c.earlier_laws.ensures.equal;
   new_key = c.without_laws.ensures.new_key;
 }

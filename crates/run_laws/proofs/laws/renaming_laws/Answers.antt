@@ -1,5 +1,5 @@
 use Rattle.run_laws.proofs.Beginnings.{as_many_first_nodes}
-use Rattle.run_laws.proofs.Listed.{listed_fit}
+use Rattle.app_laws.specs.ListedLaws.{listed_fit}
 use Rattle.run_laws.proofs.Renaming.{renamings_keep_sound}
 use Rattle.run_laws.proofs.laws.renaming_laws.Goals as goal
 

@@ -2,6 +2,7 @@ use mir.Syntax.{of_param}
 use Rattle.std.proofs.Common.{◌≡◌, ◌+◌, ◌∙◌, length, sym, ap, subst, arith}
 use Rattle.std.proofs.lemmas.List.{length-map}
 use Rattle.std.proofs.lemmas.Result.{err_from_is_err_and}
+use Rattle.plain_laws.specs.Lists.{some_in}
 use Rattle.cell_store.specs.Values.{values_of}
 use Rattle.commuting.specs.Rounds.{after_round, clear_tasks}
 use Rattle.kdg_graph.specs.Node.{Node}
@@ -10,7 +11,6 @@ use Rattle.run_laws.specs.Events.{clear_nodes}
 use Rattle.graph_update.specs.Engine.{EngineState}
 use Rattle.source_pool.specs.Course.{IsActing, RestsAt}
 use Rattle.source_pool.specs.Round.{IsEndFault, next_point}
-use Rattle.source_pool.proofs.Lists.{some_in}
 use Rattle.source_pool.proofs.acting.act_round.Goals as goal
 
 pub act_in_turn-requires : goal.act_in_turn-requires

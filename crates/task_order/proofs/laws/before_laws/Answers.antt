@@ -1,7 +1,7 @@
 use Rattle.task_order.specs.TaskList.{is_earlier}
-use Rattle.task_order.proofs.TaskLists.{IsAscending-filter}
 use Rattle.task_order.proofs.Fronts.{before_and_from, all_before, before_skips_later, before_takes_earlier}
 use Rattle.task_order.proofs.laws.before_laws.Goals as goal
+use Rattle.task_order.specs.TaskListLaws.{IsAscending-filter}
 
 pub returns-clause-front : goal.returns-clause-front
 returns-clause-front c = before_and_from

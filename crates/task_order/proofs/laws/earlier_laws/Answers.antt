@@ -1,6 +1,7 @@
 use Rattle.task_order.specs.Key.{key_cmp_total}
-use Rattle.task_order.proofs.KeyOrder.{key_cmp-same, earlier_connected, earlier_turned, differ_from_earlier}
+use Rattle.task_order.proofs.KeyOrder.{earlier_connected, earlier_turned}
 use Rattle.task_order.proofs.laws.earlier_laws.Goals as goal
+use Rattle.task_order.specs.KeyLaws.{key_cmp-same, differ_from_earlier}
 
 pub returns-clause-irreflexive : goal.returns-clause-irreflexive
 returns-clause-irreflexive c = differ_from_earlier

@@ -1,6 +1,7 @@
-use Rattle.task_order.proofs.TaskLists.{put_all-append, put_all-put_in, length-put_all}
+use Rattle.task_order.proofs.TaskLists.{put_all-append, put_all-put_in}
 use Rattle.task_order.proofs.Distinct.{IsAscending-put_all, IsPermutation-put_all, put_all_in_any_order}
 use Rattle.task_order.proofs.laws.put_all_laws.Goals as goal
+use Rattle.task_order.specs.TaskListLaws.{length-put_all}
 
 pub returns-clause-joined : goal.returns-clause-joined
 returns-clause-joined c = put_all-append

@@ -1,6 +1,7 @@
-use Rattle.task_order.proofs.TaskLists.{put_in-put_in, IsAscending-put_in, length-put_in, IsPermutation-put_in, new_key_put_in, put_in-first, put_in-last}
+use Rattle.task_order.proofs.TaskLists.{put_in-put_in, IsAscending-put_in, IsPermutation-put_in, new_key_put_in, put_in-first, put_in-last}
 use Rattle.task_order.proofs.Fronts.{put_in-between}
 use Rattle.task_order.proofs.laws.put_in_laws.Goals as goal
+use Rattle.task_order.specs.TaskListLaws.{length-put_in}
 
 pub returns-clause-commutes : goal.returns-clause-commutes
 returns-clause-commutes c = put_in-put_in

@@ -1,8 +1,8 @@
 use Rattle.std.proofs.Common.{not}
 use Rattle.task_order.specs.TaskList.{has_key}
-use Rattle.task_order.proofs.TaskLists.{IsAscending-filter}
 use Rattle.task_order.proofs.Without.{without_forgets_put, put_in_restores, without_put_in, without_without, without_new_key, without_others, without_makes_new}
 use Rattle.task_order.proofs.laws.without_laws.Goals as goal
+use Rattle.task_order.specs.TaskListLaws.{IsAscending-filter}
 
 pub returns-clause-forgets_put : goal.returns-clause-forgets_put
 returns-clause-forgets_put c = without_forgets_put

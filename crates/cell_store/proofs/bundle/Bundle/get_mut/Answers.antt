@@ -1,7 +1,7 @@
 use Rattle.std.proofs.Common.{ap, ◌∙◌, subst, refl}
+use Rattle.rw_sets.specs.AccessLaws.{has_from_writes}
 use Rattle.cell_store.specs.Home.{IsHome}
 use Rattle.cell_store.specs.declared.cell.Cell.TheVariants.{Home}
-use Rattle.cell_store.proofs.Locations.{has_from_writes}
 use Rattle.cell_store.proofs.Parts.{is_bundle_with_value}
 use Rattle.cell_store.proofs.Stored.{held_is_read, held_is_written}
 use Rattle.cell_store.proofs.bundle.Bundle.get_mut.Goals as goal

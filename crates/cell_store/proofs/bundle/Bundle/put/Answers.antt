@@ -1,7 +1,7 @@
 use Rattle.std.proofs.Common.{ap, ◌∙◌}
+use Rattle.rw_sets.specs.AccessLaws.{has_from_writes}
 use Rattle.cell_store.specs.declared.cell.Cell.TheVariants.{Home}
 use Rattle.cell_store.specs.Storage.{cells_of}
-use Rattle.cell_store.proofs.Locations.{has_from_writes}
 use Rattle.cell_store.proofs.Parts.{is_bundle_with_value}
 use Rattle.cell_store.proofs.Stored.{held_is_written}
 use Rattle.cell_store.proofs.bundle.Bundle.put.Goals as goal

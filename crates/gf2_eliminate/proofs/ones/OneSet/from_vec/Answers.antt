@@ -3,7 +3,8 @@ use Rattle.std.specs.List.{AllByRecursion}
 use Rattle.std.specs.Ordering.{nat_cmp}
 use Rattle.std.specs.declared.cmp.Ordering.TheVariants.{Less}
 use Rattle.std.proofs.Common.{arith, sym, subst, get_or, take}
-use Rattle.mtx_reader.specs.Ascending.{IsAscendingBy, less_from_cmp}
+use Rattle.plain_laws.specs.Orderings.{below_from_cmp}
+use Rattle.mtx_reader.specs.Ascending.{IsAscendingBy}
 use Rattle.gf2_eliminate.proofs.ones.OneSet.from_vec.Goals as goal
 
 all_at : (P : ℕ → Type 0) (ns : List ℕ) (k : ℕ) → AllByRecursion P ns → k < length ns → P (get_or ns k 0)
@@ -16,7 +17,7 @@ less_before : (ns : List ℕ) (k : ℕ) → IsAscendingBy nat_cmp ns → k < len
 less_before [] k up below = absurd (omega (arith, below))
 less_before (n ∷ ns) zero up below = tt
 less_before (n ∷ ns) (suc k) up below =
-    (less_from_cmp n (get_or ns k 0) (all_at (λ other. nat_cmp n other ≡ Less) ns k up.0 (omega (arith, below))), less_before ns k up.1 (omega (arith, below)))
+    (below_from_cmp n (get_or ns k 0) (all_at (λ other. nat_cmp n other ≡ Less) ns k up.0 (omega (arith, below))), less_before ns k up.1 (omega (arith, below)))
 
 pub push-requires : goal.push-requires
 push-requires c =

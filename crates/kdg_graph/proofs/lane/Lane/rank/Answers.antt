@@ -1,6 +1,6 @@
 use Rattle.std.proofs.Common.{◌≡◌, ◌∙◌, ◌<◌, ◌-◌, ap, arith, length, sym}
+use Rattle.plain_laws.specs.Orderings.{less_from_test}
 use Rattle.kdg_graph.proofs.Common.{cmp_at}
-use Rattle.kdg_graph.proofs.KeyOrder.{Less_from_test}
 use Rattle.kdg_graph.proofs.Searches.{all_earlier, found_ended, gap_ended, inside_tied}
 use Rattle.kdg_graph.proofs.lane.Lane.rank.Goals.{then-len-eq0-via-then-len-eq0, then-len-eq0-via-else-len-eq0+then-is_lt}
 use Rattle.kdg_graph.proofs.lane.Lane.rank.Goals as goal
@@ -12,7 +12,7 @@ returns-then-len-eq0-clause-rank c nodes lane =
       | then-len-eq0-via-then-len-eq0 w ↦ absurd (omega (arith, is, w.if-len-eq0.true))
       | then-len-eq0-via-else-len-eq0+then-is_lt w ↦
           let last : place ≡ c.len-len.result - 1 = omega (arith, is) in
-          ap (cmp_at c.args.slots.now c.args.key.now c.args.self.now.ids.items) last ∙ sym w.compare_at.ensures.order ∙ Less_from_test _ (sym w.is_lt.ensures ∙ w.if-is_lt.true)
+          ap (cmp_at c.args.slots.now c.args.key.now c.args.self.now.ids.items) last ∙ sym w.compare_at.ensures.order ∙ less_from_test _ (sym w.is_lt.ensures ∙ w.if-is_lt.true)
     ])
 
 pub returns-in-Ok-clause-rank : goal.returns-in-Ok-clause-rank

@@ -1,8 +1,8 @@
 use Rattle.std.proofs.Common.{rules, ◌≡◌, ◌≢◌, inl, inr, ℕ, ◌+◌, ◌<◌, ◌≤◌, ◌∙◌, ◌∷◌, List, [], Option, Some, true, false, true≢false, add-one, ap, arith, below_more, get_or, length, set, suc, subst, sym, take, take_all, Contains, IfSome}
+use Rattle.plain_laws.specs.Options.{if_some_at}
 use Rattle.kdg_graph.proofs.Common.{and_parts, or_cases, AllByRecursion, Access, Read, Write, Accesses, IsAscendingSet, access_at, is_blocked, BlocksNoneAlone, fronts_after, AreFiledWith, HasRoomFor, HasTakenFor, IsLaneAmong, clashing_at, ids_for, room_at, room_in, rooms_of, Node, earlier_than, node_at, without}
 use Rattle.kdg_graph.proofs.Arriving.{blocked_by_earlier, each_pair, first_unblocked, fronts_blocked}
 use Rattle.kdg_graph.proofs.Filing.{again, entered_there, filed_own, for_found, not_before, others_there, room_next, room_step, room_there, so_far_here, so_far_other, taken_whole, within_room}
-use Rattle.kdg_graph.proofs.Selecting.{at_some}
 use Rattle.kdg_graph.proofs.locations.Locations.enter.Goals as goal
 
 pub loop-pair-init : goal.loop-pair-init
@@ -70,12 +70,12 @@ loop-pair-preserved c =
     record {
       first = λ held is both.
           let parts = and_parts c.loop-pair.first c.enter-here.result.first both in
-          let here = at_some (λ (n : Node). c.enter-here.result.first ≡ true → earlier_than n.task.key others ≡ []) (node_at nodes c.args.id) held is (c.enter-here.ensures.first others among) in
+          let here = if_some_at (λ (n : Node). c.enter-here.result.first ≡ true → earlier_than n.task.key others ≡ []) (node_at nodes c.args.id) held is (c.enter-here.ensures.first others among) in
           below_more _ _ (c.loop-pair.invariant.first held is parts.0) (here parts.1);
       blocked = λ held is either. elim (or_cases c.loop-pair.blocked c.enter-here.result.blocked either) [
         | inl before ↦ c.loop-pair.invariant.blocked held is before
         | inr now ↦
-            let told = at_some (λ (n : Node). c.enter-here.result.blocked ≡ true → (p.1 ≡ Write) × (earlier_than n.task.key others ≢ [])) (node_at nodes c.args.id) held is (c.enter-here.ensures.blocked others among) now in
+            let told = if_some_at (λ (n : Node). c.enter-here.result.blocked ≡ true → (p.1 ≡ Write) × (earlier_than n.task.key others ≢ [])) (node_at nodes c.args.id) held is (c.enter-here.ensures.blocked others among) now in
             let same : node ≡ held = (let both : Some node ≡ Some held = sym found ∙ is in cc) in
             let its_set : ps ≡ held.set = c.items-pair-items.ensures.all ∙ ap (λ (n : Node). n.set) same in
             let named : Contains held.set p = subst (λ (l : Accesses). Contains l p) its_set (i, inside, sym at) in
@@ -83,7 +83,7 @@ loop-pair-preserved c =
       ];
       blocks_none = λ held is both.
           let parts = and_parts c.loop-pair.blocks_none c.enter-here.result.blocks_none both in
-          let here = at_some (λ (n : Node). c.enter-here.result.blocks_none ≡ true → BlocksNoneAlone p.1 n.task.key others writers) (node_at nodes c.args.id) held is (c.enter-here.ensures.blocks_none others writers among writers_among) in
+          let here = if_some_at (λ (n : Node). c.enter-here.result.blocks_none ≡ true → BlocksNoneAlone p.1 n.task.key others writers) (node_at nodes c.args.id) held is (c.enter-here.ensures.blocks_none others writers among writers_among) in
           below_more _ _ (c.loop-pair.invariant.blocks_none held is parts.0) (here parts.1);
       filed = for_found nodes c.args.id node (λ n. AreFiledWith (without c.args.id nodes) n (access_at (take (i + 1) ps)) locations) found (rw add-one after);
       room = rw add-one (room_step ps i p c.args.self.now.locations.items c.loop-pair.self.locations.items c.index_mut.result.now c.enter-here.new.self up inside at within c.index_mut.ensures.value c.enter-here.ensures.room c.loop-pair.invariant.room);

@@ -1,12 +1,14 @@
 use Rattle.std.proofs.Common.{◌≡◌, ◌∙◌, ℕ, Bool, List, [], ◌∷◌, Option, Some, ap, length, refl, subst, sym, arith, IfSome, IsSome, option_map}
+use Rattle.plain_laws.specs.Options.{if_some_at}
 use Rattle.kdg_graph.proofs.Common.{Accesses, access_at, SetChange, NodeId, Node, NodeStock, HasNode, ids_of, node_at, AreFiledWith, lacking, fronts_after, HasRoomFor, HasTakenFor, Location, rooms_of, without, AreSelected, is_unblocked, listed_in, refreshed, length-map, ids_in}
 use Rattle.kdg_graph.proofs.Keeping.{changed}
 use Rattle.kdg_graph.proofs.Filing.{filed_before}
 use Rattle.kdg_graph.proofs.Listed.{some_changed, listed_kept}
 use Rattle.kdg_graph.proofs.Ordered.{order_kept, places_kept}
-use Rattle.kdg_graph.proofs.Selecting.{at_some, but, found_node}
+use Rattle.kdg_graph.proofs.Selecting.{but}
 use Rattle.kdg_graph.proofs.Settling.{found_changed, ids-changed, select_but, select_left, settled_exchanged, without_changed}
 use Rattle.kdg_graph.proofs.node_list.NodeList.exchange_set.Goals as goal
+use Rattle.kdg_graph.specs.NodeLaws.{found_node}
 
 pub exchange-requires-clause-there : goal.exchange-requires-clause-there
 exchange-requires-clause-there c =
@@ -91,5 +93,5 @@ returns-clause-rooms c =
     let before : List ℕ = rooms_of c.self.inside.locations.locations.items in
     let after : List ℕ = rooms_of c.exchange.new.self.locations.items in
     let found = found_changed c.args.id gone.0 c.args.set nodes now c.self.invariant.0.graph c.set_set-before.ensures.graph gone.1 c.set_set-before.ensures.nodes in
-    let taken : HasTakenFor (c.args.set ∷ []) before after = at_some (λ (n : Node). HasTakenFor (n.set ∷ []) before after) (node_at now c.args.id) its found c.exchange.ensures.room in
+    let taken : HasTakenFor (c.args.set ∷ []) before after = if_some_at (λ (n : Node). HasTakenFor (n.set ∷ []) before after) (node_at now c.args.id) its found c.exchange.ensures.room in
     subst (λ (stock : NodeStock). HasTakenFor (c.args.set ∷ []) stock.rooms after) c.self.view_is taken

@@ -1,10 +1,10 @@
 use Rattle.std.proofs.Common.{◌≡◌, ◌∙◌, List, ap, length, subst, sym, arith}
 use Rattle.kdg_graph.proofs.Common.{Node, ids_of, started, AreFiled, unblocked_of, length-map, ids_in}
-use Rattle.kdg_graph.proofs.Keeping.{start}
 use Rattle.kdg_graph.proofs.Listed.{some_started, listed_kept}
 use Rattle.kdg_graph.proofs.Ordered.{order_kept, places_kept}
 use Rattle.kdg_graph.proofs.Settling.{filed_started, ids-started, unblocked_started}
 use Rattle.kdg_graph.proofs.node_list.NodeList.mark_running.Goals as goal
+use Rattle.kdg_graph.specs.NodeLaws.{start}
 
 pub invariant_of-self : goal.invariant_of-self
 invariant_of-self c =

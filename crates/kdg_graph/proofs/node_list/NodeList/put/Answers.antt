@@ -1,9 +1,10 @@
 use Rattle.std.proofs.Common.{◌≡◌, ◌<◌, ◌≤◌, ◌∙◌, ℕ, Bool, true, false, List, [], ◌∷◌, Option, ap, length, subst, sym, arith, IfSome}
+use Rattle.plain_laws.specs.Options.{if_some_at}
 use Rattle.kdg_graph.proofs.Common.{AllByRecursion, NodeId, Node, new_node, NodeStock, HaveOwnIds, ids_of, node_at, is_blocked, IsOrder, fronts_after, AreFiled, HasRoomFor, HasTakenFor, rooms_of, without, AreSelected, forgotten, is_unblocked, listed_in, refreshed}
 use Rattle.kdg_graph.proofs.Listed.{listed_put, some_put}
 use Rattle.kdg_graph.proofs.LookUps.{ids_find_nodes}
 use Rattle.kdg_graph.proofs.Ordered.{place_left}
-use Rattle.kdg_graph.proofs.Selecting.{at_some, but, length-put}
+use Rattle.kdg_graph.proofs.Selecting.{but, length-put}
 use Rattle.kdg_graph.proofs.Settling.{fronts_failing, found_put, select_but, settled_put, without_put}
 use Rattle.kdg_graph.proofs.node_list.NodeList.put.Goals as goal
 
@@ -42,11 +43,11 @@ invariant_of-self c =
     let first : Node → Bool = refreshed now (id ∷ []) (but id (is_unblocked nodes)) in
     let found = found_put node nodes now c.put-id.ensures.nodes c.put-id.ensures.graph in
     let blocked : c.enter-known.result.blocks_none ≡ true → AllByRecursion (λ other. is_blocked (without id now) other ≡ true) (fronts_after node.set node.task.key now) =
-    at_some (λ (n : Node). c.enter-known.result.blocks_none ≡ true → AllByRecursion (λ other. is_blocked (without id now) other ≡ true) (fronts_after n.set n.task.key now)) (node_at now id) node found c.enter-known.ensures.blocks_none in
+    if_some_at (λ (n : Node). c.enter-known.result.blocks_none ≡ true → AllByRecursion (λ other. is_blocked (without id now) other ≡ true) (fronts_after n.set n.task.key now)) (node_at now id) node found c.enter-known.ensures.blocks_none in
     let fail : c.enter-known.result.blocks_none ≡ true → AllByRecursion (λ other. first other ≡ false) (fronts_after node.set node.task.key now) =
     λ none. fronts_failing node nodes now c.put-id.ensures.graph (ids_find_nodes now id node found).0 (subst (λ (l : List Node). AllByRecursion (λ other. is_blocked l other ≡ true) (fronts_after node.set node.task.key now)) left (blocked none)) in
     let all : AreSelected now (forgotten (ids_of (fronts_after node.set node.task.key now)) first) (listed_in now c.forget_behind.new.self) =
-    at_some (λ (n : Node). (c.enter-known.result.blocks_none ≡ true → AllByRecursion (λ other. first other ≡ false) (fronts_after n.set n.task.key now)) → AreSelected now (forgotten (ids_of (fronts_after n.set n.task.key now)) first) (listed_in now c.forget_behind.new.self))
+    if_some_at (λ (n : Node). (c.enter-known.result.blocks_none ≡ true → AllByRecursion (λ other. first other ≡ false) (fronts_after n.set n.task.key now)) → AreSelected now (forgotten (ids_of (fronts_after n.set n.task.key now)) first) (listed_in now c.forget_behind.new.self))
     (node_at now id) node found (c.forget_behind.ensures.ids first (c.enter.ensures.ids (but id (is_unblocked nodes)) others)) fail in
     let spare = c.self.invariant.2 in
     let fewer = c.saturating_sub-self-inside.ensures in
@@ -83,5 +84,5 @@ returns-clause-rooms c =
     let node : Node = new_node c.put-id.result c.args.task c.args.set in
     let before : List ℕ = rooms_of c.self.inside.locations.locations.items in
     let after : List ℕ = rooms_of c.enter-known.new.self.locations.items in
-    let taken : HasTakenFor (c.args.set ∷ []) before after = at_some (λ (n : Node). HasTakenFor (n.set ∷ []) before after) (node_at now c.put-id.result) node (found_put node nodes now c.put-id.ensures.nodes c.put-id.ensures.graph) c.enter-known.ensures.room in
+    let taken : HasTakenFor (c.args.set ∷ []) before after = if_some_at (λ (n : Node). HasTakenFor (n.set ∷ []) before after) (node_at now c.put-id.result) node (found_put node nodes now c.put-id.ensures.nodes c.put-id.ensures.graph) c.enter-known.ensures.room in
     subst (λ (stock : NodeStock). HasTakenFor (c.args.set ∷ []) stock.rooms after) c.self.view_is taken

@@ -1,9 +1,9 @@
 use Rattle.std.proofs.Common.{◌≡◌, ◌∙◌, ℕ, List, [], Some, false, true, ap, length, subst, sym, arith, option_map}
+use Rattle.plain_laws.specs.Options.{if_some_at}
 use Rattle.kdg_graph.proofs.Common.{AllByRecursion, Access, IsRankPast, Node, NodeStock, node_at, task_at, IsOrder, AreFiled, clashing_at, without, AreSelected, is_unblocked, listed_in}
 use Rattle.kdg_graph.proofs.Arriving.{unblocked_leads}
 use Rattle.kdg_graph.proofs.Listed.{listed_without, number_listed, some_without}
 use Rattle.kdg_graph.proofs.Ordered.{length-without}
-use Rattle.kdg_graph.proofs.Selecting.{at_some}
 use Rattle.kdg_graph.proofs.Settling.{select_left, settled_without}
 use Rattle.kdg_graph.proofs.node_list.NodeList.remove.Goals as goal
 
@@ -21,7 +21,7 @@ refresh_behind-requires-clause-none_left c none =
     let node : Node = record { id = c.node.inside.id; task = c.node.inside.task; set = c.node.inside.set; running = c.node.inside.running } in
     let is : node_at c.self.inside.nodes.nodes c.args.id ≡ Some node = c.remove-node.ensures.node ∙ ap (λ (n : Node). Some n) (sym c.node.view_is) in
     let alone : List Node → Node → Type 0 = λ l n. AllByRecursion (λ (p : ℕ × Access). clashing_at p.0 p.1 l ≡ []) n.set in
-    subst (λ (l : List Node). alone l node) (sym c.remove-node.ensures.nodes) (at_some (λ (n : Node). c.leave-left.result ≡ false → alone (without c.args.id c.self.inside.nodes.nodes) n) (node_at c.self.inside.nodes.nodes c.args.id) node is c.leave-left.ensures.none_left none)
+    subst (λ (l : List Node). alone l node) (sym c.remove-node.ensures.nodes) (if_some_at (λ (n : Node). c.leave-left.result ≡ false → alone (without c.args.id c.self.inside.nodes.nodes) n) (node_at c.self.inside.nodes.nodes c.args.id) node is c.leave-left.ensures.none_left none)
 
 pub refresh_behind-requires-clause-filed : goal.refresh_behind-requires-clause-filed
 refresh_behind-requires-clause-filed c = subst (λ (l : List Node). AreFiled l c.leave-left.new.self.locations.items) (sym c.remove-node.ensures.nodes) c.leave-left.ensures.filed

@@ -1,8 +1,10 @@
 use Rattle.std.proofs.Common.{◌≡◌, ◌+◌, ◌≤◌, ◌∷◌, [], ◌∙◌, ℕ, List, ap, subst, sym, length, arith}
+use Rattle.plain_laws.specs.Lists.{empty_from_length}
 use Rattle.kdg_graph.proofs.Common.{AllByRecursion, into_iter_items, SetChange, Node, HasNode, AreOfOwnNodes, with_sets, HasRoomFor, changed_sets, times_named, room_at}
-use Rattle.kdg_graph.proofs.Rewrites.{all_have_with_sets, nothing_left, with_no_sets, with_sets-cons}
+use Rattle.kdg_graph.proofs.Rewrites.{all_have_with_sets, with_sets-cons}
 use Rattle.kdg_graph.proofs.Rooms.{first_room, room_left, taken_left}
 use Rattle.kdg_graph.proofs.node_list.NodeList.set_sets.Goals as goal
+use Rattle.kdg_graph.specs.NodeLaws.{with_no_sets}
 
 pub loop-change-preserved : goal.loop-change-preserved
 loop-change-preserved c =
@@ -32,7 +34,7 @@ loop-change-preserved c =
 pub returns-clause-nodes : goal.returns-clause-nodes
 returns-clause-nodes c =
     let at = c.loop-change in
-    let empty : into_iter_items at.change-iterator ≡ [] = nothing_left _ (sym at.invariant.len ∙ c.in-None.ensures.steps.0) in
+    let empty : into_iter_items at.change-iterator ≡ [] = empty_from_length _ (sym at.invariant.len ∙ c.in-None.ensures.steps.0) in
     sym (ap (λ l. with_sets l c.args.self.now.nodes) (sym c.into_iter-change-iterator.ensures.into_iter_gives.0) ∙ at.invariant.nodes ∙ ap (λ l. with_sets l at.self.nodes) empty ∙ with_no_sets at.self.nodes)
 
 pub set_set-requires-clause-rooms : goal.set_set-requires-clause-rooms

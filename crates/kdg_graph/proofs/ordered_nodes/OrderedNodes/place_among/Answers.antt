@@ -2,8 +2,8 @@ use Rattle.std.proofs.Common.{◌≡◌, ◌∙◌, Ok, Option, Some, ap, subst,
 use Rattle.kdg_graph.proofs.Common.{IsSearched, IsLaneAmong, Node, node_at, NodeShelf}
 use Rattle.kdg_graph.proofs.Lanes.{lane_of_among}
 use Rattle.kdg_graph.proofs.Searches.{found_at_id, inside_at}
-use Rattle.kdg_graph.proofs.Selecting.{found_node}
 use Rattle.kdg_graph.proofs.ordered_nodes.OrderedNodes.place_among.Goals as goal
+use Rattle.kdg_graph.specs.NodeLaws.{found_node}
 
 pub returns-in-Some-clause-found : goal.returns-in-Some-clause-found
 returns-in-Some-clause-found c some among =

@@ -2,8 +2,8 @@ use Rattle.std.proofs.Common.{◌≡◌, ◌∙◌, [], ◌∷◌, Option, ap, a
 use Rattle.kdg_graph.proofs.Common.{nil_from_length, NodeId, Node, ids_of, put_node}
 use Rattle.kdg_graph.proofs.Filing.{no_ids}
 use Rattle.kdg_graph.proofs.LookUps.{ids_find_nodes}
-use Rattle.kdg_graph.proofs.Selecting.{found_node}
 use Rattle.kdg_graph.proofs.ordered_nodes.OrderedNodes.put_into.Goals as goal
+use Rattle.kdg_graph.specs.NodeLaws.{found_node}
 
 pub returns-then-len-eq0-clause-ids : goal.returns-then-len-eq0-clause-ids
 returns-then-len-eq0-clause-ids c some among =

@@ -2,8 +2,8 @@ use Rattle.std.proofs.Common.{◌≡◌, ◌+◌, ◌<◌, ◌∙◌, add-one, a
 use Rattle.kdg_graph.proofs.Common.{IsRankPast, IsLaneAmong, Node, node_at, NodeShelf}
 use Rattle.kdg_graph.proofs.Lanes.{lane_of_among}
 use Rattle.kdg_graph.proofs.Searches.{found_at_id, inside_at, past_found}
-use Rattle.kdg_graph.proofs.Selecting.{found_node}
 use Rattle.kdg_graph.proofs.ordered_nodes.OrderedNodes.rank_behind.Goals as goal
+use Rattle.kdg_graph.specs.NodeLaws.{found_node}
 
 pub overflow_add-result : goal.overflow_add-result
 overflow_add-result c =

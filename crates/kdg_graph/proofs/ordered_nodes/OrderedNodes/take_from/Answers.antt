@@ -1,8 +1,8 @@
 use Rattle.std.proofs.Common.{◌∙◌, List, subst, sym}
 use Rattle.kdg_graph.proofs.Common.{Node, IsGraph, NodeShelf}
 use Rattle.kdg_graph.proofs.Searches.{found_at_id, unfiled_found}
-use Rattle.kdg_graph.proofs.Selecting.{found_node}
 use Rattle.kdg_graph.proofs.ordered_nodes.OrderedNodes.take_from.Goals as goal
+use Rattle.kdg_graph.specs.NodeLaws.{found_node}
 
 pub returns-then-starts_with-clause-ids : goal.returns-then-starts_with-clause-ids
 returns-then-starts_with-clause-ids c some among =

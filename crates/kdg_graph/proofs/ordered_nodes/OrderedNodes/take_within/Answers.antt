@@ -2,8 +2,8 @@ use Rattle.std.proofs.Common.{◌∙◌, Option, subst, IfSome}
 use Rattle.kdg_graph.proofs.Common.{IsFound, IsGap, Node}
 use Rattle.kdg_graph.proofs.Lanes.{not_filed}
 use Rattle.kdg_graph.proofs.Searches.{id_apart, unfiled_found}
-use Rattle.kdg_graph.proofs.Selecting.{found_node}
 use Rattle.kdg_graph.proofs.ordered_nodes.OrderedNodes.take_within.Goals as goal
+use Rattle.kdg_graph.specs.NodeLaws.{found_node}
 
 pub returns-clause-ids : goal.returns-clause-ids
 returns-clause-ids c some among =

@@ -1,10 +1,11 @@
 use Rattle.std.proofs.Common.{◌≡◌, ◌∙◌, ◌++◌, ◌&&◌, Bool, List, Some, true, false, ap, append-nil, arith, get_or, sym, take, filter, take_all}
+use Rattle.plain_laws.specs.Options.{if_some_at}
 use Rattle.kdg_graph.proofs.Common.{Absent, Arrival, NodeId, Node, is_at, least_of, node_at, MarkedIds, arrived, is_behind, is_left, is_recent, recent_among, settled_in}
 use Rattle.kdg_graph.proofs.Lanes.{graph_among}
 use Rattle.kdg_graph.proofs.Left.{arrival_there, arrived_more, arrived_no_more, least_there, none_more, one_more, only_at}
-use Rattle.kdg_graph.proofs.Selecting.{at_some, found_node}
 use Rattle.kdg_graph.proofs.source_lane.SourceLane.earliest.Goals.{then-is_behind, else-is_behind}
 use Rattle.kdg_graph.proofs.source_lane.SourceLane.earliest.Goals as goal
+use Rattle.kdg_graph.specs.NodeLaws.{found_node}
 
 abbrev blank : Arrival
 blank = record { prio = 0; beginning = 0; id = record { at = 0 } }
@@ -46,7 +47,7 @@ loop-arrival-preserved c =
     let came : Node → Bool = λ node. is_at id node && is_behind nodes c.args.last node in
     let there = arrival_there nodes c.args.self.now items i blank c.requires.some (c.deref-arrival-items.ensures.value ∙ ap arrivals_of c.self.view_is) c.loop-arrival-test.true marked in
     let found : (node : Node) × (node_at nodes id ≡ Some node) = found_node nodes id there in
-    let test : c.is_behind.result ≡ is_behind nodes c.args.last found.0 = at_some (λ (node : Node). c.is_behind.result ≡ is_behind nodes c.args.last node) (node_at nodes id) found.0 found.1 c.is_behind.ensures in
+    let test : c.is_behind.result ≡ is_behind nodes c.args.last found.0 = if_some_at (λ (node : Node). c.is_behind.result ≡ is_behind nodes c.args.last node) (node_at nodes id) found.0 found.1 c.is_behind.ensures in
     let more = ap (λ (ids : List NodeId). least_of (filter (is_left nodes ids c.args.last) nodes)) (sym (arrived_more (settled_in c.args.self.now) c.args.self.now.standings items i blank c.loop-arrival-test.true marked)) in
     elim c.if-is_behind.branch [
       | then-is_behind w ↦

@@ -1,8 +1,9 @@
 use Rattle.std.proofs.Common.{◌≡◌, ◌∙◌, List, Option, Some, true, false, ap, subst, sym, IfSome}
 use Rattle.kdg_graph.proofs.Common.{AllByRecursion, fronts_after, Node, ids_of, node_at, AreSelected, forgotten, listed_in}
 use Rattle.kdg_graph.proofs.Blocking.{fronts_are_nodes}
-use Rattle.kdg_graph.proofs.Selecting.{forgotten_failing, found_node}
+use Rattle.kdg_graph.proofs.Selecting.{forgotten_failing}
 use Rattle.kdg_graph.proofs.source_lane.SourceLane.forget_behind.Goals as goal
+use Rattle.kdg_graph.specs.NodeLaws.{found_node}
 
 pub returns-then-not-blocks_none-clause-ids : goal.returns-then-not-blocks_none-clause-ids
 returns-then-not-blocks_none-clause-ids c test selected =

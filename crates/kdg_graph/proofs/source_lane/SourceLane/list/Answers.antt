@@ -1,8 +1,8 @@
 use Rattle.std.proofs.Common.{◌≡◌, ◌∙◌, ◌∷◌, [], ◌++◌, ◌<◌, Bool, true, false, cond, List, ap, length, get_or, set, subst, sym, refl, arith}
+use Rattle.std.proofs.lemmas.Bool.{or_parts}
 use Rattle.kdg_graph.proofs.Common.{Absent, AreMarked, AreRetested, AreSome, Arrival, MarkedIds, Node, Recent, Standing, has_number, ids_in, is_settled, recent_among, settled_among}
 use Rattle.kdg_graph.proofs.Listed.{has_mark, selected_set, set_as_it_is}
 use Rattle.kdg_graph.proofs.Marks.{marked_waiting, settled_stays, waits}
-use Rattle.kdg_graph.proofs.Settling.{neither}
 use Rattle.kdg_graph.proofs.source_lane.SourceLane.list.Goals as goal
 
 -- what a push leaves, by what was told of it
@@ -32,7 +32,7 @@ pushed : (c : goal.After-self-1) → c.push.new.self.items ≡ c.self.inside.arr
 pushed c = pushed_as_told _ _ _ _ _ true c.push.ensures.items c.is_ok.ensures.value c.if-is_ok.true
 
 absent : (c : goal.After-self-1) → is_settled (get_or c.self.inside.standings.items c.args.id.at Absent) ≡ false
-absent c = ap (λ (m : MarkedIds). is_settled (get_or m.standings c.args.id.at Absent)) c.self.view_is ∙ (neither _ _ (sym c.is_listed.ensures.mark ∙ c.if-is_listed.false)).0
+absent c = ap (λ (m : MarkedIds). is_settled (get_or m.standings c.args.id.at Absent)) c.self.view_is ∙ (or_parts _ _ (sym c.is_listed.ensures.mark ∙ c.if-is_listed.false)).0
 
 pub invariant_of-self : goal.invariant_of-self
 invariant_of-self c =

@@ -1,7 +1,7 @@
 use Rattle.std.proofs.Common.{sym, ◌∙◌, ap, arith}
 use Rattle.std.specs.Map.Iter.{deref}
 use Rattle.std.specs.Option.{option_map}
-use Rattle.task_order.proofs.KeyOrder.{Less_from_test}
+use Rattle.plain_laws.specs.Orderings.{less_from_test}
 use Rattle.task_order.proofs.Ends.{place_at_end}
 use Rattle.task_order.proofs.blocks.Blocks.end_for.Goals as goal
 
@@ -12,4 +12,4 @@ returns-then-is_lt c =
     (sym c.get.ensures ∙ ap (option_map deref) c.in_ok-last.was)
     (omega (arith, c.in_ok-checked_sub.ensures, c.block_len-len.ensures.len))
     c.block_len-len.ensures.len
-    (sym c.compare.ensures.order ∙ Less_from_test c.compare.result (sym c.if-is_lt.ensures))
+    (sym c.compare.ensures.order ∙ less_from_test c.compare.result (sym c.if-is_lt.ensures))

@@ -1,8 +1,9 @@
 use Rattle.std.proofs.Common.{◌≡◌, refl, sym, ◌∙◌, ap}
 use Rattle.task_order.specs.Key.{key_cmp}
-use Rattle.task_order.proofs.KeyOrder.{key_cmp-exact, key_cmp-same}
+use Rattle.task_order.proofs.KeyOrder.{key_cmp-exact}
 use Rattle.task_order.proofs.Words.{tied-then}
 use Rattle.task_order.proofs.key.Key.compare.Goals as goal
+use Rattle.task_order.specs.KeyLaws.{key_cmp-same}
 
 pub returns-in-Equal-clause-same : goal.returns-in-Equal-clause-same
 returns-in-Equal-clause-same c =
